@@ -1,0 +1,4 @@
+pub mod Bit
+pub mod Iterate
+pub mod Pick
+pub mod Table

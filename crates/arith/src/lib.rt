@@ -1,0 +1,75 @@
+// Total leaves on numbers and flags: each has an answer for every value of its types.
+ghost use mathlib.Core.Path.{_≡_};
+ghost use mathlib.Core.Bool.{Bool};
+ghost use Prim.Native.Nat.{ℕ, _-_, _/_, _^_};
+ghost use Rattle.arith.specs.Pick.{pick, both, either};
+ghost use Rattle.arith.specs.Bit.{bitSet};
+
+pub fn pick_bool(test: bool, a: bool, b: bool) -> bool
+    ensures { λ r. ⌜ r ≡ pick test a b ⌝ }
+{
+    if test { a } else { b }
+}
+
+pub fn pick_u8(test: bool, a: u8, b: u8) -> u8
+    ensures { λ r. ⌜ r ≡ pick test a b ⌝ }
+{
+    if test { a } else { b }
+}
+
+pub fn pick_u16(test: bool, a: u16, b: u16) -> u16
+    ensures { λ r. ⌜ r ≡ pick test a b ⌝ }
+{
+    if test { a } else { b }
+}
+
+pub fn both_of(a: bool, b: bool) -> bool
+    ensures { λ r. ⌜ r ≡ both a b ⌝ }
+{
+    if a { b } else { false }
+}
+
+pub fn either_of(a: bool, b: bool) -> bool
+    ensures { λ r. ⌜ r ≡ either a b ⌝ }
+{
+    if a { true } else { b }
+}
+
+// One less, and 0 of 0.
+pub fn less_u8(x: u8) -> u8
+    ensures { λ r. ⌜ r ≡ x - 1 ⌝ }
+{
+    if x == 0 { 0 } else { x - 1 }
+}
+
+pub fn less_u16(x: u16) -> u16
+    ensures { λ r. ⌜ r ≡ x - 1 ⌝ }
+{
+    if x == 0 { 0 } else { x - 1 }
+}
+
+// The difference, and 0 where it would be negative.
+pub fn minus_u16(x: u16, y: u16) -> u16
+    ensures { λ r. ⌜ r ≡ x - y ⌝ }
+{
+    if x < y { 0 } else { x - y }
+}
+
+pub fn wide_u16(x: u8) -> u16
+    ensures { λ r. ⌜ r ≡ x ⌝ }
+{
+    x as u16
+}
+
+// Shifted right by any number of places.
+pub fn shifted_u8(x: u8, places: u64) -> u8
+    ensures { λ r. ⌜ r ≡ x / 2 ^ places ⌝ }
+{
+    if 8 <= places { 0 } else { x >> places }
+}
+
+pub fn shifted_u16(x: u16, places: u64) -> u16
+    ensures { λ r. ⌜ r ≡ x / 2 ^ places ⌝ }
+{
+    if 16 <= places { 0 } else { x >> places }
+}
