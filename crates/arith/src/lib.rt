@@ -73,3 +73,11 @@ pub fn shifted_u16(x: u16, places: u64) -> u16
 {
     if 16 <= places { 0 } else { x >> places }
 }
+
+// Whether the bit at a place is set.
+pub fn bit_u8(x: u8, place: u64) -> bool
+    ensures { λ r. ⌜ r ≡ bitSet x place ⌝ }
+{
+    let low = shifted_u8(x, place);
+    low % 2 == 1
+}

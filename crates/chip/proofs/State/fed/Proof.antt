@@ -1,0 +1,10 @@
+use Rattle.chip.specs.Clock.{readerClocked}
+use Rattle.chip.proofs.State.fed.Statement.{statement}
+use Rattle.chip.proofs.State.fed.Tie as tie
+
+returns : tie.Need-returns
+unfolding readerClocked
+returns c = simp (c .fed .ensures)
+
+pub fed-spec : {M : Type 1} → statement M
+fed-spec = tie.close (tie.spec (λ c κs. tt) returns)

@@ -1,0 +1,97 @@
+-- Document 01, "Dividers and one clock": one clock of the chip, and a frame step.
+use Prim.Native.Nat.{ℕ}
+use mathlib.Core.Bool.{Bool, true, false}
+use mathlib.Core.List.{List}
+use Rattle.arith.specs.Pick.{pick}
+use Rattle.square.specs.Square.{squareTimed, squareEnveloped, squareSwept}
+use Rattle.triangle.specs.Triangle.{triangleTimed, triangleLinear, triangleLengthened}
+use Rattle.noise.specs.Noise.{noiseTimed, noiseEnveloped, noiseLengthened}
+use Rattle.dmc.specs.Clock.{dmcTimed, dmcRead}
+use Rattle.frame.specs.Frame.{frameDue, frameMoved, clocksEnvelopes, clocksLengths, frameStepped}
+use Rattle.dmc.specs.declared.Dmc.{Dmc}
+use Rattle.frame.specs.declared.Frame.{Frame}
+use Rattle.chip.specs.Table.{noisePeriod, dmcPeriod}
+use Rattle.chip.specs.declared.State.{State}
+
+abbrev pub withDmc : State → Dmc → State
+withDmc s d =
+    record {
+      square1 = s .square1;
+      square2 = s .square2;
+      triangle = s .triangle;
+      noise = s .noise;
+      dmc = d;
+      frame = s .frame;
+    }
+
+abbrev pub withFrame : State → Frame → State
+withFrame s f =
+    record {
+      square1 = s .square1;
+      square2 = s .square2;
+      triangle = s .triangle;
+      noise = s .noise;
+      dmc = s .dmc;
+      frame = f;
+    }
+
+-- "all timers with what they drive (triangle gated by its counters as they stood at the start of the clock)"
+unfoldable pub timersClocked : State → State
+timersClocked s =
+    record {
+      square1 = squareTimed (s .square1);
+      square2 = squareTimed (s .square2);
+      triangle = triangleTimed (s .triangle);
+      noise = noiseTimed (noisePeriod (s .noise .index)) (s .noise);
+      dmc = dmcTimed (dmcPeriod (s .dmc .registers .index)) (s .dmc);
+      frame = s .frame;
+    }
+
+-- "the DMC reader"
+unfoldable pub readerClocked : List ℕ → State → State
+readerClocked memory s = withDmc s (dmcRead memory (s .dmc))
+
+-- "envelopes and linear counter"
+unfoldable pub envelopesClocked : State → State
+envelopesClocked s =
+    record {
+      square1 = squareEnveloped (s .square1);
+      square2 = squareEnveloped (s .square2);
+      triangle = triangleLinear (s .triangle);
+      noise = noiseEnveloped (s .noise);
+      dmc = s .dmc;
+      frame = s .frame;
+    }
+
+-- "lengths and sweeps"
+unfoldable pub lengthsClocked : State → State
+lengthsClocked s =
+    record {
+      square1 = squareSwept false (s .square1);
+      square2 = squareSwept true (s .square2);
+      triangle = triangleLengthened (s .triangle);
+      noise = noiseLengthened (s .noise);
+      dmc = s .dmc;
+      frame = s .frame;
+    }
+
+-- what a step clocks, where it does
+abbrev pub envelopesIf : Bool → State → State
+envelopesIf on s = pick on (envelopesClocked s) s
+
+abbrev pub lengthsIf : Bool → State → State
+lengthsIf on s = pick on (lengthsClocked s) s
+
+-- the frame's next step: what it clocks, then the step's own count and flag
+unfoldable pub stepped : State → State
+stepped s =
+    withFrame (lengthsIf (clocksLengths (s .frame)) (envelopesIf (clocksEnvelopes (s .frame)) s)) (frameStepped (s .frame))
+
+-- "the frame divider, then its step if due"
+unfoldable pub framed : State → State
+framed s =
+    pick (frameDue (s .frame)) (stepped (withFrame s (frameMoved (s .frame)))) (withFrame s (frameMoved (s .frame)))
+
+-- "One clock, in order: all timers with what they drive ..; the DMC reader; the frame divider, then its step if due."
+unfoldable pub chipClock : List ℕ → State → State
+chipClock memory s = framed (readerClocked memory (timersClocked s))

@@ -1,0 +1,13 @@
+-- Document 01, "Mixer and records": the level of a state.
+use Prim.Native.Nat.{ℕ}
+use mathlib.Core.Bool.{true, false}
+use Rattle.square.specs.Square.{squareOutput}
+use Rattle.triangle.specs.Triangle.{triangleOutput}
+use Rattle.noise.specs.Noise.{noiseOutput}
+use Rattle.dmc.specs.Clock.{dmcOutput}
+use Rattle.mixer.specs.Mixer.{mixed}
+use Rattle.chip.specs.declared.State.{State}
+
+unfoldable pub stateLevel : State → ℕ
+stateLevel s =
+    mixed (squareOutput false (s .square1)) (squareOutput true (s .square2)) (triangleOutput (s .triangle)) (noiseOutput (s .noise)) (dmcOutput (s .dmc))

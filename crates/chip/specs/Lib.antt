@@ -1,0 +1,6 @@
+pub mod Clock
+pub mod Level
+pub mod Range
+pub mod Status
+pub mod Table
+pub mod Write

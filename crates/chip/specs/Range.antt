@@ -1,0 +1,28 @@
+-- Document 01, "State, ranges and power-on": the whole state.
+use mathlib.Core.Bool.{Bool}
+use Rattle.arith.specs.Pick.{both}
+use Rattle.square.specs.Range.{squareIn, squareOn}
+use Rattle.triangle.specs.Triangle.{triangleIn, triangleOn}
+use Rattle.noise.specs.Noise.{noiseIn, noiseOn}
+use Rattle.dmc.specs.Range.{dmcIn, dmcOn}
+use Rattle.frame.specs.Frame.{frameIn, frameOn}
+use Rattle.chip.specs.declared.State.{State}
+
+-- every field within its range
+unfoldable pub inRange : State → Bool
+inRange s =
+    both (squareIn (s .square1))
+    (both (squareIn (s .square2))
+    (both (triangleIn (s .triangle)) (both (noiseIn (s .noise)) (both (dmcIn (s .dmc)) (frameIn (s .frame))))))
+
+-- "Power-on is house: flags clear, numbers 0, except as marked."
+unfoldable pub powerOn : State
+powerOn =
+    record {
+      square1 = squareOn;
+      square2 = squareOn;
+      triangle = triangleOn;
+      noise = noiseOn;
+      dmc = dmcOn;
+      frame = frameOn;
+    }

@@ -1,0 +1,358 @@
+// The whole chip: its state, one clock, register writes, status, interrupt line and level. Every operation here has an answer for
+// every state; the operations that refuse states out of range are the crate `api`.
+ghost use mathlib.Core.Path.{_≡_};
+ghost use mathlib.Core.Bool.{Bool, not};
+ghost use Prim.Native.Nat.{ℕ, _+_, _-_, _*_, _/_, _%_, _≤_};
+ghost use Rattle.arith.specs.Pick.{pick, both};
+ghost use Rattle.chip.specs.Table.{noisePeriod, dmcPeriod};
+ghost use Rattle.chip.specs.Clock.{withFrame, timersClocked, readerClocked, envelopesClocked, lengthsClocked, envelopesIf, lengthsIf, stepped, framed, chipClock};
+ghost use Rattle.chip.specs.Write.{withSquare1, withSquare2, withTriangle, withNoise, enablesWritten, sequencerWritten, controlWritten, channelWritten, registerWritten};
+ghost use Rattle.chip.specs.Status.{statusByte, statusRead, lineAsserted};
+ghost use Rattle.chip.specs.Level.{stateLevel};
+ghost use Rattle.chip.specs.Range.{inRange, powerOn};
+ghost use Rattle.square.specs.Write.{squareWrite};
+ghost use Rattle.triangle.specs.Write.{triangleWrite};
+ghost use Rattle.noise.specs.Noise.{noiseWrite};
+ghost use Rattle.dmc.specs.Write.{dmcWrite};
+use dmc::Dmc;
+use frame::Frame;
+use noise::Noise;
+use square::Square;
+use triangle::Triangle;
+
+pub struct State {
+    pub square1: Square,
+    pub square2: Square,
+    pub triangle: Triangle,
+    pub noise: Noise,
+    pub dmc: Dmc,
+    pub frame: Frame,
+}
+
+const NOISE_PERIODS: [u16; 16] = [
+    4,
+    8,
+    16,
+    32,
+    64,
+    96,
+    128,
+    160,
+    202,
+    254,
+    380,
+    508,
+    762,
+    1016,
+    2034,
+    4068,
+];
+
+// The noise timer's period at an index.
+pub fn noise_period(index: u8) -> u16
+    ensures { λ r. ⌜ r ≡ noisePeriod index ⌝ }
+{
+    let i = (index % 16) as usize;
+    NOISE_PERIODS[i]
+}
+
+const DMC_PERIODS: [u16; 16] = [
+    428,
+    380,
+    340,
+    320,
+    286,
+    254,
+    226,
+    214,
+    190,
+    160,
+    142,
+    128,
+    106,
+    84,
+    72,
+    54,
+];
+
+// The DMC timer's period at an index.
+pub fn dmc_period(index: u8) -> u16
+    ensures { λ r. ⌜ r ≡ dmcPeriod index ⌝ }
+{
+    let i = (index % 16) as usize;
+    DMC_PERIODS[i]
+}
+
+// The state at power-on.
+pub fn power_on() -> State
+    ensures { λ r. ⌜ r ≡ powerOn ⌝ }
+{
+    let square = Square::power_on();
+    let triangle = Triangle::power_on();
+    let noise = Noise::power_on();
+    let dmc = Dmc::power_on();
+    let frame = Frame::power_on();
+    State {
+        square1: square,
+        square2: square,
+        triangle: triangle,
+        noise: noise,
+        dmc: dmc,
+        frame: frame,
+    }
+}
+
+impl State {
+    // Whether every field is within its range.
+    pub fn in_range(self) -> bool
+        ensures { λ r. ⌜ r ≡ inRange self ⌝ }
+    {
+        let a = self.square1.in_range();
+        let b = self.square2.in_range();
+        let t = self.triangle.in_range();
+        let n = self.noise.in_range();
+        let d = self.dmc.in_range();
+        let f = self.frame.in_range();
+        let df = arith::both_of(d, f);
+        let ndf = arith::both_of(n, df);
+        let tndf = arith::both_of(t, ndf);
+        let rest = arith::both_of(b, tndf);
+        arith::both_of(a, rest)
+    }
+
+    // The timers with what they drive.
+    fn timed(self) -> State
+        ensures { λ r. ⌜ r ≡ timersClocked self ⌝ }
+    {
+        let n = noise_period(self.noise.index);
+        let d = dmc_period(self.dmc.registers.index);
+        let mut s = self;
+        s.square1 = self.square1.timed();
+        s.square2 = self.square2.timed();
+        s.triangle = self.triangle.timed();
+        s.noise = self.noise.timed(n);
+        s.dmc = self.dmc.timed(d);
+        s
+    }
+
+    // The DMC reader.
+    fn fed(self, memory: &[u8]) -> State
+        ensures { λ r. ⌜ r ≡ readerClocked (now (memory .entry)) self ⌝ }
+    {
+        let mut s = self;
+        s.dmc = self.dmc.fed(memory);
+        s
+    }
+
+    fn envelopes_clocked(self) -> State
+        ensures { λ r. ⌜ r ≡ envelopesClocked self ⌝ }
+    {
+        let mut s = self;
+        s.square1 = self.square1.envelope_clocked();
+        s.square2 = self.square2.envelope_clocked();
+        s.triangle = self.triangle.linear_clocked();
+        s.noise = self.noise.envelope_clocked();
+        s
+    }
+
+    fn lengths_clocked(self) -> State
+        ensures { λ r. ⌜ r ≡ lengthsClocked self ⌝ }
+    {
+        let mut s = self;
+        s.square1 = self.square1.swept(false);
+        s.square2 = self.square2.swept(true);
+        s.triangle = self.triangle.length_clocked();
+        s.noise = self.noise.length_clocked();
+        s
+    }
+
+    fn envelopes_if(self, on: bool) -> State
+        ensures { λ r. ⌜ r ≡ envelopesIf on self ⌝ }
+    {
+        if on { self.envelopes_clocked() } else { self }
+    }
+
+    fn lengths_if(self, on: bool) -> State
+        ensures { λ r. ⌜ r ≡ lengthsIf on self ⌝ }
+    {
+        if on { self.lengths_clocked() } else { self }
+    }
+
+    // The frame's next step.
+    fn step(self) -> State
+        ensures { λ r. ⌜ r ≡ stepped self ⌝ }
+    {
+        let quarter = self.frame.is_quarter();
+        let half = self.frame.is_half();
+        let e = self.envelopes_if(quarter);
+        let mut s = e.lengths_if(half);
+        s.frame = self.frame.stepped();
+        s
+    }
+
+    fn step_if(self, on: bool) -> State
+        ensures { λ r. ⌜ r ≡ pick on (stepped self) self ⌝ }
+    {
+        if on { self.step() } else { self }
+    }
+
+    // The frame divider, and its step if due.
+    fn frame_clocked(self) -> State
+        ensures { λ r. ⌜ r ≡ framed self ⌝ }
+    {
+        let due = self.frame.is_due();
+        let mut s = self;
+        s.frame = self.frame.moved();
+        s.step_if(due)
+    }
+
+    // One clock.
+    pub fn clocked(self, memory: &[u8]) -> State
+        ensures { λ r. ⌜ r ≡ chipClock (now (memory .entry)) self ⌝ }
+    {
+        let t = self.timed();
+        let r = t.fed(memory);
+        r.frame_clocked()
+    }
+
+    fn write_enables(self, value: u8) -> State
+        ensures { λ r. ⌜ r ≡ enablesWritten value self ⌝ }
+    {
+        let square1 = arith::bit_u8(value, 0);
+        let mut s = self;
+        s.square1 = self.square1.enabled(square1);
+        s.square2 = self.square2.enabled(value / 2 % 2 == 1);
+        s.triangle = self.triangle.enabled(value / 4 % 2 == 1);
+        s.noise = self.noise.enabled(value / 8 % 2 == 1);
+        s.dmc = self.dmc.enabled(value / 16 % 2 == 1);
+        s
+    }
+
+    fn write_sequencer(self, value: u8) -> State
+        ensures { λ r. ⌜ r ≡ sequencerWritten value self ⌝ }
+    {
+        let mut s = self;
+        s.frame = self.frame.written(value);
+        s.step_if(value / 128 % 2 == 1)
+    }
+
+    fn write_control(self, place: u16, value: u8) -> State
+        ensures { λ r. ⌜ r ≡ controlWritten place value self ⌝ }
+    {
+        if place == 1 {
+            return self.write_enables(value);
+        }
+        self.write_sequencer(value)
+    }
+
+    fn write_square1(self, place: u16, value: u8) -> State
+        ensures { λ r. ⌜ r ≡ withSquare1 self (squareWrite place value (self .square1)) ⌝ }
+    {
+        let mut s = self;
+        s.square1 = self.square1.write(place, value);
+        s
+    }
+
+    fn write_square2(self, place: u16, value: u8) -> State
+        ensures { λ r. ⌜ r ≡ withSquare2 self (squareWrite place value (self .square2)) ⌝ }
+    {
+        let mut s = self;
+        s.square2 = self.square2.write(place, value);
+        s
+    }
+
+    fn write_triangle(self, place: u16, value: u8) -> State
+        ensures { λ r. ⌜ r ≡ withTriangle self (triangleWrite place value (self .triangle)) ⌝ }
+    {
+        let mut s = self;
+        s.triangle = self.triangle.write(place, value);
+        s
+    }
+
+    fn write_noise(self, place: u16, value: u8) -> State
+        ensures { λ r. ⌜ r ≡ withNoise self (noiseWrite place value (self .noise)) ⌝ }
+    {
+        let mut s = self;
+        s.noise = self.noise.write(place, value);
+        s
+    }
+
+    fn write_dmc(self, place: u16, value: u8) -> State
+        ensures { λ r. ⌜ r ≡ Rattle.chip.specs.Clock.withDmc self (dmcWrite place value (self .dmc)) ⌝ }
+    {
+        let mut s = self;
+        s.dmc = self.dmc.write(place, value);
+        s
+    }
+
+    fn write_channel(self, channel: u16, place: u16, value: u8) -> State
+        ensures { λ r. ⌜ r ≡ channelWritten channel place value self ⌝ }
+    {
+        match channel {
+            0 => self.write_square1(place, value),
+            1 => self.write_square2(place, value),
+            2 => self.write_triangle(place, value),
+            3 => self.write_noise(place, value),
+            4 => self.write_dmc(place, value),
+            _ => self.write_control(place, value),
+        }
+    }
+
+    // A register written.
+    pub fn written(self, register: u16, value: u8) -> State
+        ensures { λ r. ⌜ r ≡ registerWritten register value self ⌝ }
+    {
+        let offset = arith::minus_u16(register, 0x4000);
+        self.write_channel(offset / 4, register % 4, value)
+    }
+
+    // The byte that a status read gives.
+    pub fn status(self) -> u8
+        ensures { λ r. ⌜ r ≡ statusByte self ⌝ }
+    {
+        let dmc = flag(self.dmc.reader.interrupt, 128);
+        let frame = flag(self.frame.interrupt, 64);
+        let sample = flag(0 < self.dmc.reader.remaining, 16);
+        let noise = flag(0 < self.noise.length.count, 8);
+        let triangle = flag(0 < self.triangle.length.count, 4);
+        let square2 = flag(0 < self.square2.length.count, 2);
+        let square1 = flag(0 < self.square1.length.count, 1);
+        (dmc + frame + sample + noise + triangle + square2 + square1) as u8
+    }
+
+    // The state after a status read.
+    pub fn read(self) -> State
+        ensures { λ r. ⌜ r ≡ statusRead self ⌝ }
+    {
+        let mut s = self;
+        s.frame = self.frame.read();
+        s
+    }
+
+    // Whether the interrupt line is asserted.
+    pub fn asserts(self) -> bool
+        ensures { λ r. ⌜ r ≡ lineAsserted self ⌝ }
+    {
+        let frame = self.frame.asserts();
+        arith::either_of(frame, self.dmc.reader.interrupt)
+    }
+
+    // The mixed level.
+    pub fn level(self) -> u16
+        ensures { λ r. ⌜ r ≡ stateLevel self ⌝ }
+    {
+        let a = self.square1.output(false);
+        let b = self.square2.output(true);
+        let t = self.triangle.output();
+        let n = self.noise.output();
+        let d = self.dmc.output_of();
+        mixer::mix(a, b, t, n, d)
+    }
+}
+
+// A bit's weight where its flag is set.
+fn flag(on: bool, weight: u16) -> u16
+    ensures { λ r. ⌜ (r ≡ pick on weight 0) × (r ≤ weight) ⌝ }
+{
+    if on { weight } else { 0 }
+}

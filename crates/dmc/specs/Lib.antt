@@ -1,0 +1,3 @@
+pub mod Clock
+pub mod Range
+pub mod Write

@@ -1,0 +1,4 @@
+pub mod Range
+pub mod Sequencer
+pub mod Square
+pub mod Write

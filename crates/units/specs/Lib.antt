@@ -1,0 +1,5 @@
+pub mod Envelope
+pub mod Length
+pub mod Linear
+pub mod Sweep
+pub mod Timer
