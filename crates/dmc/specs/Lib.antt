@@ -1,3 +1,4 @@
 pub mod Clock
+pub mod Leap
 pub mod Range
 pub mod Write

@@ -1,2 +1,4 @@
+pub mod Eights
+pub mod Leaps
 pub mod Ranges
 pub mod Shifts

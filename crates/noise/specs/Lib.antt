@@ -1,2 +1,3 @@
+pub mod Leap
 pub mod Noise
 pub mod Shifter

@@ -7,6 +7,8 @@ ghost use Rattle.noise.specs.Noise.{noiseTimed, noiseEnveloped, noiseLen
 use units::envelope::Envelope;
 use units::length::Length;
 
+pub mod leap;
+
 // What the timer moves: its count and the shift register.
 pub struct Shifter {
     pub timer: u16,

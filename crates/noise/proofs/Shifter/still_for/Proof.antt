@@ -1,0 +1,18 @@
+use native.Mathlib.Nat.{mul-le-mul}
+use native.Mathlib.Omega.{arith}
+use borrow.Author.Needs.{needs}
+use borrow.Author.Tests.{eq-eqb, ne-eqb}
+use Rattle.noise.specs.Leap.{noiseStill}
+use Rattle.noise.proofs.Shifter.still_for.Statement.{statement}
+use Rattle.noise.proofs.Shifter.still_for.Tie as tie
+
+returns : tie.Need-returns
+unfolding noiseStill
+returns c = simp (eq-eqb _ _ (c .if1 .taken))
+
+returns-2 : tie.Need-returns-2
+unfolding noiseStill
+returns-2 c = simp (ne-eqb _ _ (c .if1 .left), c .before .alike-of .ensures, c .before .before .less-u16 .ensures)
+
+pub still-for-spec : {M : Type 1} → statement M
+still-for-spec = tie.close (tie.spec (λ c κs. tt) (λ c κs. tt) (λ c. search needs) (λ c. search needs) (λ c. omega (arith, mul-le-mul {n₁ = c .before .alike-of .result} {m₁ = c .before .before .before .args .period} {n₂ = 65535} {m₂ = 65535} (omega arith) (omega arith))) (λ c. omega (arith, mul-le-mul {n₁ = c .before .alike-of .result} {m₁ = c .before .before .before .args .period} {n₂ = 65535} {m₂ = 65535} (omega arith) (omega arith))) returns returns-2)

@@ -1,0 +1,117 @@
+// The noise's part in the leap: for how many clocks it surely gives the same, its timer and register g clocks on, and at its next change.
+ghost use mathlib.Core.Path.{_≡_};
+ghost use mathlib.Core.Bool.{Bool};
+ghost use Prim.Native.Nat.{ℕ, _+_, _*_, _≤_};
+ghost use Rattle.arith.specs.Iterate.{iterate};
+ghost use Rattle.noise.specs.Shifter.{shiftedOf};
+ghost use Rattle.noise.specs.Leap.{shifterGives, alike, noiseStill, shifterAdvanced, shifterTurned, blockOf};
+use super::Shifter;
+
+// The register eight outputs on.
+fn block(mode: bool, register: u16) -> u16
+    ensures { λ r. ⌜ r ≡ blockOf mode register ⌝ }
+{
+    let fed = (register ^ (register >> super::tap(mode))) & 255;
+    ((register >> 8) & 127) | (fed << 7)
+}
+
+// The register k outputs on, one by one.
+fn singles(mode: bool, register: u16, k: u64) -> u16
+    ensures { λ r. ⌜ r ≡ iterate (shiftedOf mode) k register ⌝ }
+{
+    let mut x = register;
+    let mut i: u64 = 0;
+    while i < k {
+        x = super::shifted(mode, x);
+        i += 1;
+    }
+    x
+}
+
+// The register 8 q outputs on.
+fn blocks(mode: bool, register: u16, q: u64) -> u16
+    requires { ⌜ register ≤ 32767 ⌝ }
+    ensures { λ r. ⌜ r ≡ iterate (shiftedOf mode) (8 * q) register ⌝ }
+{
+    let mut x = register;
+    let mut i: u64 = 0;
+    while i < q {
+        x = block(mode, x);
+        i += 1;
+    }
+    x
+}
+
+// The register k outputs on.
+pub fn shifted_by(mode: bool, register: u16, k: u64) -> u16
+    ensures { λ r. ⌜ r ≡ iterate (shiftedOf mode) k register ⌝ }
+{
+    if 32767 < register {
+        return singles(mode, register, k);
+    }
+    let x = singles(mode, register, k % 8);
+    blocks(mode, x, k / 8)
+}
+
+// How many of the 14 bits above bit 0 are as it is, up to the first that differs.
+fn alike_of(register: u16) -> u16
+    ensures { λ r. ⌜ r ≡ alike 14 register ⌝ }
+{
+    let mut x = register;
+    let mut i: u16 = 0;
+    while i < 14 {
+        if x / 2 % 2 != x % 2 {
+            return i;
+        }
+        x = x / 2;
+        i += 1;
+    }
+    i
+}
+
+impl Shifter {
+    // What the noise gives, from what it gives while bit 0 is clear (`Noise::amount`).
+    pub fn gives(self, amount: u8) -> u8
+        ensures { λ r. ⌜ r ≡ shifterGives amount self ⌝ }
+    {
+        arith::pick_u8(self.register % 2 == 1, 0, amount)
+    }
+
+    // For how many clocks it surely gives the same.
+    pub fn still_for(self, amount: u8, period: u16) -> u32
+        ensures { λ r. ⌜ r ≡ noiseStill amount period self ⌝ }
+    {
+        let timer = arith::less_u16(self.timer);
+        let turns = alike_of(self.register);
+        if amount == 0 {
+            100000
+        } else {
+            timer as u32 + turns as u32 * period as u32
+        }
+    }
+
+    // g clocks on.
+    pub fn advance(self, period: u16, mode: bool, g: u32) -> Shifter
+        ensures { λ r. ⌜ r ≡ shifterAdvanced period mode g self ⌝ }
+    {
+        let k = divider::outputs_in(period as u32, self.timer as u32, g);
+        let timer = divider::count_in(period as u64, self.timer as u64, g as u64);
+        let register = shifted_by(mode, self.register, k);
+        Shifter {
+            timer: timer as u16,
+            register: register,
+        }
+    }
+
+    // At its next change.
+    pub fn turn(self, period: u16, mode: bool) -> Shifter
+        ensures { λ r. ⌜ r ≡ shifterTurned period mode self ⌝ }
+    {
+        let turns = alike_of(self.register);
+        let register = shifted_by(mode, self.register, turns as u64 + 1);
+        Shifter {
+            timer: period,
+            register: register,
+        }
+    }
+}
