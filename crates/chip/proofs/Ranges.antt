@@ -60,16 +60,18 @@ power-on-in =
 pub noise-period-range : (index : ℕ) → (1 ≤ noisePeriod index) × (noisePeriod index ≤ 4068)
 unfolding noisePeriod
 noise-period-range index =
-    let i : index % 16 < 16 = mod-lt index (omega arith) in
-    ( leb→le 1 (getD noisePeriods (index % 16) 0) (at (λ k x. leb 1 x) noisePeriods tt (index % 16) i)
-    , leb→le (getD noisePeriods (index % 16) 0) 4068 (at (λ k x. leb x 4068) noisePeriods tt (index % 16) i))
+    let i : index % 16 < 16 = mod-lt index (omega arith) in (
+      leb→le 1 (getD noisePeriods (index % 16) 0) (at (λ k x. leb 1 x) noisePeriods tt (index % 16) i),
+      leb→le (getD noisePeriods (index % 16) 0) 4068 (at (λ k x. leb x 4068) noisePeriods tt (index % 16) i),
+    )
 
 pub dmc-period-range : (index : ℕ) → (1 ≤ dmcPeriod index) × (dmcPeriod index ≤ 428)
 unfolding dmcPeriod
 dmc-period-range index =
-    let i : index % 16 < 16 = mod-lt index (omega arith) in
-    ( leb→le 1 (getD dmcPeriods (index % 16) 0) (at (λ k x. leb 1 x) dmcPeriods tt (index % 16) i)
-    , leb→le (getD dmcPeriods (index % 16) 0) 428 (at (λ k x. leb x 428) dmcPeriods tt (index % 16) i))
+    let i : index % 16 < 16 = mod-lt index (omega arith) in (
+      leb→le 1 (getD dmcPeriods (index % 16) 0) (at (λ k x. leb 1 x) dmcPeriods tt (index % 16) i),
+      leb→le (getD dmcPeriods (index % 16) 0) 428 (at (λ k x. leb x 428) dmcPeriods tt (index % 16) i),
+    )
 
 -- sample memory holds bytes
 pub Bytes : List ℕ → Type 0
