@@ -10,10 +10,10 @@ use Rattle.arith.specs.Iterate.{iterate}
 use Rattle.arith.specs.Pick.{pick}
 use Rattle.arith.proofs.Iterates.{iterate-zero, iterate-more}
 use Rattle.arith.proofs.Picks.{pick-both, pick-each}
-use Rattle.divider.specs.Divider.{Driven, drive, outputs, countAfter}
+use Rattle.divider.specs.Divider.{Driven, drive, outputs, countAfter, forever}
 use Rattle.divider.proofs.Dividers.{drive-before, drive-closed, drive-brink}
 use Rattle.dmc.specs.Clock.{withTimer, pending, dmcClock, dmcOutput}
-use Rattle.dmc.specs.Leap.{forever, outputStill, dmcStill, withOutput, withTape, outputAdvanced, dmcAdvanced, outputBrink, dmcBrink, dmcTurned}
+use Rattle.dmc.specs.Leap.{outputStill, dmcStill, withOutput, withTape, outputAdvanced, dmcAdvanced, outputBrink, dmcBrink, dmcTurned}
 use Rattle.dmc.specs.declared.Dmc.{Dmc}
 use Rattle.dmc.proofs.Calm.{Tape, tapeStep, seen, ownTape, idle-clocks, count-clocks, silent-clocks, tape-times}
 use Rattle.dmc.proofs.Ranges.{DmcRanged}

@@ -4,14 +4,10 @@ use Prim.Native.Nat.{ℕ, _+_, _-_, _*_, _/_, _^_}
 use mathlib.Core.Bool.{Bool}
 use mathlib.Core.List.{List}
 use Rattle.arith.specs.Pick.{pick}
-use Rattle.divider.specs.Divider.{outputs, countAfter}
+use Rattle.divider.specs.Divider.{outputs, countAfter, forever}
 use Rattle.dmc.specs.Clock.{pending, dmcClock, withTimer}
 use Rattle.dmc.specs.declared.Output.{Output}
 use Rattle.dmc.specs.declared.Dmc.{Dmc}
-
--- more clocks than any stretch between two frame steps has
-abbrev pub forever : ℕ
-forever = 100000
 
 -- silent: with a full buffer up to the clock before the end of the eight bits, else for ever; sounding: up to the clock before the timer's
 -- output

@@ -3,7 +3,8 @@ ghost use mathlib.Core.Path.{_≡_};
 ghost use mathlib.Core.Bool.{Bool};
 ghost use Prim.Native.Nat.{ℕ, _+_, _-_, _*_};
 ghost use Rattle.arith.specs.Pick.{pick};
-ghost use Rattle.dmc.specs.Leap.{forever, outputStill, dmcStill, withTape, outputAdvanced, dmcAdvanced, outputBrink, dmcBrink, dmcTurned};
+ghost use Rattle.divider.specs.Divider.{forever};
+ghost use Rattle.dmc.specs.Leap.{outputStill, dmcStill, withTape, outputAdvanced, dmcAdvanced, outputBrink, dmcBrink, dmcTurned};
 use super::Dmc;
 use super::Output;
 

@@ -11,9 +11,9 @@ use Rattle.arith.specs.Iterate.{iterate}
 use Rattle.arith.specs.Pick.{pick}
 use Rattle.arith.proofs.Iterates.{iterate-along}
 use Rattle.arith.proofs.Picks.{pick-each}
-use Rattle.divider.specs.Divider.{due, Driven, drive, outputs, countAfter}
+use Rattle.divider.specs.Divider.{due, Driven, drive, outputs, countAfter, forever}
 use Rattle.divider.proofs.Dividers.{drive-closed, drive-still, drive-turned}
-use Rattle.noise.specs.Leap.{forever, shifterGives, alike, noiseStill, shifterAdvanced, shifterTurned}
+use Rattle.noise.specs.Leap.{shifterGives, alike, noiseStill, shifterAdvanced, shifterTurned}
 use Rattle.noise.specs.Noise.{withShifter, noiseTimed, noiseAmount, noiseOutput}
 use Rattle.noise.specs.Shifter.{tapOf, shiftedOf, shifterClock}
 use Rattle.noise.specs.declared.Shifter.{Shifter}

@@ -1,4 +1,4 @@
-pub mod Eights
+pub mod Jumps
 pub mod Leaps
 pub mod Ranges
 pub mod Shifts

@@ -6,7 +6,9 @@ use native.Mathlib.Nat.{add-comm}
 use native.Mathlib.Omega.{arith}
 use lib.Bits.{bitAnd, bitOr, bitXor, and-mask, or-shifted-r}
 use Rattle.arith.specs.Bit.{bitOf}
+use Rattle.arith.specs.Iterate.{iterate}
 use Rattle.arith.proofs.Bits.{xor-bits}
+use Rattle.arith.proofs.Iterates.{iterate-keeps}
 use Rattle.noise.specs.Shifter.{tapOf, shiftedOf}
 
 -- XOR of two bits of a register is their sum without the carry
@@ -46,3 +48,7 @@ shifted-least mode r h l = rw (shifted-sum mode r) (go mode r h l)
     go false (suc zero) h l = omega arith
     go true (suc zero) h l = omega arith
     go mode (suc (suc r)) h l = let w : suc (suc r) / 2 % 16384 ≡ suc (suc r) / 2 = omega arith in omega arith
+
+-- k outputs on as well
+pub shifts-most : (mode : Bool) (k r : ℕ) → r ≤ 32767 → iterate (shiftedOf mode) k r ≤ 32767
+shifts-most mode k r h = iterate-keeps (λ (x : ℕ). x ≤ 32767) (shiftedOf mode) (λ x q. shifted-most mode x) k r h

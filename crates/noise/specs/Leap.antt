@@ -1,19 +1,14 @@
--- The noise's part in the leap: for how many clocks it surely gives the same, its timer and register g clocks on, and at its next change.
+-- The noise in the leap: for how many clocks it surely gives the same, and its timer and register g clocks on and at its next change.
 -- That these are clocks of the noise is proved beside them (proofs/Leaps).
-use Prim.Native.Nat.{ℕ, zero, suc, _+_, _-_, _*_, _/_, _%_, _^_}
+use Prim.Native.Nat.{ℕ, zero, suc, _+_, _-_, _*_, _/_, _%_}
 use mathlib.Core.Bool.{Bool}
-use lib.Bits.{bitXor}
 use lib.Dec.{eqb}
 use Rattle.arith.specs.Bit.{bitSet}
 use Rattle.arith.specs.Iterate.{iterate}
 use Rattle.arith.specs.Pick.{pick}
-use Rattle.divider.specs.Divider.{outputs, countAfter}
-use Rattle.noise.specs.Shifter.{tapOf, shiftedOf}
+use Rattle.divider.specs.Divider.{outputs, countAfter, forever}
+use Rattle.noise.specs.Shifter.{shiftedOf}
 use Rattle.noise.specs.declared.Shifter.{Shifter}
-
--- more clocks than any stretch between two frame steps has
-abbrev pub forever : ℕ
-forever = 100000
 
 -- what the noise gives, from what it gives while bit 0 is clear
 unfoldable pub shifterGives : ℕ → Shifter → ℕ
@@ -40,7 +35,3 @@ shifterAdvanced n mode g h =
 unfoldable pub shifterTurned : ℕ → Bool → Shifter → Shifter
 shifterTurned n mode h =
     record { timer = n; register = iterate (shiftedOf mode) (suc (alike 14 (h .register))) (h .register) }
-
--- eight outputs at once: the eight bits that are fed back, in bits 7 to 14
-unfoldable pub blockOf : Bool → ℕ → ℕ
-blockOf mode r = r / 256 % 128 + bitXor r (r / 2 ^ tapOf mode) % 256 * 128

@@ -1,18 +1,19 @@
-// The noise's part in the leap: for how many clocks it surely gives the same, its timer and register g clocks on, and at its next change.
+// The noise in the leap: for how many clocks it surely gives the same, and its timer and register g clocks on and at its next change.
 ghost use mathlib.Core.Path.{_≡_};
 ghost use mathlib.Core.Bool.{Bool};
 ghost use Prim.Native.Nat.{ℕ, _+_, _*_, _≤_};
 ghost use Rattle.arith.specs.Iterate.{iterate};
 ghost use Rattle.noise.specs.Shifter.{shiftedOf};
-ghost use Rattle.noise.specs.Leap.{shifterGives, alike, noiseStill, shifterAdvanced, shifterTurned, blockOf};
+ghost use Rattle.noise.specs.Leap.{shifterGives, alike, noiseStill, shifterAdvanced, shifterTurned};
 use super::Shifter;
 
-// The register eight outputs on.
-fn block(mode: bool, register: u16) -> u16
-    ensures { λ r. ⌜ r ≡ blockOf mode register ⌝ }
+// The register k outputs on, k up to 8: the bits that they feed back all stand in it.
+fn jump(mode: bool, register: u16, k: u16) -> u16
+    requires { ⌜ (register ≤ 32767) × (k ≤ 8) ⌝ }
+    ensures { λ r. ⌜ r ≡ iterate (shiftedOf mode) k register ⌝ }
 {
-    let fed = (register ^ (register >> super::tap(mode))) & 255;
-    ((register >> 8) & 127) | (fed << 7)
+    let fed = (register ^ (register >> super::tap(mode))) & ((1 << k) - 1);
+    (register >> k) | (fed << (15 - k))
 }
 
 // The register k outputs on, one by one.
@@ -36,7 +37,7 @@ fn blocks(mode: bool, register: u16, q: u64) -> u16
     let mut x = register;
     let mut i: u64 = 0;
     while i < q {
-        x = block(mode, x);
+        x = jump(mode, x, 8);
         i += 1;
     }
     x
@@ -49,7 +50,7 @@ pub fn shifted_by(mode: bool, register: u16, k: u64) -> u16
     if 32767 < register {
         return singles(mode, register, k);
     }
-    let x = singles(mode, register, k % 8);
+    let x = jump(mode, register, (k % 8) as u16);
     blocks(mode, x, k / 8)
 }
 

@@ -31,7 +31,10 @@ loop-again : tie.Need-loop-again Inv-loop μ-loop
 loop-again c =
     let l = c .before .before .loop in
     let k : 14 - l .i - 1 ≡ 14 - (l .i + 1) = omega arith in
-    (omega arith, l .inv .1 ∙ ap (λ (m : ℕ). l .i + m) (alike-goes (14 - l .i) (l .x) (omega arith) (c .if1 .left)) ∙ rw k (omega arith))
+    let goes = alike-goes (14 - l .i) (l .x) (omega arith) (c .if1 .left) in (
+      omega arith,
+      l .inv .1 ∙ ap (λ (m : ℕ). l .i + m) goes ∙ rw k (omega arith),
+    )
 
 returns-2 : tie.Need-returns-2 Inv-loop μ-loop
 returns-2 c =

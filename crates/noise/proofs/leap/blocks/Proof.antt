@@ -5,7 +5,7 @@ use borrow.Author.Needs.{needs}
 use Rattle.arith.specs.Iterate.{iterate}
 use Rattle.arith.proofs.Iterates.{iterate-zero, iterate-add}
 use Rattle.noise.specs.Shifter.{shiftedOf}
-use Rattle.noise.proofs.Eights.{block-eight, block-most}
+use Rattle.noise.proofs.Shifts.{shifts-most}
 use Rattle.noise.proofs.leap.blocks.Statement.{statement}
 use Rattle.noise.proofs.leap.blocks.Tie as tie
 
@@ -17,6 +17,9 @@ abbrev μ-loop : tie.MeasureT-loop
 
 loop-holds : tie.Need-loop-holds Inv-loop μ-loop
 loop-holds c = (sym (iterate-zero _ _), c .pre, omega arith)
+
+jump-requires : tie.Need-jump-requires Inv-loop μ-loop
+jump-requires c κs = (c .before .loop .inv .1, omega arith)
 
 add-i : tie.Need-add-i Inv-loop μ-loop
 add-i c = search needs
@@ -30,8 +33,11 @@ loop-again c =
     let l = c .before .before .loop in
     let s = shiftedOf (a .mode) in
     let e : 8 * l .i + 8 ≡ 8 * (l .i + 1) = omega arith in (
-      c .block .ensures ∙ sym (block-eight (a .mode) (l .x) (l .inv .1)) ∙ ap (iterate s 8) (l .inv .0) ∙ sym (iterate-add s (8 * l .i) 8 (a .register)) ∙ ap (λ (m : ℕ). iterate s m (a .register)) e,
-      rw (c .block .ensures) (block-most (a .mode) (l .x)),
+      c .jump .ensures
+          ∙ ap (iterate s 8) (l .inv .0)
+          ∙ sym (iterate-add s (8 * l .i) 8 (a .register))
+          ∙ ap (λ (m : ℕ). iterate s m (a .register)) e,
+      rw (c .jump .ensures) (shifts-most (a .mode) 8 (l .x) (l .inv .1)),
       omega arith,
     )
 
@@ -43,4 +49,4 @@ returns c =
     l .inv .0 ∙ ap (λ (m : ℕ). iterate (shiftedOf (a .mode)) (8 * m) (a .register)) e
 
 pub blocks-spec : {M : Type 1} → statement M
-blocks-spec = tie.close (tie.spec Inv-loop μ-loop loop-holds (λ c κs. tt) add-i loop-less loop-again returns)
+blocks-spec = tie.close (tie.spec Inv-loop μ-loop loop-holds jump-requires add-i loop-less loop-again returns)

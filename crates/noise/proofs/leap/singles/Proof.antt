@@ -27,7 +27,10 @@ loop-again : tie.Need-loop-again Inv-loop μ-loop
 loop-again c =
     let a = c .before .before .before .args in
     let l = c .before .before .loop in
-    (c .shifted .ensures ∙ ap (shiftedOf (a .mode)) (l .inv .0) ∙ sym (iterate-more (shiftedOf (a .mode)) (l .i) (a .register)), omega arith)
+    let s = shiftedOf (a .mode) in (
+      c .shifted .ensures ∙ ap s (l .inv .0) ∙ sym (iterate-more s (l .i) (a .register)),
+      omega arith,
+    )
 
 returns : tie.Need-returns Inv-loop μ-loop
 returns c =
