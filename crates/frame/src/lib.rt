@@ -6,6 +6,8 @@ ghost use lib.Dec.{leb};
 ghost use Rattle.arith.specs.Pick.{pick};
 ghost use Rattle.frame.specs.Frame.{frameDue, frameMoved, nextStep, clocksEnvelopes, clocksLengths, lastStep, frameStepped, frameWritten, frameRead, frameAsserts, frameIn, frameOn};
 
+mod leap;
+
 // `phase` is the divider's count in half clocks, `step` the steps made in this frame.
 pub struct Frame {
     pub mode: bool,
