@@ -346,7 +346,7 @@ impl State {
         let t = self.triangle.output();
         let n = self.noise.output();
         let d = self.dmc.output_of();
-        mixer::mix(a, b, t, n, d)
+        mixer::mix(a as u32, b as u32, t as u32, n as u32, d as u32)
     }
 }
 

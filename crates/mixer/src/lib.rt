@@ -35,7 +35,7 @@ fn rest(t: u64, n: u64, d: u64) -> u64
 }
 
 // The level.
-pub fn mix(a: u8, b: u8, t: u8, n: u8, d: u8) -> u16
+pub fn mix(a: u32, b: u32, t: u32, n: u32, d: u32) -> u16
     ensures { λ r. ⌜ r ≡ mixed a b t n d ⌝ }
 {
     let s = squares((a % 16) as u64 + (b % 16) as u64);
