@@ -1,0 +1,169 @@
+-- The judgement line by line is what the reading by blocks finds. Assumes nothing.
+use mathlib.Core.Path.{_≡_, refl, ap, sym, _∙_}
+use mathlib.Core.List.{List, [], _∷_}
+use mathlib.Core.Bool.{Bool, true, false}
+use Prim.Native.Nat.{ℕ, zero, suc, _+_, _-_, _≤_, _<_}
+use native.Mathlib.Omega.{arith}
+use borrow.Author.Tests.{ltb-true, ltb-false, ne-eqb}
+use lib.ListN.{length, take, drop, length-drop, drop-of-length-le}
+use lib.Seq.{drop-drop}
+use lib.Dec.{eqb, ltb}
+use Rattle.arith.specs.Pick.{pick}
+use Rattle.line.specs.declared.Line.{Line}
+use Rattle.line.specs.declared.Line.the-variants.{Header, One, Loop, Done, Stop, Bad}
+use Rattle.line.specs.Said.{lineOf}
+use Rattle.judge.specs.declared.Reading.the-variants.{Refused}
+use Rattle.judge.specs.Lines.{onto, linesOf, lineLen, bytesAt, nextLine}
+use Rattle.judge.specs.Reading.{laterRead, readAt}
+use Rattle.judge.specs.Judge.{Verdict, right, wrong, Stand, first, among, over, fault, verdict, leaves, behind, ending, unless, judge}
+use Rattle.judge.specs.Tree.{Tree, end, act, loop}
+use Rattle.judge.specs.Block.{Got, closed, stopped, refused, Piece, one, many, shut, halt, bad, Begun, whole, opens, admitted, begun, begunBy, readBegun, looped, piece, before, onward, readBlock, readPart}
+use Rattle.judge.proofs.Places.{bytes-long, next-pos, next-le, read-later, read-none}
+use Rattle.judge.proofs.Descent.{unrolled, begun-on, got-behind, BegunBehind, Behind}
+
+-- the first line of a text, and the lines behind it
+first-line : (s : List ℕ) → 0 < length s → linesOf s ≡ take (lineLen s) s ∷ linesOf (drop (lineLen s) s)
+unfolding linesOf lineLen onto
+first-line [] h = absurd (omega arith)
+first-line (c ∷ []) h = go (eqb c 10)
+  where
+    go : (b : Bool) → pick b ((c ∷ []) ∷ []) ((c ∷ []) ∷ []) ≡ take (pick b 1 1) (c ∷ []) ∷ linesOf (drop (pick b 1 1) (c ∷ []))
+    go true = refl
+    go false = refl
+first-line (c ∷ a ∷ s) h = go (eqb c 10) (first-line (a ∷ s) (omega arith))
+  where
+    go : (b : Bool) → linesOf (a ∷ s) ≡ take (lineLen (a ∷ s)) (a ∷ s) ∷ linesOf (drop (lineLen (a ∷ s)) (a ∷ s))
+        → pick b ((c ∷ []) ∷ linesOf (a ∷ s)) (onto c (linesOf (a ∷ s)))
+        ≡ take (pick b 1 (suc (lineLen (a ∷ s)))) (c ∷ a ∷ s) ∷ linesOf (drop (pick b 1 (suc (lineLen (a ∷ s)))) (c ∷ a ∷ s))
+    go true e = refl
+    go false e = ap (onto c) e
+
+-- the lines from a place on
+abbrev pub linesFrom : List ℕ → ℕ → List (List ℕ)
+linesFrom log at = linesOf (drop at log)
+
+-- what the judgement says from a place on
+abbrev pub judgeAt : List ℕ → Stand → ℕ → Verdict
+judgeAt log s at = judge s at (linesFrom log at)
+
+module _ (log : List ℕ) (at : ℕ) where
+  pub lines-at : at < length log → linesFrom log at ≡ bytesAt log at ∷ linesFrom log (nextLine log at)
+  unfolding nextLine bytesAt
+  lines-at h = first-line (drop at log) (rw length-drop (omega arith)) ∙ ap (λ (r : List ℕ). take (lineLen (drop at log)) (drop at log) ∷ linesOf r) (drop-drop (lineLen (drop at log)) at log)
+
+  lines-none : length log ≤ at → linesFrom log at ≡ []
+  unfolding linesOf
+  lines-none h = rw (drop-of-length-le log h)
+
+  -- one line of the judgement
+  pub judge-at : (s : Stand) → at < length log
+      → judgeAt log s at ≡ unless (verdict s at (bytesAt log at)) (judgeAt log (behind s (bytesAt log at)) (nextLine log at))
+  unfolding judge
+  judge-at s h = rw (lines-at h, bytes-long log at)
+
+  pub judge-none : (s : Stand) → length log ≤ at → judgeAt log s at ≡ ending s at
+  unfolding judge
+  judge-none s h = rw (lines-none h)
+
+-- what is found where the block read at depth d came out so: a block that is closed is gone on behind with one loop fewer open
+unfoldable pub after : List ℕ → ℕ → Got → Verdict
+after log d (closed t p q) = judgeAt log (among (d - 1)) q
+after log d (stopped t p q n) = pick (eqb d 0) (judgeAt log over q) (wrong 8 p)
+after log d (refused k p) = wrong k p
+
+after-before : (log : List ℕ) (d : ℕ) (f : Tree → Tree) (g : Got) → after log d g ≡ after log d (before f g)
+unfolding after before
+after-before log d f (closed t p q) = refl
+after-before log d f (stopped t p q n) = refl
+after-before log d f (refused k p) = refl
+
+-- a line behind the first is begun as it says
+later-begun : (at next d : ℕ) (l : Line) → begunBy at d (laterRead at next l) ≡ begun at next d l
+unfolding begunBy laterRead begun admitted fault
+later-begun at next d Header = refl
+later-begun at next d (One a) = refl
+later-begun at next d (Loop n) = refl
+later-begun at next d Done = refl
+later-begun at next d (Stop n) = refl
+later-begun at next d (Bad k) = refl
+
+module _ (log : List ℕ) (short : length log ≤ 60000) (at d : ℕ) where
+  -- the line at `at` says l
+  told : Line → Verdict
+  told l = unless (fault at d l) (judgeAt log (leaves d l) (nextLine log at))
+
+  Onward : Begun → Verdict
+  Onward s = after log d (onward (λ p. readBlock log p d) (piece (readBlock log) d s))
+
+  body-told : (n : ℕ) (g : Got) → at < nextLine log at → Behind (nextLine log at) (length log) g
+      → ((p : ℕ) → at < p → p ≤ length log → judgeAt log (among d) p ≡ after log d (readBlock log p d))
+      → after log (d + 1) g ≡ after log d (onward (λ p. readBlock log p d) (looped n g))
+  unfolding after looped onward
+  body-told n (closed b p q) a h rec =
+      let e : d + 1 - 1 ≡ d = omega arith in
+      rw e (rec q (omega arith) (h .2) ∙ after-before log d (loop n b) (readBlock log q d))
+  body-told n (stopped b p q m) a h rec =
+      rw (ne-eqb (d + 1) 0 (λ z. omega arith))
+  body-told n (refused k p) a h rec = refl
+
+  line-told : (l : Line) → BegunBehind at (length log) d (begun at (nextLine log at) d l)
+      → ((p e : ℕ) → at < p → p ≤ length log → judgeAt log (among e) p ≡ after log e (readBlock log p e))
+      → told l ≡ Onward (begun at (nextLine log at) d l)
+  unfolding told Onward fault leaves begun admitted piece onward after unless
+  line-told Header b rec = refl
+  line-told (One a) b rec = rec (nextLine log at) d (b .0) (b .1) ∙ after-before log d (act a) (readBlock log (nextLine log at) d)
+  line-told (Loop n) b rec = go (ltb d 8) b
+    where
+      go : (z : Bool) → BegunBehind at (length log) d (admitted at (nextLine log at) (Loop n) (pick z right (wrong 7 at)))
+          → unless (pick z right (wrong 7 at)) (judgeAt log (among (d + 1)) (nextLine log at)) ≡ Onward (admitted at (nextLine log at) (Loop n) (pick z right (wrong 7 at)))
+      go true b = rec (nextLine log at) (d + 1) (b .0) (b .1) ∙ body-told n (readBlock log (nextLine log at) (d + 1)) (b .0) (got-behind log (nextLine log at) (d + 1)) (λ p i j. rec p d i j)
+      go false b = refl
+  line-told Done b rec = go (eqb d 0)
+    where
+      go : (z : Bool) → unless (pick z (wrong 8 at) right) (judgeAt log (among (d - 1)) (nextLine log at)) ≡ Onward (admitted at (nextLine log at) Done (pick z (wrong 8 at) right))
+      go true = refl
+      go false = refl
+  line-told (Stop n) b rec = go (eqb d 0) refl
+    where
+      go : (z : Bool) → eqb d 0 ≡ z → unless (pick z right (wrong 8 at)) (judgeAt log over (nextLine log at)) ≡ Onward (admitted at (nextLine log at) (Stop n) (pick z right (wrong 8 at)))
+      go true e = rw e
+      go false e = refl
+  line-told (Bad k) b rec = refl
+
+  -- reading at `at` begins what the line there says
+  begun-at : 0 < at → at < length log → readBegun log at d ≡ begun at (nextLine log at) d (lineOf (bytesAt log at))
+  unfolding readBegun
+  begun-at z h = ap (begunBy at d) (read-later log at (lineOf (bytesAt log at)) short z h refl) ∙ later-begun at (nextLine log at) d (lineOf (bytesAt log at))
+
+  -- at the log's end there is none
+  none-told : at ≤ length log → length log ≤ at → judgeAt log (among d) at ≡ Onward (readBegun log at d)
+  unfolding Onward readBegun begunBy piece onward after ending
+  none-told h w = rw (read-none log at short w) (judge-none log at (among d) w ∙ ap (wrong 6) (omega arith))
+
+  some-told : 0 < at → at < length log → ((p e : ℕ) → at < p → p ≤ length log → judgeAt log (among e) p ≡ after log e (readBlock log p e))
+      → judgeAt log (among d) at ≡ Onward (readBegun log at d)
+  unfolding verdict behind told
+  some-told z w rec =
+      let s = begun-at z w in
+      rw s (judge-at log at (among d) w ∙ line-told (lineOf (bytesAt log at)) (rw s at (begun-on log at d)) rec)
+
+  at-told : 0 < at → at ≤ length log → ((p e : ℕ) → at < p → p ≤ length log → judgeAt log (among e) p ≡ after log e (readBlock log p e))
+      → judgeAt log (among d) at ≡ Onward (readBegun log at d)
+  at-told z h rec = go (ltb at (length log)) refl
+    where
+      go : (b : Bool) → ltb at (length log) ≡ b → judgeAt log (among d) at ≡ Onward (readBegun log at d)
+      go true e = some-told z (ltb-true at (length log) e) rec
+      go false e = none-told h (ltb-false at (length log) e)
+
+  told-step : 0 < at → at ≤ length log → ((p e : ℕ) → at < p → p ≤ length log → judgeAt log (among e) p ≡ after log e (readBlock log p e))
+      → judgeAt log (among d) at ≡ after log d (readBlock log at d)
+  unfolding readPart Onward
+  told-step z h rec = rw (unrolled log at d) (at-told z h rec)
+
+bridge-in : (f : ℕ) (log : List ℕ) (at d : ℕ) → length log ≤ 60000 → 0 < at → at ≤ length log → length log ≤ at + f → judgeAt log (among d) at ≡ after log d (readBlock log at d)
+bridge-in zero log at d s z h k = told-step log s at d z h (λ p e i j. absurd (omega arith))
+bridge-in (suc f) log at d s z h k = told-step log s at d z h (λ p e i j. bridge-in f log p e s (omega arith) j (omega arith))
+
+-- the lines from a place on, judged one by one, come to what the block read there does
+pub bridge : (log : List ℕ) (at d : ℕ) → length log ≤ 60000 → 0 < at → at ≤ length log → judgeAt log (among d) at ≡ after log d (readBlock log at d)
+bridge log at d s z h = bridge-in (length log) log at d s z h (omega arith)

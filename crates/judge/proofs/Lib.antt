@@ -1,0 +1,6 @@
+pub mod Places
+pub mod Totalling
+pub mod Descent
+pub mod Derived
+pub mod Judged
+pub mod Checks
