@@ -1,1 +1,2 @@
 pub mod Betweens
+pub mod Quiets

@@ -24,7 +24,7 @@ use Rattle.chip.specs.Clock.{withFrame, timersClocked, readerClocked, en
 use Rattle.chip.specs.Write.{enablesWritten, sequencerWritten, controlWritten, channelWritten, registerWritten}
 use Rattle.chip.specs.Status.{statusRead}
 use Rattle.chip.specs.Level.{stateLevel}
-use Rattle.chip.specs.Range.{inRange, powerOn}
+use Rattle.chip.specs.Range.{inRange, powerOn, Bytes}
 use Rattle.chip.specs.declared.State.{State}
 
 pub record StateRanged (s : State) : Type 0 where
@@ -73,10 +73,6 @@ dmc-period-range index =
       leb→le (getD dmcPeriods (index % 16) 0) 428 (at (λ k x. leb x 428) dmcPeriods tt (index % 16) i),
     )
 
--- sample memory holds bytes
-pub Bytes : List ℕ → Type 0
-Bytes memory = (i : ℕ) → getD memory i 0 ≤ 255
-
 frame-put : (s : State) (h : StateRanged s) {f : Rattle.frame.specs.declared.Frame.Frame} → FrameRanged f → StateRanged (withFrame s f)
 frame-put s h r =
     record { square1 = h .square1; square2 = h .square2; triangle = h .triangle; noise = h .noise; dmc = h .dmc; frame = r }
@@ -96,7 +92,7 @@ timers-kept s h =
     }
 
 reader-kept : (memory : List ℕ) → Bytes memory → (s : State) → StateRanged s → StateRanged (readerClocked memory s)
-unfolding readerClocked Bytes
+unfolding readerClocked
 reader-kept memory b s h =
     record {
       square1 = h .square1;

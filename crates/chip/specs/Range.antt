@@ -1,5 +1,8 @@
 -- Document 01, "State, ranges and power-on": the whole state.
+use Prim.Native.Nat.{ℕ, _≤_}
 use mathlib.Core.Bool.{Bool}
+use mathlib.Core.List.{List}
+use lib.ListN.{getD}
 use Rattle.arith.specs.Pick.{both}
 use Rattle.square.specs.Range.{squareIn, squareOn}
 use Rattle.triangle.specs.Triangle.{triangleIn, triangleOn}
@@ -26,3 +29,7 @@ powerOn =
       dmc = dmcOn;
       frame = frameOn;
     }
+
+-- sample memory holds bytes
+abbrev pub Bytes : List ℕ → Type 0
+Bytes memory = (i : ℕ) → getD memory i 0 ≤ 255

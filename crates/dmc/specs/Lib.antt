@@ -1,4 +1,5 @@
 pub mod Clock
+pub mod Lag
 pub mod Leap
 pub mod Range
 pub mod Write

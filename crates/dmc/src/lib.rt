@@ -8,6 +8,7 @@ ghost use Rattle.dmc.specs.Clock.{levelMoved, outputStep, withTimer, out
 ghost use Rattle.dmc.specs.Write.{dmcWrite0, dmcWrite1, dmcWrite2, dmcWrite3, dmcWrite, switched, dmcEnabled};
 ghost use Rattle.dmc.specs.Range.{registersIn, outputIn, readerIn, dmcIn, dmcOn};
 
+pub mod lag;
 mod leap;
 
 // What the registers hold: interrupt enable, loop, period index, address byte, length byte.

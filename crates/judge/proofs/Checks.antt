@@ -1,14 +1,14 @@
 -- The check that the code makes is the one that is defined line by line. Assumes nothing.
 use mathlib.Core.Path.{_≡_, refl, ap, sym, _∙_}
-use mathlib.Core.List.{List, [], _∷_, _++_}
+use mathlib.Core.List.{List, [], _∷_}
 use mathlib.Core.Bool.{Bool, true, false}
-use Prim.Native.Nat.{ℕ, zero, suc, _+_, _*_, _≤_, _<_, min}
+use Prim.Native.Nat.{ℕ, _+_, _≤_, _<_, min}
 use native.Mathlib.Omega.{arith}
 use native.Mathlib.Nat.{mul-le-mul}
 use borrow.Author.Tests.{ltb-true, ltb-false, lt-ltb, le-ltb}
 use lib.ListN.{length, length-append}
 use lib.Dec.{eqb, ltb}
-use Rattle.arith.specs.Pick.{pick, either}
+use Rattle.arith.specs.Pick.{pick}
 use Rattle.line.specs.declared.Line.{Line}
 use Rattle.line.specs.declared.Line.the-variants.{Header, One, Loop, Done, Stop, Bad}
 use Rattle.line.specs.Said.{lineOf}
@@ -17,13 +17,13 @@ use Rattle.judge.specs.declared.Reading.{Reading}
 use Rattle.judge.specs.declared.Reading.the-variants.{Item, Refused}
 use Rattle.judge.specs.Lines.{linesOf, bytesAt, nextLine, startOf}
 use Rattle.judge.specs.Reading.{firstRead, readAt}
-use Rattle.judge.specs.Judge.{Verdict, right, wrong, Stand, first, among, over, headFault, verdict, behind, ending, unless, judge, judged}
-use Rattle.judge.specs.Tree.{Tree, end, act, loop, acts, times, clocks, turns}
+use Rattle.judge.specs.Judge.{right, wrong, first, among, over, headFault, verdict, behind, ending, unless, judge, judged}
+use Rattle.judge.specs.Tree.{Tree, end, act, loop, acts, clocks, turns}
 use Rattle.judge.specs.Whole.{grow, blocks, innermost, treeOf, Stopping, stopHere, stopFrom, stopOf, refusal, passed, heavy, weighed, unlessWrong, checkOf}
 use Rattle.judge.specs.Block.{Got, closed, stopped, refused, readBlock, totals, answer}
-use Rattle.judge.specs.Closing.{totalled, limited, closing, unread}
+use Rattle.judge.specs.Closing.{totalled, limited, closing}
 use Rattle.judge.proofs.Places.{Had, had, bytes-long, next-le, next-pos, read-first, read-long}
-use Rattle.judge.proofs.Totalling.{length-times, totals≡}
+use Rattle.judge.proofs.Totalling.{length-times}
 use Rattle.judge.proofs.Derived.{Ending, closes, stops, Reads, an-act, a-loop, a-done, a-stop, Derived, derived, inside-loop}
 use Rattle.judge.proofs.Judged.{linesFrom, judgeAt, lines-at, judge-at, judge-none, after, bridge}
 

@@ -1,23 +1,22 @@
 -- The reading of a block as a derivation, line by line: what proofs about a log that passed go by. Assumes nothing.
-use mathlib.Core.Path.{_≡_, refl, ap, sym, _∙_}
-use mathlib.Core.List.{List, [], _∷_}
+use mathlib.Core.Path.{_≡_, refl, ap, _∙_}
+use mathlib.Core.List.{List}
 use mathlib.Core.Bool.{Bool, true, false}
 use Prim.Native.Nat.{ℕ, zero, suc, _+_, _≤_, _<_}
 use native.Mathlib.Omega.{arith}
-use borrow.Author.Tests.{eqb-true, eqb-false, ltb-true, lt-ltb, ne-eqb}
+use borrow.Author.Tests.{eqb-true, eqb-false, lt-ltb, ne-eqb}
 use lib.ListN.{length}
 use lib.Dec.{eqb, ltb}
 use Rattle.arith.specs.Pick.{pick}
 use Rattle.line.specs.declared.Act.{Act}
-use Rattle.line.specs.declared.Line.{Line}
 use Rattle.line.specs.declared.Line.the-variants.{Header, One, Loop, Done, Stop, Bad}
 use Rattle.judge.specs.declared.Reading.{Reading}
 use Rattle.judge.specs.declared.Reading.the-variants.{Item}
 use Rattle.judge.specs.Reading.{readAt}
-use Rattle.judge.specs.Judge.{Verdict, right, wrong, fault}
+use Rattle.judge.specs.Judge.{right, wrong, fault}
 use Rattle.judge.specs.Tree.{Tree, end, act, loop}
-use Rattle.judge.specs.Block.{Got, closed, stopped, refused, Piece, one, many, shut, halt, bad, Begun, whole, opens, admitted, begun, begunBy, readBegun, looped, piece, before, onward, readBlock, readPart}
-use Rattle.judge.proofs.Places.{Had, had, had-text}
+use Rattle.judge.specs.Block.{Got, closed, stopped, refused, admitted, begun, begunBy, readBegun, looped, piece, before, onward, readBlock, readPart}
+use Rattle.judge.proofs.Places.{had, had-text}
 use Rattle.judge.proofs.Descent.{unrolled, begun-on, got-behind, BegunBehind, Behind}
 
 -- how a block ends: the place of its `done` and the place behind it; or the place of its `stop`, the place behind it and its number

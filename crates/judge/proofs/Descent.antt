@@ -2,7 +2,7 @@
 use mathlib.Core.Path.{_≡_, refl, ap, sym, _∙_}
 use mathlib.Core.List.{List, [], _∷_}
 use mathlib.Core.Bool.{Bool, true, false}
-use Prim.Native.Nat.{ℕ, zero, suc, _+_, _*_, _≤_, _<_, min}
+use Prim.Native.Nat.{ℕ, zero, suc, _+_, _*_, _≤_, _<_}
 use native.Mathlib.Omega.{arith}
 use borrow.Author.Tests.{ltb-true}
 use lib.ListN.{length}
@@ -21,12 +21,11 @@ use Rattle.judge.specs.declared.Part.{Part}
 use Rattle.judge.specs.declared.Part.the-variants.{Acts, Close, Halt}
 use Rattle.judge.specs.declared.Block.{Block}
 use Rattle.judge.specs.declared.Block.the-variants.{Closed, Stopped}
-use Rattle.judge.specs.Lines.{nextLine}
 use Rattle.judge.specs.Reading.{readAt}
-use Rattle.judge.specs.Judge.{Verdict, right, wrong, fault}
-use Rattle.judge.specs.Tree.{Tree, end, act, loop, acts, actClocks, clocks, turns}
-use Rattle.judge.specs.Block.{Got, closed, stopped, refused, Piece, one, many, shut, halt, bad, Begun, whole, opens, admitted, begun, begunBy, readBegun, looped, piece, before, onward, blockIn, readBlock, readPart, cut, noTotals, sumOf, timesOf, Small, totals, answer, partAnswer, stepAnswer, stepRefused, partEnd, SmallBlock, loopPart}
-use Rattle.judge.proofs.Places.{Had, HadIn, had-in, next-pos, next-le}
+use Rattle.judge.specs.Judge.{right, wrong, fault}
+use Rattle.judge.specs.Tree.{Tree, act, loop, acts, actClocks, clocks, turns}
+use Rattle.judge.specs.Block.{Got, closed, stopped, refused, Piece, one, many, shut, halt, bad, Begun, whole, opens, admitted, begun, begunBy, readBegun, looped, piece, before, onward, blockIn, readBlock, readPart, cut, noTotals, sumOf, Small, totals, answer, partAnswer, stepAnswer, partEnd, SmallBlock, loopPart}
+use Rattle.judge.proofs.Places.{HadIn, had-in, next-pos, next-le}
 use Rattle.judge.proofs.Totalling.{sum-sum, none-sum, small-sum, small-cut, act-sum, loop-sum, times-totals}
 
 -- where a block ends, and that the count of lines does not matter
@@ -233,12 +232,6 @@ end-plus (Acts p s) k t h o = absurd (miss (1 ∷ 2 ∷ 3 ∷ []) 0 tt o)
 end-plus (Close p q) k t h o = ap (Closed p q) (small-sum t h)
 end-plus (Halt p q n) k t h o = ap (Stopped p q n) (small-sum t h)
 end-plus (Part.Refused m p) k t h o = refl
-
--- and of a reading that is no `Item`
-pub step-refused : (r : Reading) (at d : ℕ) → OneOf (1 ∷ []) (tagOf Rattle.judge.proofs.Reading.the-type r) → stepRefused r ≡ stepAnswer (begunBy at d r)
-unfolding stepAnswer begunBy partAnswer
-step-refused (Item l p) at d o = absurd (miss (1 ∷ []) 0 tt o)
-step-refused (Reading.Refused k p) at d o = refl
 
 abbrev pub StepGood : ℕ → ℕ → ℕ → Step → Type 0
 StepGood at most d (Plain q) = Unit {0}

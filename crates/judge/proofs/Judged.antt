@@ -1,5 +1,5 @@
 -- The judgement line by line is what the reading by blocks finds. Assumes nothing.
-use mathlib.Core.Path.{_≡_, refl, ap, sym, _∙_}
+use mathlib.Core.Path.{_≡_, refl, ap, _∙_}
 use mathlib.Core.List.{List, [], _∷_}
 use mathlib.Core.Bool.{Bool, true, false}
 use Prim.Native.Nat.{ℕ, zero, suc, _+_, _-_, _≤_, _<_}
@@ -12,13 +12,12 @@ use Rattle.arith.specs.Pick.{pick}
 use Rattle.line.specs.declared.Line.{Line}
 use Rattle.line.specs.declared.Line.the-variants.{Header, One, Loop, Done, Stop, Bad}
 use Rattle.line.specs.Said.{lineOf}
-use Rattle.judge.specs.declared.Reading.the-variants.{Refused}
 use Rattle.judge.specs.Lines.{onto, linesOf, lineLen, bytesAt, nextLine}
-use Rattle.judge.specs.Reading.{laterRead, readAt}
-use Rattle.judge.specs.Judge.{Verdict, right, wrong, Stand, first, among, over, fault, verdict, leaves, behind, ending, unless, judge}
-use Rattle.judge.specs.Tree.{Tree, end, act, loop}
-use Rattle.judge.specs.Block.{Got, closed, stopped, refused, Piece, one, many, shut, halt, bad, Begun, whole, opens, admitted, begun, begunBy, readBegun, looped, piece, before, onward, readBlock, readPart}
-use Rattle.judge.proofs.Places.{bytes-long, next-pos, next-le, read-later, read-none}
+use Rattle.judge.specs.Reading.{laterRead}
+use Rattle.judge.specs.Judge.{Verdict, right, wrong, Stand, among, over, fault, verdict, leaves, behind, ending, unless, judge}
+use Rattle.judge.specs.Tree.{Tree, act, loop}
+use Rattle.judge.specs.Block.{Got, closed, stopped, refused, Begun, admitted, begun, begunBy, readBegun, looped, piece, before, onward, readBlock, readPart}
+use Rattle.judge.proofs.Places.{bytes-long, read-later, read-none}
 use Rattle.judge.proofs.Descent.{unrolled, begun-on, got-behind, BegunBehind, Behind}
 
 -- the first line of a text, and the lines behind it

@@ -2,10 +2,10 @@
 use mathlib.Core.Path.{_≡_, refl, ap, sym, _∙_}
 use mathlib.Core.List.{List, [], _∷_, _++_}
 use mathlib.Core.Bool.{Bool, true, false}
-use Prim.Native.Nat.{ℕ, zero, suc, _+_, _-_, _≤_, _<_, min}
+use Prim.Native.Nat.{ℕ, suc, _+_, _-_, _≤_, _<_}
 use native.Mathlib.Numerals.{add-one}
 use native.Mathlib.Omega.{arith}
-use borrow.Author.Tests.{eq-eqb, ne-eqb, lt-ltb, le-ltb, ltb-true, ltb-false, eqb-true, eqb-false}
+use borrow.Author.Tests.{eq-eqb, ne-eqb, lt-ltb, le-ltb, ltb-true, ltb-false}
 use lib.ListN.{length, getD, take, drop, length-drop, length-take, take-append-drop, drop-of-length-le}
 use lib.Seq.{drop-cons, drop-drop}
 use lib.Dec.{ltb, eqb}
@@ -17,7 +17,8 @@ use Rattle.line.specs.Printed.{lineText, Printable}
 use Rattle.line.proofs.Lines.{read-printed}
 use Rattle.judge.specs.declared.Reading.{Reading}
 use Rattle.judge.specs.declared.Reading.the-variants.{Item, Refused}
-use Rattle.judge.specs.Lines.{lineLen, bytesAt, nextLine, startOf}
+use Rattle.judge.specs.Lines.{lineLen, bytesAt, nextLine}
+use Rattle.judge.specs.Judge.{headFault}
 use Rattle.judge.specs.Reading.{firstRead, laterRead, lineRead, readAt}
 
 -- the length of a line
@@ -89,7 +90,7 @@ HadIn log at (Item l next) = Had log at l next
 HadIn log at (Refused k p) = Unit {0}
 
 had-first : (log : List ℕ) (at : ℕ) (l : Line) → length log ≤ 60000 → at < length log → lineOf (bytesAt log at) ≡ l → HadIn log at (firstRead (nextLine log at) l)
-unfolding firstRead
+unfolding firstRead headFault
 had-first log at Header s h e = record { short = s; inside = h; says = e; on = refl; fair = λ k q. let z : _≡_ {A = ℕ} 0 1 = cc in omega arith }
 had-first log at (One a) s h e = tt
 had-first log at (Loop n) s h e = tt

@@ -1,8 +1,8 @@
 -- Laws of totals that are cut off. Assumes nothing.
 use mathlib.Core.Path.{_≡_, refl, ap, sym, _∙_}
-use mathlib.Core.List.{List, [], _∷_, _++_}
+use mathlib.Core.List.{List, _++_}
 use mathlib.Core.Bool.{Bool, true, false}
-use Prim.Native.Nat.{ℕ, zero, suc, _+_, _*_, _≤_, _<_, min}
+use Prim.Native.Nat.{ℕ, zero, suc, _+_, _*_, _≤_, min}
 use native.Mathlib.Omega.{arith}
 use native.Mathlib.Nat.{zero-mul, suc-mul, zero-add, add-comm}
 use borrow.Author.Tests.{leb-true, leb-false}
@@ -10,7 +10,7 @@ use lib.ListN.{length, length-append}
 use lib.Dec.{leb}
 use Rattle.line.specs.declared.Act.{Act}
 use Rattle.judge.specs.declared.Totals.{Totals}
-use Rattle.judge.specs.Tree.{Tree, end, act, loop, acts, times, actClocks, clocks, turns}
+use Rattle.judge.specs.Tree.{Tree, act, loop, acts, times, actClocks, clocks, turns}
 use Rattle.judge.specs.Block.{cut, noTotals, sumOf, timesOf, Small, totals}
 
 pub totals≡ : {a b c a′ b′ c′ : ℕ} → a ≡ a′ → b ≡ b′ → c ≡ c′ → _≡_ {A = Totals} (record { clocks = a; turns = b; items = c }) (record { clocks = a′; turns = b′; items = c′ })

@@ -140,11 +140,7 @@ unfoldable pub stepAnswer : Begun → Step
 stepAnswer (whole q) = Plain (partAnswer q)
 stepAnswer (opens n p) = Open n p
 
--- a line that was not read, and an answer that no caller asks for
-abbrev pub stepRefused : Reading → Step
-stepRefused (Item l p) = Plain (Part.Refused 0 p)
-stepRefused (Reading.Refused k p) = Plain (Part.Refused k p)
-
+-- the block that a line ends, with the totals before it; no caller asks of acts
 abbrev pub partEnd : Part → Totals → Block
 partEnd (Acts p t′) t = Block.Refused 0 p
 partEnd (Close p q) t = Closed p q t

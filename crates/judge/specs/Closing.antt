@@ -2,8 +2,6 @@
 use Prim.Native.Nat.{ℕ}
 use lib.Dec.{eqb, ltb}
 use Rattle.arith.specs.Pick.{pick}
-use Rattle.judge.specs.declared.Reading.{Reading}
-use Rattle.judge.specs.declared.Reading.the-variants.{Item}
 use Rattle.judge.specs.declared.Totals.{Totals}
 use Rattle.judge.specs.declared.Block.{Block}
 use Rattle.judge.specs.declared.Block.the-variants.{Closed, Stopped}
@@ -23,7 +21,3 @@ abbrev pub closing : ℕ → Block → Checked
 closing length (Closed p q t) = refusal 6 q
 closing length (Stopped p q n t) = pick (ltb q length) (refusal 6 q) (limited t p n)
 closing length (Block.Refused k p) = refusal k p
-
-abbrev pub unread : Reading → Checked
-unread (Item l p) = refusal 0 p
-unread (Reading.Refused k p) = refusal k p

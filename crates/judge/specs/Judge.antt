@@ -29,15 +29,24 @@ headFault at Done = wrong 6 at
 headFault at (Stop n) = wrong 6 at
 headFault at (Bad k) = wrong 6 at
 
--- the fault of a line that begins at `at`, where d loops are open. 7: "a ninth loop opened inside eight"; 8: "`done` with no loop open, or `stop`
--- with one open"; a line at fault by itself has its own number, 4 or 6; "the start of the faulty line" is the place
+-- the fault of a line by itself, behind the first: `log=1` again is 6, and a line not of the form, or to no register, has its own number, 6 or 4;
+-- "the start of the faulty line" is the place
+abbrev pub ownFault : ℕ → Line → Verdict
+ownFault at Header = wrong 6 at
+ownFault at (One a) = right
+ownFault at (Loop n) = right
+ownFault at Done = right
+ownFault at (Stop n) = right
+ownFault at (Bad k) = wrong k at
+
+-- the same where d loops are open. 7: "a ninth loop opened inside eight"; 8: "`done` with no loop open, or `stop` with one open"
 unfoldable pub fault : ℕ → ℕ → Line → Verdict
-fault at d Header = wrong 6 at
-fault at d (One a) = right
+fault at d Header = ownFault at Header
+fault at d (One a) = ownFault at (One a)
 fault at d (Loop n) = pick (ltb d 8) right (wrong 7 at)
 fault at d Done = pick (eqb d 0) (wrong 8 at) right
 fault at d (Stop n) = pick (eqb d 0) right (wrong 8 at)
-fault at d (Bad k) = wrong k at
+fault at d (Bad k) = ownFault at (Bad k)
 
 -- the verdict on one line; "Last `stop=N` .., then nothing"
 unfoldable pub verdict : Stand → ℕ → List ℕ → Verdict

@@ -1,6 +1,6 @@
 pub mod Lines
-pub mod Reading
 pub mod Judge
+pub mod Reading
 pub mod Tree
 pub mod Whole
 pub mod Block

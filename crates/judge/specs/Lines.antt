@@ -1,7 +1,7 @@
 -- The lines of a log. Document 01: "Lines end in one line feed."
 use Prim.Native.Nat.{ℕ, suc, _+_}
 use mathlib.Core.List.{List, [], _∷_}
-use lib.ListN.{length, take, drop}
+use lib.ListN.{take, drop}
 use lib.Dec.{eqb}
 use Rattle.arith.specs.Pick.{pick}
 

@@ -1,33 +1,36 @@
 -- Reading one line at any place. Document 01: "Reading a line yields an item or a refusal with its place".
-use Prim.Native.Nat.{ℕ, suc}
+use Prim.Native.Nat.{ℕ}
 use mathlib.Core.List.{List}
 use lib.ListN.{length}
 use lib.Dec.{eqb, ltb}
 use Rattle.arith.specs.Pick.{pick}
 use Rattle.line.specs.declared.Line.{Line}
-use Rattle.line.specs.declared.Line.the-variants.{Header, One, Loop, Done, Stop, Bad}
 use Rattle.line.specs.Said.{lineOf}
 use Rattle.judge.specs.declared.Reading.{Reading}
 use Rattle.judge.specs.declared.Reading.the-variants.{Item, Refused}
 use Rattle.judge.specs.Lines.{bytesAt, nextLine}
+use Rattle.judge.specs.Judge.{Verdict, right, wrong, headFault, ownFault}
 
--- "First `log=1`": at place 0 nothing else is an item
+-- document 01's number and place for each answer: 0 at 0 for an item
+abbrev pub numberOf : Reading → ℕ
+numberOf (Item l next) = 0
+numberOf (Refused k p) = k
+
+abbrev pub placeOf : Reading → ℕ
+placeOf (Item l next) = 0
+placeOf (Refused k p) = p
+
+-- a line that is right is an item
+abbrev pub taken : Line → ℕ → Verdict → Reading
+taken l next right = Item l next
+taken l next (wrong k p) = Refused k p
+
+-- at place 0 only `log=1` is an item; further on any line that is right by itself, since no depth is known
 unfoldable pub firstRead : ℕ → Line → Reading
-firstRead next Header = Item Header next
-firstRead next (One a) = Refused 6 0
-firstRead next (Loop n) = Refused 6 0
-firstRead next Done = Refused 6 0
-firstRead next (Stop n) = Refused 6 0
-firstRead next (Bad k) = Refused 6 0
+firstRead next l = taken l next (headFault 0 l)
 
--- further on `log=1` is none; a line that is at fault by itself has its own number, 4 or 6
 unfoldable pub laterRead : ℕ → ℕ → Line → Reading
-laterRead at next Header = Refused 6 at
-laterRead at next (One a) = Item (One a) next
-laterRead at next (Loop n) = Item (Loop n) next
-laterRead at next Done = Item Done next
-laterRead at next (Stop n) = Item (Stop n) next
-laterRead at next (Bad k) = Refused k at
+laterRead at next l = taken l next (ownFault at l)
 
 -- the line at a place says l
 unfoldable pub lineRead : ℕ → ℕ → Line → Reading

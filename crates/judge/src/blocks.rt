@@ -5,13 +5,15 @@ use super::Part;
 use super::Reading;
 use super::Step;
 use super::Totals;
+use super::lines::number;
+use super::lines::place;
 use super::lines::read;
 use line::Act;
 use line::Line;
 ghost use mathlib.Core.Path.{_≡_};
 ghost use Prim.Native.Nat.{_<_, _≤_, min};
 ghost use Rattle.judge.specs.Tree.{actClocks};
-ghost use Rattle.judge.specs.Block.{Small, SmallBlock, cut, noTotals, sumOf, timesOf, begun, readBegun, readPart, readBlock, stepAnswer, stepRefused, partAnswer, partEnd, loopPart, answer};
+ghost use Rattle.judge.specs.Block.{Small, SmallBlock, cut, noTotals, sumOf, timesOf, begun, readBegun, readPart, readBlock, stepAnswer, partAnswer, partEnd, loopPart, answer};
 
 fn cap(x: u64, most: u64) -> u64
     ensures { λ r. ⌜ r ≡ min most x ⌝ }
@@ -109,23 +111,13 @@ fn opened(l: Line, at: usize, next: usize, depth: u64) -> Step
     }
 }
 
-// The refusal of a line that was not read.
-fn refused(r: Reading) -> Step
-    ensures { λ s. ⌜ s ≡ stepRefused r ⌝ }
-{
-    match r {
-        Reading::Item(_, next) => Step::Plain(Part::Refused(0, next)),
-        Reading::Refused(number, place) => Step::Plain(Part::Refused(number, place)),
-    }
-}
-
 // The line at a place, taken apart.
 fn begin(log: &[u8], at: usize, depth: u64) -> Step
     ensures { λ r. ⌜ r ≡ stepAnswer (readBegun (now (log .entry)) at depth) ⌝ }
 {
     let r = read(log, at);
     let Reading::Item(l, next) = r else {
-        return refused(r);
+        return Step::Plain(Part::Refused(number(r), place(r)));
     };
     opened(l, at, next, depth)
 }

@@ -4,12 +4,14 @@ use super::Checked;
 use super::Reading;
 use super::Totals;
 use super::blocks::read_block;
+use super::lines::number;
+use super::lines::place;
 use super::lines::read;
 use super::lines::start;
 ghost use mathlib.Core.Path.{_≡_};
 ghost use lib.ListN.{length};
 ghost use Rattle.judge.specs.Whole.{refusal, checkOf};
-ghost use Rattle.judge.specs.Closing.{totalled, limited, unread, closing};
+ghost use Rattle.judge.specs.Closing.{totalled, limited, closing};
 
 // The answer of a refusal.
 fn refusal(number: u8, place: usize) -> Checked
@@ -70,23 +72,13 @@ fn closed(length: usize, b: Block) -> Checked
     }
 }
 
-// The refusal of a first line that was not read.
-fn unread(r: Reading) -> Checked
-    ensures { λ c. ⌜ c ≡ unread r ⌝ }
-{
-    match r {
-        Reading::Item(_, next) => refusal(0, next),
-        Reading::Refused(number, place) => refusal(number, place),
-    }
-}
-
 // Whether a log passes, and its totals; or the first thing that is wrong with it.
 pub fn check(log: &[u8]) -> Checked
     ensures { λ r. ⌜ r ≡ checkOf (now (log .entry)) ⌝ }
 {
     let r = read(log, 0);
     let Reading::Item(_, _) = r else {
-        return unread(r);
+        return refusal(number(r), place(r));
     };
     closed(log.len(), read_block(log, start(log), 0))
 }

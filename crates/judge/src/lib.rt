@@ -7,6 +7,8 @@ pub mod lines;
 
 pub use blocks::read_block;
 pub use checking::check;
+pub use lines::number;
+pub use lines::place;
 pub use lines::read;
 pub use lines::start;
 

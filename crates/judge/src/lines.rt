@@ -5,7 +5,27 @@ ghost use mathlib.Core.Path.{_≡_};
 ghost use Prim.Native.Nat.{_+_, _≤_};
 ghost use lib.ListN.{length, drop};
 ghost use Rattle.judge.specs.Lines.{lineLen, startOf};
-ghost use Rattle.judge.specs.Reading.{firstRead, laterRead, lineRead, readAt};
+ghost use Rattle.judge.specs.Reading.{numberOf, placeOf, firstRead, laterRead, lineRead, readAt};
+
+// The number of a reading: 0, or the refusal's.
+pub fn number(r: Reading) -> u8
+    ensures { λ n. ⌜ n ≡ numberOf r ⌝ }
+{
+    match r {
+        Reading::Item(_, _) => 0,
+        Reading::Refused(k, _) => k,
+    }
+}
+
+// The place of a reading: 0, or the refusal's.
+pub fn place(r: Reading) -> usize
+    ensures { λ p. ⌜ p ≡ placeOf r ⌝ }
+{
+    match r {
+        Reading::Item(_, _) => 0,
+        Reading::Refused(_, p) => p,
+    }
+}
 
 // Where the line that begins at a place ends: behind its line feed, or at the log's end.
 fn line_end(log: &[u8], at: usize) -> usize

@@ -1,23 +1,21 @@
 -- The readers read the text of a tree within the limits as that tree, anywhere in a log. Assumes nothing.
 use mathlib.Core.Path.{_≡_, refl, ap, sym, _∙_}
-use mathlib.Core.List.{List, [], _∷_, _++_, append-assoc}
-use Prim.Native.Nat.{ℕ, suc, _+_, _≤_, _<_}
+use mathlib.Core.List.{List, _++_, append-assoc}
+use Prim.Native.Nat.{ℕ, _+_, _≤_, _<_}
 use native.Mathlib.Omega.{arith}
-use lib.ListN.{length, take, drop, length-append}
+use lib.ListN.{length, drop, length-append}
 use lib.Seq.{drop-at, take-at}
-use Rattle.line.specs.declared.Act.{Act}
 use Rattle.line.specs.declared.Line.{Line}
-use Rattle.line.specs.declared.Line.the-variants.{One, Loop, Done, Stop}
+use Rattle.line.specs.declared.Line.the-variants.{One, Loop, Done}
 use Rattle.line.specs.Said.{lineOf}
-use Rattle.line.specs.Printed.{lineText, Printable, OneLine}
+use Rattle.line.specs.Printed.{lineText, Printable}
 use Rattle.line.proofs.Lines.{printed-read, one-line}
-use Rattle.judge.specs.declared.Reading.the-variants.{Item}
-use Rattle.judge.specs.Lines.{lineLen, bytesAt, nextLine}
+use Rattle.judge.specs.Lines.{bytesAt, nextLine}
 use Rattle.judge.specs.Reading.{laterRead, readAt}
 use Rattle.judge.specs.Tree.{Tree, end, act, loop, text, Within}
-use Rattle.judge.specs.Block.{closed, stopped, readBlock}
+use Rattle.judge.specs.Block.{closed, readBlock}
 use Rattle.judge.proofs.Places.{read-later}
-use Rattle.judge.proofs.Derived.{Ending, closes, stops, Reads, an-act, a-loop, a-done, a-stop, got, block-of}
+use Rattle.judge.proofs.Derived.{Ending, closes, Reads, an-act, a-loop, a-done, block-of}
 use Rattle.log.proofs.Written.{line-len, act-text, loop-text, act-long, loop-long, joined, joined-end}
 
 -- a line's text has a byte at least

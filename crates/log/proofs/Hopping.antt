@@ -1,8 +1,8 @@
 -- The walk to an act: each step of it keeps the act. Assumes nothing.
-use mathlib.Core.Path.{_≡_, refl, ap, sym, _∙_}
+use mathlib.Core.Path.{_≡_, refl, ap, _∙_}
 use mathlib.Core.List.{List, [], _∷_, _++_}
 use mathlib.Core.Bool.{Bool, true, false}
-use Prim.Native.Nat.{ℕ, zero, suc, _+_, _-_, _*_, _%_, _≤_, _<_, min}
+use Prim.Native.Nat.{ℕ, suc, _+_, _-_, _*_, _%_, _≤_, _<_, min}
 use native.Mathlib.Omega.{arith}
 use native.Mathlib.Nat.{mod-lt, mod-le}
 use borrow.Author.Tests.{ltb-true, ltb-false, eqb-true, eqb-false}
@@ -20,11 +20,11 @@ use Rattle.judge.specs.declared.Reading.the-variants.{Item}
 use Rattle.judge.specs.declared.Block.{Block}
 use Rattle.judge.specs.declared.Block.the-variants.{Closed, Stopped}
 use Rattle.judge.specs.Reading.{readAt}
-use Rattle.judge.specs.Tree.{Tree, end, act, loop, acts, times}
+use Rattle.judge.specs.Tree.{Tree, loop, acts, times}
 use Rattle.judge.specs.Block.{Got, closed, stopped, refused, readBlock, gotTree, totals, answer}
-use Rattle.judge.proofs.Places.{Had, had, next-pos, next-le}
+use Rattle.judge.proofs.Places.{had, next-pos, next-le}
 use Rattle.judge.proofs.Totalling.{length-times}
-use Rattle.judge.proofs.Descent.{got-behind, Behind}
+use Rattle.judge.proofs.Descent.{got-behind}
 use Rattle.judge.proofs.Derived.{Ending, closes, stops, Reads, an-act, a-loop, a-done, a-stop, Derived, derived, got, block-of}
 use Rattle.log.specs.declared.Hop.{Hop}
 use Rattle.log.specs.declared.Hop.the-variants.{Here, On, Lost}

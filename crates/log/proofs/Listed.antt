@@ -6,7 +6,6 @@ use native.Mathlib.Omega.{arith}
 use native.Mathlib.Nat.{zero-mul, suc-mul, add-comm}
 use borrow.Author.Tests.{eq-eqb, ne-eqb, lt-ltb, le-ltb}
 use lib.ListN.{length, getD}
-use lib.Dec.{eqb, ltb}
 use Rattle.line.specs.declared.Act.{Act}
 use Rattle.line.specs.declared.Act.the-variants.{Wait}
 use Rattle.judge.specs.declared.Checked.{Checked}
@@ -14,11 +13,10 @@ use Rattle.judge.specs.Lines.{startOf}
 use Rattle.judge.specs.Tree.{Tree, end, act, loop, acts, times, actClocks, clocks, turns, logText, Within}
 use Rattle.judge.specs.Whole.{treeOf, checkOf}
 use Rattle.judge.proofs.Checks.{acts-le}
-use Rattle.log.specs.declared.Found.{Found}
 use Rattle.log.specs.declared.Found.the-variants.{Is, Refused}
 use Rattle.log.specs.Items.{nth, itemOf}
 use Rattle.log.specs.Walk.{actsAt}
-use Rattle.log.proofs.Passing.{Clear, clear, passes, Passing, passing, printed}
+use Rattle.log.proofs.Passing.{clear, passes, passing, printed}
 use Rattle.log.proofs.Hopping.{acts-of}
 
 module _ (log : List ℕ) (k : ℕ) where

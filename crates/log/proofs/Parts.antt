@@ -1,39 +1,36 @@
 -- A loop's body is the part of the log between its line and its `done`. Assumes nothing.
 use mathlib.Core.Path.{_≡_, refl, ap, sym, _∙_}
-use mathlib.Core.List.{List, [], _∷_, _++_, append-assoc}
+use mathlib.Core.List.{List, [], _∷_, _++_}
 use mathlib.Core.Bool.{Bool, true, false}
 use Prim.Native.Nat.{ℕ, zero, suc, _+_, _-_, _≤_, _<_}
-use native.Mathlib.Numerals.{add-one, sub-one}
 use native.Mathlib.Omega.{arith}
 use borrow.Author.Tests.{eq-eqb, ne-eqb, ltb-true, ltb-false, eqb-true, eqb-false}
 use lib.ListN.{length, getD, take, drop, length-append, take-append-drop}
-use lib.Seq.{getD-drop, drop-drop, take-at}
+use lib.Seq.{getD-drop, take-at}
 use lib.Dec.{eqb, ltb}
 use types.Run.{OneOf, miss}
 use denote.Enum.Declared.{tagOf}
-use Rattle.arith.specs.Pick.{pick, both, either}
+use Rattle.arith.specs.Pick.{pick, both}
 use Rattle.arith.proofs.Picks.{both-left, both-right}
 use Rattle.line.specs.declared.Line.{Line}
 use Rattle.line.specs.declared.Line.the-variants.{Header, One, Loop, Done, Stop, Bad}
-use Rattle.line.specs.Printed.{lineText, Printable}
-use Rattle.judge.specs.declared.Checked.{Checked}
+use Rattle.line.specs.Printed.{lineText}
 use Rattle.judge.specs.declared.Reading.{Reading}
 use Rattle.judge.specs.declared.Reading.the-variants.{Item, Refused}
 use Rattle.judge.specs.declared.Block.{Block}
 use Rattle.judge.specs.declared.Totals.{Totals}
 use Rattle.judge.specs.declared.Block.the-variants.{Closed}
-use Rattle.judge.specs.Lines.{lineLen, bytesAt, nextLine, startOf}
+use Rattle.judge.specs.Lines.{lineLen, nextLine, startOf}
 use Rattle.judge.specs.Reading.{readAt}
-use Rattle.judge.specs.Tree.{Tree, end, act, loop, text, Within}
-use Rattle.judge.specs.Whole.{treeOf, checkOf}
-use Rattle.judge.specs.Block.{Got, closed, stopped, refused, readBlock, totals, answer}
-use Rattle.judge.proofs.Places.{Had, had, had-text, bytes-long, next-pos}
-use Rattle.judge.proofs.Descent.{got-behind, Behind}
-use Rattle.judge.proofs.Derived.{Ending, closes, stops, Reads, an-act, a-loop, a-done, a-stop, block-of, inside-loop}
+use Rattle.judge.specs.Tree.{Tree, text, Within}
+use Rattle.judge.specs.Whole.{checkOf}
+use Rattle.judge.specs.Block.{readBlock, totals, answer}
+use Rattle.judge.proofs.Places.{Had, had, had-text, bytes-long}
+use Rattle.judge.proofs.Descent.{got-behind}
+use Rattle.judge.proofs.Derived.{Ending, closes, stops, Reads, an-act, a-loop, a-done, a-stop, block-of}
 use Rattle.judge.proofs.Judged.{linesFrom, lines-at}
-use Rattle.log.specs.declared.Answer.{Answer}
 use Rattle.log.specs.Bodies.{beginsLine, isLoop, readsLoop, beginsLoop, bodyCheckOf, isDone, inner, doneFrom, between, bodyOf}
-use Rattle.log.proofs.Passing.{Clear, clear, Passing, passing, had-split, tailOf, text-of, within-of}
+use Rattle.log.proofs.Passing.{clear, Passing, passing, had-split, text-of, within-of}
 
 -- no line begins inside a line
 

@@ -2,25 +2,23 @@
 use mathlib.Core.Path.{_≡_, refl, ap, ap₂, sym, _∙_}
 use mathlib.Core.List.{List, [], _∷_, _++_, append-assoc, append-nil}
 use mathlib.Core.Bool.{Bool, true, false}
-use mathlib.Core.Logic.{_⊎_, inl, inr, ⊎-elim}
-use Prim.Native.Nat.{ℕ, zero, suc, _+_, _≤_, _<_}
+use mathlib.Core.Logic.{⊎-elim}
+use Prim.Native.Nat.{ℕ, _+_, _≤_, _<_}
 use native.Mathlib.Omega.{arith}
-use borrow.Author.Tests.{eqb-true, eqb-false, ltb-true, ltb-false, eq-eqb, le-ltb}
-use lib.ListN.{length, drop, length-append, drop-of-length-le}
+use borrow.Author.Tests.{eqb-true, ltb-false, eq-eqb, le-ltb}
+use lib.ListN.{length, drop, drop-of-length-le}
 use lib.Dec.{eqb, ltb}
 use Rattle.arith.specs.Pick.{pick, either}
-use Rattle.line.specs.declared.Act.{Act}
 use Rattle.line.specs.declared.Line.{Line}
 use Rattle.line.specs.declared.Line.the-variants.{Header, One, Loop, Done, Stop, Bad}
 use Rattle.line.specs.Said.{lineOf}
 use Rattle.line.specs.Printed.{lineText, Printable}
 use Rattle.line.proofs.Lines.{bad-number}
-use Rattle.judge.specs.declared.Checked.{Checked}
 use Rattle.judge.specs.declared.Reading.the-variants.{Item}
 use Rattle.judge.specs.Lines.{linesOf, bytesAt, nextLine, startOf}
 use Rattle.judge.specs.Reading.{firstRead, readAt}
 use Rattle.judge.specs.Judge.{Verdict, right, wrong, Stand, first, among, over, headFault, fault, verdict, behind, ending, unless, judge, judged}
-use Rattle.judge.specs.Tree.{Tree, end, act, loop, acts, clocks, turns, text, logText, Within}
+use Rattle.judge.specs.Tree.{Tree, clocks, turns, text, logText, Within}
 use Rattle.judge.specs.Whole.{grow, blocks, innermost, treeOf, Stopping, stopHere, stopFrom, stopOf, refusal, passed, heavy, weighed, unlessWrong, checkOf}
 use Rattle.judge.specs.Block.{Got, closed, stopped, refused, readBlock}
 use Rattle.judge.proofs.Places.{Had, had, had-text, line-split, next-pos, next-le, read-first}
@@ -175,7 +173,7 @@ module _ (log : List ℕ) (c : Clear log) where
   headed = first-line (lineOf (bytesAt log 0)) refl (sym (judged-first log (c .short) some (lineOf (bytesAt log 0)) refl) ∙ c .fine)
 
   at-header : readAt log 0 ≡ Item Header (startOf log)
-  unfolding firstRead startOf
+  unfolding firstRead headFault startOf
   at-header = read-first log Header (c .short) some headed
 
   -- the lines behind it come to a block that `stop` ends

@@ -1,18 +1,17 @@
 -- What is written is read: the text of a tree within the limits stands for that tree, whatever stands before and behind it. Assumes nothing.
-use mathlib.Core.Path.{_≡_, refl, ap, ap₂, sym, _∙_}
+use mathlib.Core.Path.{_≡_, refl, ap, sym, _∙_}
 use mathlib.Core.List.{List, [], _∷_, _++_, append-assoc, append-nil}
-use Prim.Native.Nat.{ℕ, suc, _+_, _-_, _<_}
+use Prim.Native.Nat.{ℕ, suc, _+_, _-_}
 use native.Mathlib.Omega.{arith}
-use borrow.Author.Tests.{ne-eqb, lt-ltb, le-ltb}
+use borrow.Author.Tests.{ne-eqb, lt-ltb}
 use lib.ListN.{length, length-append}
-use lib.Dec.{eqb, ltb}
 use Rattle.line.specs.declared.Act.{Act}
 use Rattle.line.specs.declared.Line.{Line}
 use Rattle.line.specs.declared.Line.the-variants.{Header, One, Loop, Done, Stop}
-use Rattle.line.specs.Printed.{lineText, Printable, NoFeed, empty, byte, OneLine}
+use Rattle.line.specs.Printed.{lineText, Printable, NoFeed, empty, byte}
 use Rattle.line.proofs.Lines.{printed-read, one-line}
 use Rattle.judge.specs.Lines.{onto, linesOf, lineLen}
-use Rattle.judge.specs.Judge.{Verdict, right, wrong, Stand, first, among, over, headFault, fault, verdict, leaves, behind, ending, unless, judge, judged}
+use Rattle.judge.specs.Judge.{right, first, among, headFault, fault, verdict, leaves, behind, ending, unless, judge, judged}
 use Rattle.judge.specs.Tree.{Tree, end, act, loop, text, logText, Within}
 use Rattle.judge.specs.Whole.{grow, blocks, innermost, treeOf, Stopping, stopHere, stopFrom, stopOf}
 

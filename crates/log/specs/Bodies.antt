@@ -9,7 +9,6 @@ use Rattle.arith.specs.Pick.{pick, both, either}
 use Rattle.line.specs.declared.Line.{Line}
 use Rattle.line.specs.declared.Line.the-variants.{Header, One, Loop, Done, Stop, Bad}
 use Rattle.line.specs.Said.{lineOf}
-use Rattle.judge.specs.declared.Checked.{Checked}
 use Rattle.judge.specs.declared.Reading.{Reading}
 use Rattle.judge.specs.declared.Reading.the-variants.{Item, Refused}
 use Rattle.judge.specs.Lines.{linesOf, nextLine}

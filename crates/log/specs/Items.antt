@@ -1,4 +1,4 @@
--- Item k of a log, counted from 0. Document 01, demand 2: "A log that passes stands for one list of accesses and waits, and item k of it is the
+-- Item k of a log, counted from 0. Demand 2: "A log that passes stands for one list of accesses and waits, and item k of it is the
 -- one handed out."
 use Prim.Native.Nat.{ℕ}
 use mathlib.Core.List.{List}
@@ -7,11 +7,19 @@ use lib.Dec.{eqb, ltb}
 use Rattle.arith.specs.Pick.{pick}
 use Rattle.line.specs.declared.Act.{Act}
 use Rattle.line.specs.declared.Act.the-variants.{Wait}
-use Rattle.judge.specs.declared.Checked.{Checked}
 use Rattle.judge.specs.Tree.{acts}
 use Rattle.judge.specs.Whole.{treeOf, checkOf}
 use Rattle.log.specs.declared.Found.{Found}
 use Rattle.log.specs.declared.Found.the-variants.{Is, Refused}
+
+-- document 01's number and place for each answer: 0 at 0 for an act
+abbrev pub numberOf : Found → ℕ
+numberOf (Is a) = 0
+numberOf (Refused k p) = k
+
+abbrev pub placeOf : Found → ℕ
+placeOf (Is a) = 0
+placeOf (Refused k p) = p
 
 -- the k-th of a list of acts; 11 at 0: "item k asked for and the log has k or fewer"
 unfoldable pub nth : List Act → ℕ → Found
@@ -22,12 +30,3 @@ unfoldable pub itemOf : List ℕ → ℕ → Found
 itemOf log k =
     pick (eqb (checkOf log .number) 0) (nth (acts (treeOf log)) k)
     (Refused (checkOf log .number) (checkOf log .place))
-
--- document 01's number and place for each answer: 0 at 0 for an act
-abbrev pub numberOf : Found → ℕ
-numberOf (Is a) = 0
-numberOf (Refused k p) = k
-
-abbrev pub placeOf : Found → ℕ
-placeOf (Is a) = 0
-placeOf (Refused k p) = p

@@ -9,7 +9,6 @@ use Rattle.line.specs.declared.Act.{Act}
 use Rattle.line.specs.declared.Act.the-variants.{Wait}
 use Rattle.judge.specs.declared.Block.{Block}
 use Rattle.judge.specs.declared.Block.the-variants.{Closed, Stopped, Refused}
-use Rattle.judge.specs.declared.Totals.{Totals}
 use Rattle.judge.specs.Tree.{acts}
 use Rattle.judge.specs.Block.{readBlock, gotTree}
 use Rattle.log.specs.declared.Hop.{Hop}

@@ -10,8 +10,28 @@ ghost use Prim.Native.Nat.{_≤_, _<_};
 ghost use lib.ListN.{length, getD};
 ghost use Rattle.line.specs.declared.Act.the-variants.{Wait};
 ghost use Rattle.judge.specs.Block.{SmallBlock};
-ghost use Rattle.log.specs.Items.{itemOf};
+ghost use Rattle.log.specs.Items.{numberOf, placeOf, itemOf};
 ghost use Rattle.log.specs.Walk.{actsAt, stayOf, insideOf, hereOf, Hops};
+
+// The number of an answer: 0, or the refusal's.
+pub fn number(f: Found) -> u8
+    ensures { λ n. ⌜ n ≡ numberOf f ⌝ }
+{
+    match f {
+        Found::Is(_) => 0,
+        Found::Refused(k, _) => k,
+    }
+}
+
+// The place of an answer: 0, or the refusal's.
+pub fn place(f: Found) -> usize
+    ensures { λ p. ⌜ p ≡ placeOf f ⌝ }
+{
+    match f {
+        Found::Is(_) => 0,
+        Found::Refused(_, p) => p,
+    }
+}
 
 fn wide(x: u8) -> u64
     ensures { λ r. ⌜ r ≡ x ⌝ }

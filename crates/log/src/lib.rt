@@ -7,6 +7,8 @@ pub mod items;
 pub use bodies::body;
 pub use bodies::body_check;
 pub use items::item;
+pub use items::number;
+pub use items::place;
 
 // Item k: an act, or a refusal's number and place.
 pub enum Found {

@@ -1,3 +1,4 @@
+pub mod Lag
 pub mod Leap
 pub mod Noise
 pub mod Shifter

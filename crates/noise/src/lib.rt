@@ -7,6 +7,7 @@ ghost use Rattle.noise.specs.Noise.{noiseTimed, noiseEnveloped, noiseLen
 use units::envelope::Envelope;
 use units::length::Length;
 
+pub mod lag;
 pub mod leap;
 
 // What the timer moves: its count and the shift register.

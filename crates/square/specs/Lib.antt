@@ -1,3 +1,6 @@
+pub mod Lag
+pub mod Leap
+pub mod Packed
 pub mod Range
 pub mod Sequencer
 pub mod Square

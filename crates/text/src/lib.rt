@@ -1,6 +1,6 @@
 // Text in bytes: keys, decimals and hex, read.
 ghost use mathlib.Core.Path.{_≡_};
-ghost use Prim.Native.Nat.{_-_, _≤_};
+ghost use Prim.Native.Nat.{ℕ, _+_, _-_, _≤_, _<_};
 ghost use lib.ListN.{length, drop};
 ghost use Rattle.text.specs.Key.{startsWith, exactly};
 ghost use Rattle.text.specs.Numbers.{within, capped};

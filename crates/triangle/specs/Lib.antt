@@ -1,2 +1,4 @@
+pub mod Lag
+pub mod Leap
 pub mod Triangle
 pub mod Write

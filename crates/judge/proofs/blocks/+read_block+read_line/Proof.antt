@@ -1,31 +1,29 @@
-use Rattle.judge.specs.Block.{loopPart}
-use Rattle.judge.proofs.Descent.{finish, part-of, step-good}
-use Rattle.judge.proofs.Descent.{plus, plus-plus, plus-none, carry, part-good, turn, end-plus, answer-small}
-use Rattle.judge.proofs.Totalling.{small-cut}
-use Rattle.judge.specs.Block.{answer, readBlock, partAnswer, stepAnswer, readPart, piece, Small}
-use Rattle.judge.specs.declared.Totals.{Totals}
-use Rattle.judge.specs.declared.Block.{Block}
-use Rattle.judge.specs.declared.Part.{Part}
-use lib.ListN.{length}
-use mathlib.Core.Path.{_≡_, refl, sym, ap, ap₂, _∙_}
-use denote.Ref.{now}
-use borrow.Author.Needs.{needs}
-use native.Mathlib.Omega.{arith}
 use Prim.Native.Nat.{ℕ, _+_, _-_, _*_, _≤_, _<_}
+use borrow.Author.Needs.{needs}
 use borrow.Fn.Kinds.{In}
 use borrow.Fn.PlainCycle.{Measures, is, falls, and}
-use Rattle.judge.proofs.blocks.read_block.Reads as read-block
-use Rattle.judge.proofs.blocks.read_block.Kinds as read-block-kinds
+use denote.Ref.{now}
+use lib.ListN.{length}
+use mathlib.Core.Path.{_≡_, sym, ap, _∙_}
+use native.Mathlib.Omega.{arith}
+use Rattle.judge.proofs.Descent.{plus, plus-plus, plus-none, carry, part-good, turn, end-plus, answer-small, finish, part-of, step-good}
+use Rattle.judge.proofs.Totalling.{small-cut}
 use Rattle.judge.proofs.blocks.+read_block+read_line.Lts-read_block as read-block-lts
-use Rattle.judge.proofs.blocks.read_line.Reads as read-line
-use Rattle.judge.proofs.blocks.read_line.Kinds as read-line-kinds
 use Rattle.judge.proofs.blocks.+read_block+read_line.Lts-read_line as read-line-lts
+use Rattle.judge.proofs.blocks.+read_block+read_line.{statement}
 use Rattle.judge.proofs.blocks.begin.Reads as begin-reads
 use Rattle.judge.proofs.blocks.ended.Reads as ended-reads
 use Rattle.judge.proofs.blocks.nothing.Reads as nothing-reads
+use Rattle.judge.proofs.blocks.read_block.Kinds as read-block-kinds
+use Rattle.judge.proofs.blocks.read_block.Reads as read-block
+use Rattle.judge.proofs.blocks.read_line.Kinds as read-line-kinds
+use Rattle.judge.proofs.blocks.read_line.Reads as read-line
 use Rattle.judge.proofs.blocks.repeated.Reads as repeated-reads
 use Rattle.judge.proofs.blocks.sum.Reads as sum-reads
-use Rattle.judge.proofs.blocks.+read_block+read_line.{statement}
+use Rattle.judge.specs.Block.{answer, readBlock, Small, loopPart}
+use Rattle.judge.specs.declared.Block.{Block}
+use Rattle.judge.specs.declared.Part.{Part}
+use Rattle.judge.specs.declared.Totals.{Totals}
 use Rattle.judge.proofs.blocks.+read_block+read_line.Tie.{close}
 
 abbrev μ-read-block : Measures 1 read-block-kinds.ps ℕ

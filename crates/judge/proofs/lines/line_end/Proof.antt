@@ -1,14 +1,12 @@
+use Prim.Native.Nat.{_+_, _-_, _≤_}
+use denote.Ref.{now}
+use lib.ListN.{length, drop}
+use mathlib.Core.Path.{_≡_, refl}
+use native.Mathlib.Omega.{arith}
 use Rattle.judge.proofs.Places.{len-feed, len-more, len-none}
 use Rattle.judge.specs.Lines.{lineLen}
-use lib.ListN.{length, drop}
-use Prim.Native.Nat.{_+_, _-_, _≤_}
-use mathlib.Core.Path.{_≡_, refl, _∙_}
-use denote.Ref.{now}
-use native.Mathlib.Omega.{arith}
 use Rattle.judge.proofs.lines.line_end.Statement.{statement}
 use Rattle.judge.proofs.lines.line_end.Tie as tie
-use Rattle.judge.proofs.lines.line_end.Reads as reads
-use Rattle.judge.proofs.lines.line_end.Lts as lts
 
 abbrev Inv-loop : tie.InvT-loop
 Inv-loop log at i₀ i = (at ≤ i) × (i ≤ length log) × (at + lineLen (drop at log) ≡ i + lineLen (drop i log))

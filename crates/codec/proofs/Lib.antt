@@ -1,0 +1,4 @@
+pub mod Back
+pub mod Codes
+pub mod Flags
+pub mod Placed

@@ -1,0 +1,57 @@
+// The DMC as a stretch between two frame steps keeps it.
+ghost use mathlib.Core.Path.{_≡_};
+ghost use Prim.Native.Nat.{_-_};
+ghost use Rattle.dmc.specs.Lag.{dmcLag, dmcRenewed, dmcAt};
+use super::Dmc;
+
+// The DMC brought up to clock `at`; `next` is the clock of its next possible change, `out` what it gives up to then. n is its timer's period.
+pub struct DmcLag {
+    pub dmc: Dmc,
+    pub n: u16,
+    pub at: u32,
+    pub next: u64,
+    pub out: u8,
+}
+
+// The clocks from at to k.
+fn since(at: u32, k: u32) -> u32
+    ensures { λ r. ⌜ r ≡ k - at ⌝ }
+{
+    if k < at { 0 } else { k - at }
+}
+
+impl DmcLag {
+    // Kept from clock at on.
+    pub fn new(n: u16, dmc: Dmc, at: u32) -> DmcLag
+        ensures { λ r. ⌜ r ≡ dmcLag n dmc at ⌝ }
+    {
+        let still = dmc.still_for(n);
+        let out = dmc.output_of();
+        DmcLag {
+            dmc: dmc,
+            n: n,
+            at: at,
+            next: at as u64 + still as u64 + 1,
+            out: out,
+        }
+    }
+
+    // At clock e: brought up to it where that is its next change.
+    pub fn renewed(self, memory: &[u8], e: u32) -> DmcLag
+        ensures { λ r. ⌜ r ≡ dmcRenewed (now (memory .entry)) self e ⌝ }
+    {
+        if self.next == e as u64 {
+            let dmc = self.dmc.turn(memory, self.n);
+            return DmcLag::new(self.n, dmc, e);
+        }
+        self
+    }
+
+    // The DMC at clock k, before its next change.
+    pub fn dmc_at(self, k: u32) -> Dmc
+        ensures { λ r. ⌜ r ≡ dmcAt self k ⌝ }
+    {
+        let g = since(self.at, k);
+        self.dmc.advance(self.n, g)
+    }
+}

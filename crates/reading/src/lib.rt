@@ -1,0 +1,1 @@
+// The plain reading, over any machine: definitions and laws, no code.
