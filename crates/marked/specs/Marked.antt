@@ -28,6 +28,9 @@ use Rattle.units.specs.Linear.{linearClock}
 use Rattle.chip.specs.Table.{noisePeriod, dmcPeriod}
 use Rattle.units.specs.declared.sweep.Sweep.{Sweep}
 use Rattle.dmc.specs.declared.Dmc.{Dmc}
+use Rattle.judge.specs.Judge.{judged, judge, ending}
+use Rattle.judge.specs.Lines.{linesOf}
+use Rattle.judge.specs.Whole.{checkOf, unlessWrong}
 use Rattle.chip.specs.declared.State.{State}
 
 -- a row: what a definition gives, and what it is to be
@@ -110,10 +113,13 @@ marked memory =
     -- (11) $FFFF then $8000
     ∷ number (dmcRead memory (fetching 0xFFFE) .reader .address) 0xFFFF
     ∷ number (dmcRead memory (fetching 0xFFFF) .reader .address) 0x8000
+    -- (12) empty log: refusal 6 at 0
+    ∷ number (checkOf [] .number) 6
+    ∷ number (checkOf [] .place) 0
     ∷ []
 
 -- EVERY MARKED CASE HOLDS
 pub all-hold : (memory : List ℕ) → Holds (marked memory)
-unfolding chipClock dmcRead muted powerOn registerWritten shiftedOf squaresLevel stateLevel statusByte statusRead target mixed weight restLevel squareOutput squareAmount squareTimed squareEnveloped squareSwept squareEnabled sequencerClock dutyBit squareWrite squareWrite3 sequencerHigh triangleOutput triangleAt triangleTimed runs triangleSequenced triangleLinear triangleLengthened triangleEnabled noiseOutput noiseAmount noiseTimed noiseEnveloped noiseLengthened noiseEnabled shifterClock dmcOutput dmcTimed outputClock outputStep emptied readerClock pending fetched nextAddress byteAt sampleEnded restarted flagged levelMoved dmcWrite dmcWrite3 dmcEnabled switched frameDue frameMoved clocksEnvelopes clocksLengths frameStepped frameRead timerClock periodHigh lengthLoaded lengthClock lengthEnabled envelopeClock envelopeStarted envelopeDivided decayed volume envelopeBegun lowPeriod highTarget sweeps sweptPeriod sweepClock linearClock timersClocked readerClocked envelopesClocked lengthsClocked stepped framed noisePeriod dmcPeriod channelWritten controlWritten enablesWritten
+unfolding checkOf unlessWrong judged judge ending linesOf chipClock dmcRead muted powerOn registerWritten shiftedOf squaresLevel stateLevel statusByte statusRead target mixed weight restLevel squareOutput squareAmount squareTimed squareEnveloped squareSwept squareEnabled sequencerClock dutyBit squareWrite squareWrite3 sequencerHigh triangleOutput triangleAt triangleTimed runs triangleSequenced triangleLinear triangleLengthened triangleEnabled noiseOutput noiseAmount noiseTimed noiseEnveloped noiseLengthened noiseEnabled shifterClock dmcOutput dmcTimed outputClock outputStep emptied readerClock pending fetched nextAddress byteAt sampleEnded restarted flagged levelMoved dmcWrite dmcWrite3 dmcEnabled switched frameDue frameMoved clocksEnvelopes clocksLengths frameStepped frameRead timerClock periodHigh lengthLoaded lengthClock lengthEnabled envelopeClock envelopeStarted envelopeDivided decayed volume envelopeBegun lowPeriod highTarget sweeps sweptPeriod sweepClock linearClock timersClocked readerClocked envelopesClocked lengthsClocked stepped framed noisePeriod dmcPeriod channelWritten controlWritten enablesWritten
 all-hold memory =
-    (refl, (refl, (refl, (refl, (refl, (refl, (refl, (refl, (refl, (refl, (refl, (refl, (refl, (refl, (refl, (refl, (refl, (refl, (refl, (refl, (refl, (refl, (refl, (refl, (refl, (refl, (refl, (refl, tt))))))))))))))))))))))))))))
+    (refl, (refl, (refl, (refl, (refl, (refl, (refl, (refl, (refl, (refl, (refl, (refl, (refl, (refl, (refl, (refl, (refl, (refl, (refl, (refl, (refl, (refl, (refl, (refl, (refl, (refl, (refl, (refl, (refl, (refl, tt))))))))))))))))))))))))))))))
