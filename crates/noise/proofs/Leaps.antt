@@ -5,7 +5,7 @@ use mathlib.Core.Bool.{Bool, true, false}
 use native.Mathlib.Nat.{pow-succ', mul-left-comm, suc-add, div-one, mul-le-mul}
 use native.Mathlib.Omega.{arith}
 use lib.Dec.{eqb}
-use borrow.Author.Tests.{eqb-true, eq-eqb, ne-eqb}
+use borrow.Author.Tests.{eqb-true, eq-eqb}
 use Rattle.arith.specs.Bit.{bitOf, bitSet}
 use Rattle.arith.specs.Iterate.{iterate}
 use Rattle.arith.specs.Pick.{pick}
@@ -108,21 +108,6 @@ alike-leaves mode (suc k) (suc j) x r h m a q =
         → suc j ≤ pick t (suc (alike k (r / 2))) 0 → iterate (shiftedOf mode) j (shiftedOf mode x) % 2 ≡ r % 2
     go true e ih q = ih (omega arith) ∙ eqb-true _ _ e
     go false e ih q = absurd (let no : ⊥ = omega arith in no)
-
--- the look-ahead, one bit at a time
-pub alike-goes : (k x : ℕ) → 0 < k → x / 2 % 2 ≡ x % 2 → alike k x ≡ suc (alike (k - 1) (x / 2))
-unfolding alike
-alike-goes zero x h e = absurd (let no : ⊥ = omega arith in no)
-alike-goes (suc k) x h e = let d : suc k - 1 ≡ k = omega arith in rw (eq-eqb _ _ e, d)
-
-pub alike-ends : (k x : ℕ) → (x / 2 % 2 ≡ x % 2 → ⊥) → alike k x ≡ 0
-unfolding alike
-alike-ends zero x e = refl
-alike-ends (suc k) x e = rw (ne-eqb _ _ e)
-
-pub alike-none : (x : ℕ) → alike 0 x ≡ 0
-unfolding alike
-alike-none x = refl
 
 pub alike-most : (k x : ℕ) → alike k x ≤ k
 unfolding alike

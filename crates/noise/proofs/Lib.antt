@@ -1,3 +1,4 @@
+pub mod Aheads
 pub mod Jumps
 pub mod Leaps
 pub mod Ranges

@@ -2,7 +2,9 @@
 ghost use mathlib.Core.Path.{_≡_};
 ghost use mathlib.Core.Bool.{Bool};
 ghost use Prim.Native.Nat.{ℕ, _+_, _*_, _≤_};
+ghost use lib.Dec.{ltb};
 ghost use Rattle.arith.specs.Iterate.{iterate};
+ghost use Rattle.arith.specs.Pick.{pick};
 ghost use Rattle.noise.specs.Shifter.{shiftedOf};
 ghost use Rattle.noise.specs.Leap.{shifterGives, alike, noiseStill, shifterAdvanced, shifterTurned};
 use super::Shifter;
@@ -54,20 +56,18 @@ pub fn shifted_by(mode: bool, register: u16, k: u64) -> u16
     blocks(mode, x, k / 8)
 }
 
-// How many of the 14 bits above bit 0 are as it is, up to the first that differs.
+// At most 14.
+fn capped(zeros: u32) -> u16
+    ensures { λ r. ⌜ r ≡ pick (ltb zeros 14) zeros 14 ⌝ }
+{
+    if zeros < 14 { zeros as u16 } else { 14 }
+}
+
+// How many of the 14 bits above bit 0 are as it is, up to the first that differs. Adding a set bit 0 turns the ones above it into zeros.
 fn alike_of(register: u16) -> u16
     ensures { λ r. ⌜ r ≡ alike 14 register ⌝ }
 {
-    let mut x = register;
-    let mut i: u16 = 0;
-    while i < 14 {
-        if x / 2 % 2 != x % 2 {
-            return i;
-        }
-        x = x / 2;
-        i += 1;
-    }
-    i
+    capped(u16::trailing_zeros(register / 2 + register % 2))
 }
 
 impl Shifter {
