@@ -54,7 +54,7 @@ loop-again c =
     let i = c .before .before .before .before .before .before .before .loop in
     let w = i .inv .0 in (
       rw (c .before .before .before .renew .ensures)
-          (within-same (a .memory .now) bytes (a .s) r (a .end) (a .base) (a .records) (a .words .now) (p .1 .0) (i .words) (i .l) (i .n) w (c .before .before .before .before .before .if1 .taken) (rw (← c .before .before .before .renew .ensures) (c .if2 .taken))),
+          (within-same (a .memory .now) bytes (a .s) r (a .end) (a .base) (a .records) (a .words .now) (p .1 .0) (i .words) (i .l) (i .n) w (omega (arith, c .before .before .before .before .before .if1 .taken)) (rw (← c .before .before .before .renew .ensures) (c .if2 .taken))),
       i .inv .1,
     )
 
@@ -97,7 +97,7 @@ returns c =
     let i = c .before .before .before .before .before .before .before .before .before .loop in
     let w = i .inv .0 in
     rw (c .state-at .ensures)
-    (within-full (a .memory .now) bytes (a .s) r (a .end) (a .base) (a .records) (a .words .now) (p .1 .0) (i .words) (i .l) (i .n) w (c .before .before .before .before .before .before .before .if1 .taken)
+    (within-full (a .memory .now) bytes (a .s) r (a .end) (a .base) (a .records) (a .words .now) (p .1 .0) (i .words) (i .l) (i .n) w (omega (arith, c .before .before .before .before .before .before .before .if1 .taken))
     (λ q. c .before .before .if2 .left (rw (c .before .before .before .before .before .renew .ensures) q))
     (omega (arith, i .inv .1, c .before .if3 .taken)))
 
@@ -135,7 +135,7 @@ loop-again-2 c =
     let i = c .before .before .before .before .before .before .before .before .before .before .before .before .before .loop in
     let w = i .inv .0 in (
       rw (c .before .before .put .ensures, c .before .before .before .before .before .before .before .before .before .renew .ensures)
-          (within-mark (a .memory .now) bytes (a .s) r (a .end) (a .base) (a .records) (a .words .now) (p .1 .0) (i .words) (i .l) (i .n) w (c .before .before .before .before .before .before .before .before .before .before .before .if1 .taken)
+          (within-mark (a .memory .now) bytes (a .s) r (a .end) (a .base) (a .records) (a .words .now) (p .1 .0) (i .words) (i .l) (i .n) w (omega (arith, c .before .before .before .before .before .before .before .before .before .before .before .if1 .taken))
           (λ q. c .before .before .before .before .before .before .if2 .left (rw (c .before .before .before .before .before .before .before .before .before .renew .ensures) q))
           (omega (arith, i .inv .1, c .before .before .before .before .before .if3 .left))),
       i .inv .1,
@@ -155,7 +155,7 @@ returns-2 c =
     let bytes : Bytes (a .memory .now) = λ i. omega (arith, c .before .before .before .before .before .before .shared-slice-known .given i) in
     let i = c .before .before .before .loop in
     let w = i .inv .0 in
-    rw (c .state-at2 .ensures) (within-end (a .memory .now) bytes (a .s) r (a .end) (a .base) (a .records) (a .words .now) (p .1 .0) (i .words) (i .l) (i .n) w (c .before .if1 .left))
+    rw (c .state-at2 .ensures) (within-end (a .memory .now) bytes (a .s) r (a .end) (a .base) (a .records) (a .words .now) (p .1 .0) (i .words) (i .l) (i .n) w (omega (arith, c .before .if1 .left)))
 
 pub segment-on-spec : {M : Type 1} → statement M
 segment-on-spec =

@@ -1,0 +1,297 @@
+//! How fast the leaping run is, beside the run clock by clock: one table.
+
+mod tune;
+
+use compare::draw;
+use compare::random::Random;
+use perch::{Chip, MEMORY, Ran, Refusal, raw};
+use std::process::{Command, ExitCode};
+use tune::Act;
+
+const USAGE: &str = "\
+bench [--log FILE] [--gme COMMAND] [--quick]
+--log FILE     the tune is this log; without it a tune of the same kind is made
+--gme COMMAND  a command that plays the same tune by libgme and prints `.. in SECONDS s ..`
+--quick        shorter stretches";
+
+/// Processor time of this thread in seconds, so that other work of the machine doesn't count.
+fn now() -> f64 {
+    #[repr(C)]
+    struct Time {
+        seconds: i64,
+        nanoseconds: i64,
+    }
+    unsafe extern "C" {
+        fn clock_gettime(clock: i32, time: *mut Time) -> i32;
+    }
+    const THREAD_CPU: i32 = 3;
+    let mut time = Time { seconds: 0, nanoseconds: 0 };
+    // The time has the form that 64-bit Linux writes.
+    unsafe { clock_gettime(THREAD_CPU, &mut time) };
+    time.seconds as f64 + time.nanoseconds as f64 / 1e9
+}
+
+type Run = fn(&mut Chip, &[u8], u64, &mut [u32]) -> Result<Ran, Refusal>;
+
+/// What is measured: the accesses that lead to the first state, and what is played from there.
+struct Scene {
+    name: String,
+    first: Chip,
+    acts: Vec<Act>,
+}
+
+/// What playing a scene came to.
+#[derive(PartialEq, Eq, Debug)]
+struct Played {
+    chip: Chip,
+    clocks: u64,
+    records: u64,
+    sum: u64,
+}
+
+/// Plays a scene; a run that ends early for want of room goes on with the room used again.
+fn play(scene: &Scene, memory: &[u8], words: &mut [u32], run: Run) -> Result<Played, Refusal> {
+    let mut now = Played { chip: scene.first, clocks: 0, records: 0, sum: 0 };
+    for act in &scene.acts {
+        match *act {
+            Act::Write(register, value) => now.chip.write(register, value)?,
+            Act::Read => now.sum += u64::from(now.chip.read_status()?),
+            Act::Wait(clocks) => {
+                let mut left = clocks;
+                while left > 0 {
+                    let ran = run(&mut now.chip, memory, left.min(1_000_000), words)?;
+                    for pair in words[..2 * ran.records].chunks_exact(2) {
+                        now.sum = now.sum.wrapping_mul(31).wrapping_add((now.clocks + u64::from(pair[0])) << 16);
+                        now.sum = now.sum.wrapping_add(pair[1].into());
+                    }
+                    now.clocks += ran.done;
+                    now.records += ran.records as u64;
+                    left -= ran.done;
+                }
+            }
+        }
+    }
+    Ok(now)
+}
+
+/// The least time of playing a scene over some tries, in seconds.
+fn time(scene: &Scene, memory: &[u8], run: Run, tries: u32) -> Result<(f64, Played), Refusal> {
+    let mut words = vec![0; 32_768];
+    let mut best = f64::INFINITY;
+    let mut played = None;
+    let first = now();
+    for _ in 0..tries {
+        let begun = now();
+        played = Some(play(scene, memory, &mut words, run)?);
+        best = best.min(now() - begun);
+        if now() - first > 1.5 {
+            break;
+        }
+    }
+    Ok((best, played.expect("one try at least")))
+}
+
+/// Measures both runs of a scene and prints its row; gives the leaping run's time.
+fn row(scene: &Scene, memory: &[u8]) -> Result<f64, Refusal> {
+    let (leap, by_leap) = time(scene, memory, Chip::run, 50)?;
+    let (plain, by_plain) = time(scene, memory, Chip::run_plain, 3)?;
+    assert_eq!(by_leap, by_plain, "{}: the two runs differ", scene.name);
+    let clocks = by_leap.clocks as f64;
+    let each = |seconds: f64| match by_leap.records {
+        0 => "-".to_string(),
+        records => format!("{:.1}", seconds * 1e9 / records as f64),
+    };
+    println!(
+        "| {:<34} | {:>11} | {:>9} | {:>10.3e} | {:>8.3} | {:>9} | {:>10.3e} | {:>8.3} | {:>9} | {:>7.1} |",
+        scene.name,
+        by_leap.clocks,
+        by_leap.records,
+        clocks / leap,
+        leap * 1e9 / clocks,
+        each(leap),
+        clocks / plain,
+        plain * 1e9 / clocks,
+        each(plain),
+        plain / leap,
+    );
+    Ok(leap)
+}
+
+/// A chip after some writes from power-on.
+fn after(writes: &[(u16, u8)]) -> Result<Chip, Refusal> {
+    let mut chip = Chip::power_on();
+    for (register, value) in writes {
+        chip.write(*register, *value)?;
+    }
+    Ok(chip)
+}
+
+/// The drawn state whose leaping run does worst beside its plain run.
+fn worst(memory: &[u8], states: u64, clocks: u64) -> Result<Scene, Refusal> {
+    let mut found: Option<(f64, Scene)> = None;
+    for number in 0..states {
+        let first = Chip::from_bytes(draw::state(&mut Random::new(1, "worst", number)).encode())?;
+        let scene = Scene { name: format!("worst of {states} drawn states"), first, acts: vec![Act::Wait(clocks)] };
+        let (leap, _) = time(&scene, memory, Chip::run, 3)?;
+        let (plain, _) = time(&scene, memory, Chip::run_plain, 2)?;
+        if found.as_ref().is_none_or(|(ratio, _)| plain / leap < *ratio) {
+            found = Some((plain / leap, scene));
+        }
+    }
+    Ok(found.expect("one state at least").1)
+}
+
+/// Plays a log to its end, to a buffer: the least time over some tries, the bytes of its text, and its clocks.
+fn heard(log: &[u8], memory: &[u8]) -> Result<(f64, u64, u64), Box<dyn std::error::Error>> {
+    let clocks = perch::check(log)?;
+    let mut text = vec![0; 1 << 16];
+    let mut player = vec![0; raw::player_size()];
+    let (mut best, mut bytes) = (f64::INFINITY, 0);
+    let first = now();
+    for _ in 0..10 {
+        let begun = now();
+        raw::begin(&mut player, log, memory);
+        bytes = 0;
+        loop {
+            let answer = raw::play_on(&mut player, log, memory, &mut text);
+            bytes += answer >> 32;
+            if answer as u16 != 0 {
+                break;
+            }
+        }
+        best = best.min(now() - begun);
+        if now() - first > 1.5 {
+            break;
+        }
+    }
+    Ok((best, bytes, clocks))
+}
+
+/// Processor time of the commands run so far, in seconds.
+fn of_commands() -> f64 {
+    #[repr(C)]
+    struct Usage {
+        user: [i64; 2],
+        system: [i64; 2],
+        rest: [i64; 14],
+    }
+    unsafe extern "C" {
+        fn getrusage(who: i32, usage: *mut Usage) -> i32;
+    }
+    const CHILDREN: i32 = -1;
+    let mut usage = Usage { user: [0; 2], system: [0; 2], rest: [0; 14] };
+    // The usage has the form that 64-bit Linux writes.
+    unsafe { getrusage(CHILDREN, &mut usage) };
+    let [user, system] = [usage.user, usage.system].map(|[seconds, micros]| seconds as f64 + micros as f64 / 1e6);
+    user + system
+}
+
+/// The least seconds of a command over some tries: its processor time, or what it tells by `.. in SECONDS s ..`.
+fn least(command: &str) -> Option<f64> {
+    let mut best = f64::INFINITY;
+    for _ in 0..10 {
+        let before = of_commands();
+        let output = Command::new("sh").args(["-c", command]).output().ok()?;
+        let text = String::from_utf8(output.stdout).ok()?;
+        let told: f64 = text.split_once(" in ")?.1.split_once(" s")?.0.parse().ok()?;
+        best = best.min(told).min(of_commands() - before);
+    }
+    Some(best)
+}
+
+fn table(log: Option<String>, gme: Option<String>, quick: bool) -> Result<(), Box<dyn std::error::Error>> {
+    let random = &mut Random::new(1, "memory", 0);
+    let memory: Vec<u8> = (0..MEMORY).map(|_| random.byte()).collect();
+    let runs = if quick { 2 } else { 10 };
+    let stretch = vec![Act::Wait(1_000_000); runs];
+    let scene = |name: &str, writes: &[(u16, u8)]| -> Result<Scene, Refusal> {
+        Ok(Scene { name: name.into(), first: after(writes)?, acts: stretch.clone() })
+    };
+    let square = [(0x4015, 0x01), (0x4000, 0xbf), (0x4001, 0x08), (0x4002, 0xfd), (0x4003, 0x00)];
+    let all = [
+        (0x4015, 0x0f),
+        (0x4000, 0xbf),
+        (0x4001, 0x08),
+        (0x4002, 0x08),
+        (0x4003, 0x00),
+        (0x4004, 0x7f),
+        (0x4005, 0x08),
+        (0x4006, 0x08),
+        (0x4007, 0x00),
+        (0x4008, 0xff),
+        (0x400a, 0x00),
+        (0x400b, 0x00),
+        (0x400c, 0x3f),
+        (0x400e, 0x00),
+        (0x400f, 0x00),
+        (0x4010, 0x4f),
+        (0x4013, 0xff),
+        (0x4015, 0x1f),
+        (0x4017, 0x80),
+    ];
+    println!("against {}\n", perch::LINKED);
+    println!(
+        "| {:<34} | {:>11} | {:>9} | {:>10} | {:>8} | {:>9} | {:>10} | {:>8} | {:>9} | {:>7} |",
+        "", "clocks", "records", "run /s", "ns/clock", "ns/record", "plain /s", "ns/clock", "ns/record", "ratio"
+    );
+    println!("|{}|{}", "-".repeat(36), "-:|".repeat(9));
+    row(&scene("power-on, quiet, noise period 4", &[])?, &memory)?;
+    row(&scene("quiet with $400E:0f", &[(0x400e, 0x0f)])?, &memory)?;
+    row(&scene("one square, 440 Hz", &square)?, &memory)?;
+    row(&scene("all channels, shortest periods", &all)?, &memory)?;
+    let (states, clocks) = if quick { (50, 20_000) } else { (400, 60_000) };
+    row(&worst(&memory, states, clocks)?, &memory)?;
+    let (name, tune) = match log {
+        Some(path) => ("the tune of the log", std::fs::read_to_string(path)?),
+        None => ("a tune, made", tune::made(1, 900, if quick { 2 } else { 8 })),
+    };
+    let acts = tune::of_log(&tune).ok_or("the tune is no log")?;
+    let leap = row(&Scene { name: name.into(), first: Chip::power_on(), acts }, &memory)?;
+
+    println!(
+        "\n| {:<34} | {:>11} | {:>10} | {:>8} | {:>14} |",
+        "the player", "clocks", "bytes", "seconds", "times its run"
+    );
+    println!("|{}|{}", "-".repeat(36), "-:|".repeat(4));
+    let (seconds, bytes, clocks) = heard(tune.as_bytes(), &memory)?;
+    println!("| {name:<34} | {clocks:>11} | {bytes:>10} | {seconds:>8.4} | {:>14.2} |", seconds / leap);
+    if perch::ARCHIVE_LOGS && !quick {
+        for (name, first) in [("2,000,000,000 quiet clocks", ""), ("the same after $400E:0f", "write=400e:0f\n")] {
+            let loops = "loop=200\nloop=10\nwait=1000000\ndone=loop\ndone=loop\n";
+            let log = format!("log=1\n{first}{loops}stop=2000000000\n");
+            let (seconds, bytes, clocks) = heard(log.as_bytes(), &memory)?;
+            println!("| {name:<34} | {clocks:>11} | {bytes:>10} | {seconds:>8.4} | {:>14} |", "");
+        }
+    }
+    if let Some(command) = gme {
+        let seconds = least(&command).ok_or("the libgme command told no time")?;
+        println!(
+            "\nthe tune by run {leap:.4} s, by libgme {seconds:.4} s: run takes {:.2} of libgme's time",
+            leap / seconds
+        );
+    }
+    Ok(())
+}
+
+fn main() -> ExitCode {
+    let (mut log, mut gme, mut quick) = (None, None, false);
+    let mut words = std::env::args().skip(1);
+    while let Some(word) = words.next() {
+        match word.as_str() {
+            "--log" => log = words.next(),
+            "--gme" => gme = words.next(),
+            "--quick" => quick = true,
+            _ => {
+                eprintln!("{USAGE}");
+                return ExitCode::from(2);
+            }
+        }
+    }
+    match table(log, gme, quick) {
+        Ok(()) => ExitCode::SUCCESS,
+        Err(error) => {
+            eprintln!("{error}");
+            ExitCode::FAILURE
+        }
+    }
+}

@@ -1,0 +1,55 @@
+/* The chip from C: a note is set going, run, and looked at. Exit status 0 where every answer is as expected. */
+#include <stdio.h>
+#include <string.h>
+
+#include "perchpulley.h"
+
+static int wrong;
+
+static void expect(const char *what, uint64_t answer, uint64_t expected)
+{
+    if (answer != expected) {
+        printf("%s: %llx, not %llx\n", what, (unsigned long long)answer, (unsigned long long)expected);
+        wrong = 1;
+    }
+}
+
+int main(void)
+{
+    static uint8_t memory[PERCH_MEMORY_SIZE];
+    uint8_t state[PERCH_STATE_SIZE], kept[PERCH_STATE_SIZE];
+    uint32_t words[65];
+    uint64_t answer;
+
+    expect("size", perch_state_size(), sizeof state);
+    expect("power-on", perch_power_on(state, sizeof state), PERCH_DONE);
+    expect("in range", perch_in_range(state, sizeof state), 256);
+    expect("level at power-on", PERCH_VALUE(perch_level(state, sizeof state)), 8074);
+
+    /* A triangle of the shortest period: a record for each clock, but where the shape turns. */
+    perch_write(state, sizeof state, 0x4015, 0x04);
+    perch_write(state, sizeof state, 0x4008, 0xff);
+    perch_write(state, sizeof state, 0x400b, 0x00);
+    perch_write(state, sizeof state, 0x4017, 0x80);
+    answer = perch_run(state, sizeof state, memory, sizeof memory, 1000, words, 65);
+    expect("number", PERCH_NUMBER(answer), PERCH_DONE);
+    expect("clocks done", PERCH_CLOCKS(answer), 34);
+    expect("records", PERCH_RECORDS(answer), 32);
+    expect("the last record's clock", words[62], 34);
+    expect("status", PERCH_VALUE(perch_read_status(state, sizeof state)), 0x04);
+    expect("line", perch_line(state, sizeof state), 0);
+    expect("one clock", perch_clock(state, sizeof state, memory, sizeof memory), PERCH_DONE);
+    expect("plain", perch_run_plain(state, sizeof state, memory, sizeof memory, 0, words, 0), PERCH_DONE);
+    expect("float", (uint64_t)(perch_level_f32(state, sizeof state) * 32768.0f),
+           PERCH_VALUE(perch_level(state, sizeof state)));
+
+    /* Refusals, the lowest number first; the state stays. */
+    memcpy(kept, state, sizeof state);
+    expect("memory", perch_run(state, sizeof state, memory, 5, 2000000, words, 65), PERCH_REFUSED_MEMORY);
+    expect("state", perch_run(state, 5, memory, sizeof memory, 2000000, words, 65), PERCH_REFUSED_STATE);
+    expect("clocks", perch_run(state, sizeof state, memory, sizeof memory, 2000000, words, 65), PERCH_REFUSED_CLOCKS);
+    expect("register", perch_write(state, sizeof state, 0x4014, 0), PERCH_REFUSED_REGISTER);
+    expect("kept", (uint64_t)memcmp(kept, state, sizeof state), 0);
+    puts(wrong ? "chip: wrong" : "chip: as expected");
+    return wrong;
+}

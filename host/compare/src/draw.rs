@@ -1,0 +1,302 @@
+//! Draws states and cases. Half the states lean to where rules meet: the last clocks of a timer or a counter, the clocks
+//! around a frame step, the edges of what is quiet.
+
+use crate::case::{Case, MOST_STATE, Memory, Op};
+use crate::random::Random;
+use reading::bytes::SIZE;
+use reading::{Chip, MEMORY, MOST_CLOCKS};
+
+fn lengths(chip: &mut Chip, mut each: impl FnMut(&mut reading::chip::Length)) {
+    let [first, second] = &mut chip.squares;
+    for length in [&mut first.length, &mut second.length, &mut chip.triangle.length, &mut chip.noise.length] {
+        each(length);
+    }
+}
+
+/// Makes the state quiet: no length, nothing remaining, an empty buffer and silence.
+pub fn hush(chip: &mut Chip) {
+    lengths(chip, |length| length.count = 0);
+    chip.dmc.remaining = 0;
+    chip.dmc.full = false;
+    chip.dmc.silence = true;
+}
+
+/// Enables every channel and sets its length going.
+fn sound(chip: &mut Chip, random: &mut Random) {
+    lengths(chip, |length| {
+        length.enabled = true;
+        length.count = random.within16(1..=254);
+    });
+    chip.triangle.linear = random.within16(1..=127);
+    chip.dmc.remaining = random.within16(1..=4081);
+    for square in &mut chip.squares {
+        square.period = random.within16(8..=1023);
+        square.envelope.constant = random.one_in(2);
+        square.envelope.n = random.within16(1..=15);
+    }
+}
+
+type Lean = fn(&mut Chip, &mut Random);
+
+const LEANS: [Lean; 17] = [
+    |chip, random| chip.frame.phase = random.within16(14_900..=14_914),
+    |chip, random| {
+        let [first, second] = &mut chip.squares;
+        let timers = [&mut first.timer, &mut second.timer, &mut chip.triangle.timer, &mut chip.noise.timer];
+        for timer in timers.into_iter().chain([&mut chip.dmc.timer]) {
+            if !random.one_in(3) {
+                *timer = random.within16(1..=3);
+            }
+        }
+    },
+    |chip, _| hush(chip),
+    |chip, random| {
+        hush(chip);
+        match random.within(0..=5) {
+            0 => chip.dmc.remaining = random.within16(1..=2),
+            1 => chip.dmc.full = true,
+            2 => chip.dmc.silence = false,
+            channel => {
+                let mut at = 3;
+                lengths(chip, |length| {
+                    if at == channel {
+                        (length.count, length.enabled) = (1, true);
+                    }
+                    at += 1;
+                });
+            }
+        }
+    },
+    |chip, random| chip.dmc.remaining = random.within16(0..=2),
+    |chip, _| chip.dmc.full = false,
+    |chip, _| (chip.dmc.full, chip.dmc.silence) = (true, true),
+    |chip, _| chip.dmc.bits = 1,
+    |chip, random| {
+        lengths(chip, |length| length.count = if length.enabled { random.within16(0..=1) } else { 0 });
+        chip.triangle.linear = random.within16(0..=1);
+    },
+    |chip, random| {
+        let [first, second] = &mut chip.squares;
+        for envelope in [&mut first.envelope, &mut second.envelope, &mut chip.noise.envelope] {
+            envelope.divider = 1;
+            envelope.counter = random.within16(0..=1);
+        }
+    },
+    |chip, random| {
+        for square in &mut chip.squares {
+            square.sweep.enabled = true;
+            square.sweep.s = random.within16(0..=2);
+            square.sweep.p = random.within16(0..=1);
+            square.sweep.divider = 1;
+        }
+    },
+    |chip, random| {
+        for square in &mut chip.squares {
+            square.period = random.pick(&[0, 1, 6, 7, 8, 9, 1022, 1023, 1024, 1365, 1366, 2046, 2047]);
+        }
+        chip.triangle.period = random.within16(0..=3);
+    },
+    |chip, random| chip.dmc.level = random.pick(&[0, 1, 2, 125, 126, 127]),
+    |chip, random| {
+        chip.noise.index = random.within16(0..=2);
+        chip.noise.register = random.pick(&[1, 2, 3, 64, 65, 16384, 32767]);
+    },
+    |chip, random| {
+        chip.dmc.index = random.within16(14..=15);
+        chip.dmc.address = random.pick(&[32768, 65534, 65535]);
+    },
+    |chip, _| chip.frame.step = if chip.frame.mode { 4 } else { 3 },
+    sound,
+];
+
+/// A state in range.
+pub fn state(random: &mut Random) -> Chip {
+    let mut chip = Chip::POWER_ON;
+    chip.fields(|_, mut slot| slot.set(random.within16(slot.range())));
+    if random.one_in(3) {
+        sound(&mut chip, random);
+    }
+    if random.one_in(2) {
+        for _ in 0..random.within(1..=5) {
+            random.pick(&LEANS)(&mut chip, random);
+        }
+    }
+    lengths(&mut chip, |length| length.count = if length.enabled { length.count } else { 0 });
+    if !chip.frame.mode {
+        chip.frame.step %= 4;
+    }
+    chip
+}
+
+/// Bytes that are no state in range: of another length, or with one field outside its range, or any.
+fn no_state(random: &mut Random) -> Vec<u8> {
+    let mut bytes = state(random).encode().to_vec();
+    match random.within(0..=3) {
+        0 => bytes.resize(random.pick(&[0, 1, SIZE - 1, SIZE + 1]).min(MOST_STATE), 0),
+        1 => bytes.iter_mut().for_each(|byte| *byte = random.byte()),
+        _ => {
+            let field = random.within(0..=reading::bytes::FIELDS as u64 - 1);
+            let (mut at, mut number) = (0, 0);
+            Chip::POWER_ON.clone().fields(|_, slot| {
+                if number == field {
+                    let range = slot.range();
+                    let most = if slot.width() == 2 { 0xffff } else { 0xff };
+                    let outside =
+                        random.pick(&[range.end().saturating_add(1).min(most), most, range.start().saturating_sub(1)]);
+                    bytes[at..at + slot.width()].copy_from_slice(&outside.to_le_bytes()[..slot.width()]);
+                }
+                (at, number) = (at + slot.width(), number + 1);
+            });
+        }
+    }
+    bytes
+}
+
+fn memory(random: &mut Random) -> Memory {
+    let start = random.bits() as u16;
+    match random.within(0..=7) {
+        0 => Memory { start, times: 1, plus: 0 },
+        1 => Memory { start: random.pick(&[0, 0xffff]), times: 1, plus: 0 },
+        2 => Memory { start, times: random.bits() as u16 | 1, plus: random.bits() as u16 },
+        _ => Memory { start, times: 25173, plus: 13849 },
+    }
+}
+
+fn write(random: &mut Random) -> Op {
+    let register = match random.within(0..=15) {
+        0 => random.pick(&[0x3fff, 0x4014, 0x4016, 0x4018, 0, 0xffff, 0x4115]),
+        1 => random.bits() as u16,
+        2 | 3 => 0x4015,
+        4 => 0x4017,
+        _ => random.within16(0x4000..=0x4013),
+    };
+    let value = if random.one_in(8) { random.pick(&[0, 0x0f, 0x10, 0x1f, 0x80, 0xff]) } else { random.byte() };
+    Op::Write { register, value }
+}
+
+fn refused_run(random: &mut Random) -> Op {
+    let other = random.pick(&[0, 1, MEMORY - 1, MEMORY + 1]);
+    let many = random.pick(&[MOST_CLOCKS + 1, 1 << 63, u64::MAX, 1 << 32, (1 << 32) + 5]);
+    match random.within(0..=2) {
+        0 => Op::Run { memory: other, count: random.within(0..=1000) },
+        1 => Op::Run { memory: MEMORY, count: many },
+        _ => Op::Run { memory: other, count: many },
+    }
+}
+
+/// Sometimes a refused run, and where accesses are wanted sometimes one or some of these.
+fn between(random: &mut Random, accesses: bool, ops: &mut Vec<Op>) {
+    if random.one_in(6) {
+        ops.push(refused_run(random));
+    }
+    if random.one_in(6) {
+        ops.push(random.pick(&[Op::Line, Op::Level]));
+    }
+    if accesses && random.one_in(2) {
+        for _ in 0..random.within(1..=4) {
+            ops.push(match random.within(0..=7) {
+                0 => Op::Read,
+                1 => Op::Clock { memory: if random.one_in(8) { MEMORY - 1 } else { MEMORY } },
+                2 => Op::Level,
+                _ => write(random),
+            });
+        }
+    }
+}
+
+fn finish(random: &mut Random, ops: &mut Vec<Op>) {
+    if random.one_in(4) {
+        ops.extend([Op::Line, Op::Level, Op::Read]);
+    }
+}
+
+/// Clocks up to a frame step of a state, to its eve or past it.
+fn to_step(random: &mut Random, chip: &Chip) -> u64 {
+    let first = u64::from((14_915 - chip.frame.phase).div_ceil(2));
+    first + random.pick(&[0, 0, 0, 7_457, 7_458, 14_915, 22_372]) - random.within(0..=1) + random.within(0..=1)
+}
+
+/// A list of short runs.
+pub fn short(random: &mut Random) -> Case {
+    let chip = state(random);
+    let state = if random.one_in(20) { no_state(random) } else { chip.encode().to_vec() };
+    let words = if random.one_in(3) { random.within(0..=7) } else { random.within(0..=600) };
+    let accesses = random.one_in(2);
+    let mut ops = Vec::new();
+    if random.one_in(8) {
+        ops.push(Op::Run { memory: MEMORY, count: to_step(random, &chip) });
+    }
+    for _ in 0..random.within(1..=8) {
+        let count = match random.within(0..=99) {
+            0..15 => 0,
+            15..30 => 1,
+            30..60 => random.within(2..=40),
+            60..99 => random.within(2..=1500),
+            _ if random.one_in(8) => MOST_CLOCKS,
+            _ => random.within(7_000..=16_000),
+        };
+        ops.push(Op::Run { memory: MEMORY, count });
+        between(random, accesses, &mut ops);
+    }
+    finish(random, &mut ops);
+    Case { memory: memory(random), state, words: words as usize, ops }
+}
+
+/// A list of runs of `clocks` clocks in all, mostly with room for all their records.
+pub fn long(random: &mut Random, clocks: u64) -> Case {
+    let chip = state(random);
+    let state = chip.encode().to_vec();
+    let words = if random.one_in(8) { random.within(0..=4000) } else { 2 * clocks + random.within(0..=1) };
+    let accesses = random.one_in(2);
+    let mut ops = Vec::new();
+    let mut left = clocks;
+    while left > 0 {
+        let count = match random.within(0..=3) {
+            0 => left,
+            1 if left == clocks => to_step(random, &chip).clamp(1, left),
+            _ => random.within(1..=left),
+        };
+        ops.push(Op::Run { memory: MEMORY, count });
+        left -= count;
+        between(random, accesses, &mut ops);
+    }
+    finish(random, &mut ops);
+    Case { memory: memory(random), state, words: words as usize, ops }
+}
+
+/// Single clocks with a status read after each, or with the line and the level looked at; the repairer's use.
+pub fn single(random: &mut Random) -> Case {
+    let state = state(random).encode().to_vec();
+    let look = random.pick(&[Op::Read, Op::Line, Op::Level]);
+    let mut ops = Vec::new();
+    for _ in 0..random.within(1..=400) {
+        ops.extend([Op::Clock { memory: MEMORY }, look]);
+        if random.one_in(50) {
+            ops.push(write(random));
+        }
+    }
+    Case { memory: memory(random), state, words: 0, ops }
+}
+
+/// A case to be stored: some of each kind, with few words.
+pub fn stored(random: &mut Random, number: u64) -> Case {
+    let mut case = match number % 4 {
+        0 => single(random),
+        1 => {
+            let clocks = random.within(7_500..=40_000);
+            long(random, clocks)
+        }
+        _ => short(random),
+    };
+    case.words = case.words.min(random.within(900..=1024) as usize);
+    case.ops.truncate(30);
+    for op in &mut case.ops {
+        if let Op::Run { count, .. } = op
+            && *count == MOST_CLOCKS
+            && number % 16 != 2
+        {
+            *count = 100_000;
+        }
+    }
+    case
+}

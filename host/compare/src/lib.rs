@@ -1,0 +1,8 @@
+//! The library against the plain Rust reading: cases, how they are drawn, and how they are judged.
+
+pub mod case;
+pub mod draw;
+pub mod every;
+pub mod judge;
+pub mod logs;
+pub mod random;

@@ -1,0 +1,205 @@
+//! The library against the plain Rust reading, on drawn cases. See README.md beside it.
+
+use compare::case::{self, Case};
+use compare::judge::{self, Tally, judge};
+use compare::random::Random;
+use compare::{draw, every, logs};
+use reading::{Chip, MEMORY};
+use std::process::ExitCode;
+use std::time::Instant;
+
+const USAGE: &str = "\
+compare [--seed N] [--short N] [--long N] [--logs N] [--archive] [--brief]
+                                                        compare on drawn cases
+compare cases N [--seed N]                              write N cases with the reading's answers
+compare check FILE                                      hold the library to the cases of a file
+compare log-cases N FOLDER [--seed N]                   write N logs, a sample.bin and the texts that the reading gives
+--archive: an error where the library's archive isn't linked; --brief: no more parts after one that differs";
+
+/// What the command line asks for.
+struct Asked {
+    words: Vec<String>,
+    seed: u64,
+    short: u64,
+    long: u64,
+    logs: u64,
+    archive: bool,
+    brief: bool,
+}
+
+fn asked() -> Option<Asked> {
+    let now = std::time::UNIX_EPOCH.elapsed().map_or(0, |since| since.as_nanos() as u64);
+    let mut asked =
+        Asked { words: Vec::new(), seed: now, short: 20_000, long: 2_000, logs: 4_000, archive: false, brief: false };
+    let mut words = std::env::args().skip(1);
+    while let Some(word) = words.next() {
+        match word.as_str() {
+            "--seed" => asked.seed = words.next()?.parse().ok()?,
+            "--short" => asked.short = words.next()?.parse().ok()?,
+            "--long" => asked.long = words.next()?.parse().ok()?,
+            "--logs" => asked.logs = words.next()?.parse().ok()?,
+            "--archive" => asked.archive = true,
+            "--brief" => asked.brief = true,
+            _ if word.starts_with('-') => return None,
+            _ => asked.words.push(word),
+        }
+    }
+    Some(asked)
+}
+
+/// One kind of comparison: how many checks it made, or where it failed.
+fn part(name: &str, work: &mut dyn FnMut() -> Result<String, String>) -> bool {
+    let begun = Instant::now();
+    let result = work();
+    let seconds = begun.elapsed().as_secs_f64();
+    match &result {
+        Ok(what) => println!("{name:<10} agree  {seconds:6.1} s  {what}"),
+        Err(difference) => println!("{name:<10} DIFFER {seconds:6.1} s\n{difference}"),
+    }
+    result.is_ok()
+}
+
+/// Draws and judges cases of one kind; a failing one is told whole.
+fn drawn(name: &str, seed: u64, cases: u64, mut draw: impl FnMut(&mut Random) -> Case) -> Result<String, String> {
+    let mut tally = Tally::default();
+    for number in 0..cases {
+        let case = draw(&mut Random::new(seed, name, number));
+        if let Err(difference) = judge(&case, &mut tally) {
+            let text = case::text(&case, &judge::expected(&case));
+            return Err(format!("seed {seed}, {name} case {number}: {difference}\n{text}"));
+        }
+    }
+    let Tally { cases, runs, refused, early, clocks, records } = tally;
+    Ok(format!(
+        "{cases} lists, {runs} runs ({refused} refused, {early} ended early), {clocks} clocks, {records} records"
+    ))
+}
+
+/// Single clocks with nothing between them come to what one run comes to.
+fn singles_are_a_run(seed: u64, lists: u64) -> Result<String, String> {
+    for number in 0..lists {
+        let random = &mut Random::new(seed, "one run", number);
+        let first = draw::state(random).encode();
+        let memory: Vec<u8> = (0..MEMORY).map(|_| random.byte()).collect();
+        let clocks = random.within(1..=16_000);
+        let (mut clocked, mut ran) = (first, first);
+        let mut records = Vec::new();
+        let mut level = perch::raw::level(&clocked) >> 8;
+        for clock in 1..=clocks {
+            perch::raw::clock(&mut clocked, &memory);
+            let now = perch::raw::level(&clocked) >> 8;
+            if now != level {
+                records.extend([clock as u32, now as u32]);
+                level = now;
+            }
+        }
+        let mut words = vec![0; records.len()];
+        let answer = perch::raw::run(&mut ran, &memory, clocks, &mut words);
+        let expected = clocks << 8 | (records.len() as u64 / 2) << 32;
+        if (answer, ran) != (expected, clocked) || words != records {
+            let chip = Chip::decode(&first);
+            return Err(format!("seed {seed}, list {number}: {clocks} single clocks aren't one run, from {chip:?}"));
+        }
+    }
+    Ok(format!("{lists} lists of single clocks, each against one run"))
+}
+
+fn compare(asked: &Asked) -> bool {
+    let seed = asked.seed;
+    println!("seed {seed}, against {}", perch::LINKED);
+    type Every = fn(&mut Random) -> Result<u64, String>;
+    let every: [(&str, Every); 9] = [
+        ("power-on", every::power_on),
+        ("ranges", every::ranges),
+        ("mixer", every::mixer),
+        ("writes", every::writes),
+        ("sweeps", every::sweeps),
+        ("counters", every::counters),
+        ("frames", every::frames),
+        ("noises", every::noises),
+        ("samples", every::samples),
+    ];
+    let mut good = true;
+    let mut part = |name: &str, work: &mut dyn FnMut() -> Result<String, String>| {
+        if good || !asked.brief {
+            good &= part(name, work);
+        }
+    };
+    for (name, work) in every {
+        part(name, &mut || work(&mut Random::new(seed, name, 0)).map(|checks| format!("{checks} checks")));
+    }
+    part("single", &mut || drawn("single", seed, asked.short / 20, draw::single));
+    part("one run", &mut || singles_are_a_run(seed, asked.short / 60));
+    part("short", &mut || drawn("short", seed, asked.short, draw::short));
+    part("long", &mut || {
+        drawn("long", seed, asked.long, |random| {
+            let clocks = random.within(40_000..=200_000);
+            draw::long(random, clocks)
+        })
+    });
+    part("logs", &mut || logs::compare(seed, asked.logs));
+    good
+}
+
+fn write_cases(asked: &Asked, count: &str) -> Result<(), String> {
+    let count: u64 = count.parse().map_err(|_| USAGE)?;
+    for number in 0..count {
+        let case = draw::stored(&mut Random::new(asked.seed, "stored", number), number);
+        print!("{}", case::text(&case, &judge::expected(&case)));
+    }
+    Ok(())
+}
+
+fn write_logs(asked: &Asked, count: &str, folder: &str) -> Result<(), String> {
+    let count: u64 = count.parse().map_err(|_| USAGE)?;
+    let write = |name: String, bytes: &[u8]| {
+        std::fs::write(format!("{folder}/{name}"), bytes).map_err(|error| format!("{folder}/{name}: {error}"))
+    };
+    let memory = case::Memory { start: asked.seed as u16, times: 25173, plus: 13849 }.bytes();
+    let memory = &memory[..MEMORY];
+    write("sample.bin".into(), memory)?;
+    let mut texts = String::new();
+    for number in 0..count {
+        let log = logs::stored(&mut Random::new(asked.seed, "stored logs", number), number);
+        write(format!("{number:03}.log"), &log)?;
+        texts += &reading::play::text(&log, memory);
+    }
+    write("texts".into(), texts.as_bytes())
+}
+
+fn check_cases(path: &str) -> Result<(), String> {
+    let text = std::fs::read_to_string(path).map_err(|error| format!("{path}: {error}"))?;
+    let cases = case::parse(&text).ok_or(format!("{path}: a line not of the form"))?;
+    for (number, (case, outcome)) in cases.iter().enumerate() {
+        judge::holds(case, outcome).map_err(|what| format!("case {number}: {what}\n{}", case::text(case, outcome)))?;
+        if case::text(case, &judge::expected(case)) != case::text(case, outcome) {
+            return Err(format!("case {number}: not what the reading answers\n{}", case::text(case, outcome)));
+        }
+    }
+    println!("{} cases hold, against {}", cases.len(), perch::LINKED);
+    Ok(())
+}
+
+fn main() -> ExitCode {
+    let Some(asked) = asked() else {
+        eprintln!("{USAGE}");
+        return ExitCode::from(2);
+    };
+    if asked.archive && !perch::ARCHIVE {
+        eprintln!("the library's archive isn't linked; rt staticlib capi builds it");
+        return ExitCode::FAILURE;
+    }
+    let words: Vec<&str> = asked.words.iter().map(String::as_str).collect();
+    let result = match words[..] {
+        [] => return if compare(&asked) { ExitCode::SUCCESS } else { ExitCode::FAILURE },
+        ["cases", count] => write_cases(&asked, count),
+        ["check", path] => check_cases(path),
+        ["log-cases", count, folder] => write_logs(&asked, count, folder),
+        _ => Err(USAGE.into()),
+    };
+    if let Err(what) = result {
+        eprintln!("{what}");
+        return ExitCode::FAILURE;
+    }
+    ExitCode::SUCCESS
+}

@@ -1,0 +1,162 @@
+//! Perchpulley for Rust: a safe wrapper of `include/perchpulley.h`.
+//!
+//! ```
+//! # let memory = [0; perch::MEMORY];
+//! let mut chip = perch::Chip::power_on();
+//! chip.write(0x4011, 0x40)?;
+//! assert_eq!(chip.level()?, 16620);
+//! let mut words = [0; 64];
+//! let ran = chip.run(&memory, 1_000_000, &mut words)?;
+//! for pair in words[..2 * ran.records].chunks(2) {
+//!     println!("clock {} level {}", pair[0], pair[1]);
+//! }
+//! # Ok::<(), perch::Refusal>(())
+//! ```
+//!
+//! ```
+//! # let memory = [0; perch::MEMORY];
+//! let log = b"log=1\nwrite=4011:40\nwait=10\nread=4015\nstop=10\n";
+//! let mut text = Vec::new();
+//! for piece in perch::Player::new(log, &memory)? {
+//!     text.extend(piece);
+//! }
+//! assert_eq!(text, b"play=1\nlevel=0:8074\nlevel=0:16620\nread=10:00\nstop=10\n");
+//! # Ok::<(), perch::Fault>(())
+//! ```
+
+mod log;
+pub mod raw;
+
+pub use log::{Fault, Item, Player, body, check, item, refusal_text};
+
+use std::fmt;
+
+/// The length of sample memory, $8000 to $FFFF.
+pub const MEMORY: usize = 32_768;
+
+/// How many bytes a state is.
+pub const STATE: usize = 91;
+
+/// What these functions are linked to.
+pub const LINKED: &str = match (ARCHIVE, ARCHIVE_LOGS) {
+    (false, _) => "the stand-in",
+    (true, false) => "the archive, for logs the stand-in",
+    (true, true) => "the archive",
+};
+
+/// Whether the chip's functions are the library's, and not the stand-in's.
+pub const ARCHIVE: bool = cfg!(archive);
+
+/// Whether the functions of logs and of the player are the library's.
+pub const ARCHIVE_LOGS: bool = cfg!(archive_logs);
+
+/// A refusal, with its number by document 01.
+#[derive(Clone, Copy, Debug, PartialEq, Eq)]
+pub struct Refusal(pub u8);
+
+impl fmt::Display for Refusal {
+    fn fmt(&self, f: &mut fmt::Formatter) -> fmt::Result {
+        f.write_str(match self.0 {
+            1 => "sample memory isn't 32,768 bytes",
+            2 => "a state field is outside its range",
+            3 => "a run of more than 1,000,000 clocks",
+            4 => "register not among $4000..$4013, $4015, $4017",
+            5 => "log longer than 60,000 bytes",
+            6 => "a line not of the log's form, or `stop` missing",
+            7 => "a ninth loop opened inside eight",
+            8 => "`done` with no loop open, or `stop` with one open",
+            9 => "over 2,000,000,000 clocks or 1,000,000 turns in all",
+            10 => "`stop` differs from the clocks in all",
+            11 => "the log has no such item",
+            12 => "no loop line begins at the offset",
+            number => return write!(f, "refusal {number}"),
+        })
+    }
+}
+
+impl std::error::Error for Refusal {}
+
+/// The value of an answer, or its refusal.
+fn value(answer: u64) -> Result<u64, Refusal> {
+    match answer as u8 {
+        0 => Ok(answer >> 8),
+        number => Err(Refusal(number)),
+    }
+}
+
+/// What a run did.
+#[derive(Clone, Copy, Debug, PartialEq, Eq)]
+pub struct Ran {
+    /// The clocks done: those asked for, or fewer where a record had no room.
+    pub done: u64,
+    /// The records written, two words each: the clock in the run, from 1, and the level.
+    pub records: usize,
+}
+
+fn ran(answer: u64) -> Result<Ran, Refusal> {
+    let value = value(answer)?;
+    Ok(Ran { done: value & 0xff_ffff, records: (value >> 24) as usize })
+}
+
+/// A chip's state.
+#[derive(Clone, Copy, Debug, PartialEq, Eq)]
+pub struct Chip([u8; STATE]);
+
+impl Chip {
+    /// The state at power-on.
+    pub fn power_on() -> Self {
+        let mut state = [0; STATE];
+        raw::power_on(&mut state);
+        Self(state)
+    }
+
+    /// The state that the bytes hold, in document 01's order.
+    pub fn from_bytes(state: [u8; STATE]) -> Result<Self, Refusal> {
+        value(raw::in_range(&state)).map(|_| Self(state))
+    }
+
+    /// The state's bytes.
+    pub fn bytes(&self) -> &[u8; STATE] {
+        &self.0
+    }
+
+    /// Writes a register.
+    pub fn write(&mut self, register: u16, byte: u8) -> Result<(), Refusal> {
+        value(raw::write(&mut self.0, register, byte)).map(|_| ())
+    }
+
+    /// Reads $4015, which clears the frame flag.
+    pub fn read_status(&mut self) -> Result<u8, Refusal> {
+        value(raw::read_status(&mut self.0)).map(|byte| byte as u8)
+    }
+
+    /// Whether the interrupt line is asserted.
+    pub fn line(&self) -> Result<bool, Refusal> {
+        value(raw::line(&self.0)).map(|line| line != 0)
+    }
+
+    /// The mixed level, 0..32767.
+    pub fn level(&self) -> Result<u16, Refusal> {
+        value(raw::level(&self.0)).map(|level| level as u16)
+    }
+
+    /// The mixed level over 32,768.
+    pub fn level_f32(&self) -> f32 {
+        raw::level_f32(&self.0)
+    }
+
+    /// Works one clock.
+    pub fn clock(&mut self, memory: &[u8]) -> Result<(), Refusal> {
+        value(raw::clock(&mut self.0, memory)).map(|_| ())
+    }
+
+    /// Runs up to `count` clocks, leaping where nothing changes.
+    pub fn run(&mut self, memory: &[u8], count: u64, words: &mut [u32]) -> Result<Ran, Refusal> {
+        ran(raw::run(&mut self.0, memory, count, words))
+    }
+
+    /// The same, clock by clock.
+    pub fn run_plain(&mut self, memory: &[u8], count: u64, words: &mut [u32]) -> Result<Ran, Refusal> {
+        ran(raw::run_plain(&mut self.0, memory, count, words))
+    }
+}

@@ -1,0 +1,108 @@
+//! Logs and the player.
+
+use crate::{Refusal, raw};
+use std::fmt;
+use std::ops::Range;
+
+/// A refusal of a log, with its place.
+#[derive(Clone, Copy, Debug, PartialEq, Eq)]
+pub struct Fault {
+    /// The refusal.
+    pub refusal: Refusal,
+    /// The start of the faulty line; the log's length if `stop` is missing; 0 where the fault is in no line.
+    pub place: usize,
+}
+
+impl fmt::Display for Fault {
+    fn fmt(&self, f: &mut fmt::Formatter) -> fmt::Result {
+        write!(f, "{} at {}", self.refusal, self.place)
+    }
+}
+
+impl std::error::Error for Fault {}
+
+/// The value of an answer about a log, or its fault.
+fn value(answer: u64) -> Result<u64, Fault> {
+    match answer as u8 {
+        0 => Ok(answer >> 32),
+        number => Err(Fault { refusal: Refusal(number), place: (answer >> 8 & 0xff_ffff) as usize }),
+    }
+}
+
+/// One of a log's list.
+#[derive(Clone, Copy, Debug, PartialEq, Eq)]
+pub enum Item {
+    /// So many clocks.
+    Wait(u32),
+    /// A register and a value.
+    Write(u16, u8),
+    /// A read of $4015.
+    Read,
+}
+
+/// Checks a log and gives its clocks in all.
+pub fn check(log: &[u8]) -> Result<u64, Fault> {
+    value(raw::check(log))
+}
+
+/// Item k of the log's list, from 0.
+pub fn item(log: &[u8], k: u64) -> Result<Item, Fault> {
+    let value = value(raw::item(log, k))?;
+    let held = value as u32 & 0xff_ffff;
+    Ok(match value >> 24 {
+        1 => Item::Wait(held),
+        2 => Item::Write((held >> 8) as u16, held as u8),
+        _ => Item::Read,
+    })
+}
+
+/// The bytes between the loop line at the offset and its `done`.
+pub fn body(log: &[u8], offset: u64) -> Result<&[u8], Fault> {
+    let value = value(raw::body(log, offset))?;
+    let start = (value & 0xffff) as usize;
+    let part: Range<usize> = start..start + (value >> 16) as usize;
+    Ok(&log[part])
+}
+
+/// The text that the player writes for a fault.
+pub fn refusal_text(fault: Fault) -> Vec<u8> {
+    let mut text = vec![0; 40];
+    let answer = raw::refusal_text(fault.refusal.0, fault.place as u64, &mut text);
+    text.truncate((answer >> 32) as usize);
+    text
+}
+
+/// A log being played: an iterator of pieces of its text, each of whole lines.
+pub struct Player<'a> {
+    bytes: Vec<u8>,
+    log: &'a [u8],
+    memory: &'a [u8],
+    over: bool,
+}
+
+impl<'a> Player<'a> {
+    const PIECE: usize = 1 << 16;
+
+    /// A player at the log's beginning.
+    pub fn new(log: &'a [u8], memory: &'a [u8]) -> Result<Self, Fault> {
+        let mut bytes = vec![0; raw::player_size()];
+        value(raw::begin(&mut bytes, log, memory))?;
+        Ok(Self { bytes, log, memory, over: false })
+    }
+}
+
+impl Iterator for Player<'_> {
+    type Item = Vec<u8>;
+
+    fn next(&mut self) -> Option<Vec<u8>> {
+        if self.over {
+            return None;
+        }
+        let mut text = vec![0; Self::PIECE];
+        let answer = raw::play_on(&mut self.bytes, self.log, self.memory, &mut text);
+        // A player that was begun with this log and memory isn't refused.
+        self.over = answer as u16 != 0;
+        text.truncate((answer >> 32) as usize);
+        Some(text)
+    }
+}

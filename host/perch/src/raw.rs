@@ -1,0 +1,180 @@
+//! The functions of `include/perchpulley.h` on slices: any bytes and any numbers get an answer.
+//!
+//! An answer is number + 256 x value; a run's number + 2^8 x clocks done + 2^32 x records; one about a log number + 2^8 x
+//! place + 2^32 x value; a piece's number + 2^8 x over + 2^32 x bytes written.
+
+#[cfg(not(archive))]
+use standin::{
+    perch_clock, perch_in_range, perch_level, perch_level_f32, perch_line, perch_power_on, perch_read_status,
+    perch_run, perch_run_plain, perch_state_size, perch_write,
+};
+
+#[cfg(not(archive_logs))]
+use standin::{perch_begin, perch_body, perch_check, perch_item, perch_play_on, perch_player_size, perch_refusal_text};
+
+#[cfg(archive)]
+unsafe extern "C" {
+    safe fn perch_state_size() -> usize;
+    fn perch_power_on(state: *mut u8, n: usize) -> u64;
+    fn perch_in_range(state: *const u8, n: usize) -> u64;
+    fn perch_write(state: *mut u8, n: usize, register: u16, value: u8) -> u64;
+    fn perch_read_status(state: *mut u8, n: usize) -> u64;
+    fn perch_line(state: *const u8, n: usize) -> u64;
+    fn perch_level(state: *const u8, n: usize) -> u64;
+    fn perch_level_f32(state: *const u8, n: usize) -> f32;
+    fn perch_clock(state: *mut u8, n: usize, memory: *const u8, m: usize) -> u64;
+    fn perch_run(state: *mut u8, n: usize, memory: *const u8, m: usize, count: u64, words: *mut u32, w: usize) -> u64;
+    fn perch_run_plain(
+        state: *mut u8,
+        n: usize,
+        memory: *const u8,
+        m: usize,
+        count: u64,
+        words: *mut u32,
+        w: usize,
+    ) -> u64;
+}
+
+#[cfg(archive_logs)]
+unsafe extern "C" {
+    fn perch_check(log: *const u8, n: usize) -> u64;
+    fn perch_item(log: *const u8, n: usize, k: u64) -> u64;
+    fn perch_body(log: *const u8, n: usize, offset: u64) -> u64;
+    safe fn perch_player_size() -> usize;
+    fn perch_begin(player: *mut u8, p: usize, log: *const u8, n: usize, memory: *const u8, m: usize) -> u64;
+    fn perch_play_on(
+        player: *mut u8,
+        p: usize,
+        log: *const u8,
+        n: usize,
+        memory: *const u8,
+        m: usize,
+        text: *mut u8,
+        t: usize,
+    ) -> u64;
+    fn perch_refusal_text(number: u8, place: u64, text: *mut u8, t: usize) -> u64;
+}
+
+// In every call below a slice gives a pointer that is valid for its length, and two slices of which one may be written
+// don't overlap.
+
+/// How many bytes a state is.
+pub fn state_size() -> usize {
+    perch_state_size()
+}
+
+/// Writes the state at power-on.
+pub fn power_on(state: &mut [u8]) -> u64 {
+    unsafe { perch_power_on(state.as_mut_ptr(), state.len()) }
+}
+
+/// 1 where the bytes are a state in range; 2 is its refusal.
+pub fn in_range(state: &[u8]) -> u64 {
+    unsafe { perch_in_range(state.as_ptr(), state.len()) }
+}
+
+/// Writes a register.
+pub fn write(state: &mut [u8], register: u16, value: u8) -> u64 {
+    unsafe { perch_write(state.as_mut_ptr(), state.len(), register, value) }
+}
+
+/// Reads $4015.
+pub fn read_status(state: &mut [u8]) -> u64 {
+    unsafe { perch_read_status(state.as_mut_ptr(), state.len()) }
+}
+
+/// 1 where the interrupt line is asserted.
+pub fn line(state: &[u8]) -> u64 {
+    unsafe { perch_line(state.as_ptr(), state.len()) }
+}
+
+/// The level.
+pub fn level(state: &[u8]) -> u64 {
+    unsafe { perch_level(state.as_ptr(), state.len()) }
+}
+
+/// The level over 32,768, 0.0 where refused.
+pub fn level_f32(state: &[u8]) -> f32 {
+    unsafe { perch_level_f32(state.as_ptr(), state.len()) }
+}
+
+/// Works one clock.
+pub fn clock(state: &mut [u8], memory: &[u8]) -> u64 {
+    unsafe { perch_clock(state.as_mut_ptr(), state.len(), memory.as_ptr(), memory.len()) }
+}
+
+/// Runs, leaping where nothing changes.
+pub fn run(state: &mut [u8], memory: &[u8], count: u64, words: &mut [u32]) -> u64 {
+    unsafe {
+        perch_run(
+            state.as_mut_ptr(),
+            state.len(),
+            memory.as_ptr(),
+            memory.len(),
+            count,
+            words.as_mut_ptr(),
+            words.len(),
+        )
+    }
+}
+
+/// The same, clock by clock.
+pub fn run_plain(state: &mut [u8], memory: &[u8], count: u64, words: &mut [u32]) -> u64 {
+    unsafe {
+        perch_run_plain(
+            state.as_mut_ptr(),
+            state.len(),
+            memory.as_ptr(),
+            memory.len(),
+            count,
+            words.as_mut_ptr(),
+            words.len(),
+        )
+    }
+}
+
+/// Checks a log; the value is the clocks in all.
+pub fn check(log: &[u8]) -> u64 {
+    unsafe { perch_check(log.as_ptr(), log.len()) }
+}
+
+/// Item k of a log: kind x 2^24 + what it holds.
+pub fn item(log: &[u8], k: u64) -> u64 {
+    unsafe { perch_item(log.as_ptr(), log.len(), k) }
+}
+
+/// The body of the loop whose line begins at the offset: start + 2^16 x length.
+pub fn body(log: &[u8], offset: u64) -> u64 {
+    unsafe { perch_body(log.as_ptr(), log.len(), offset) }
+}
+
+/// How many bytes a player is.
+pub fn player_size() -> usize {
+    perch_player_size()
+}
+
+/// Makes the bytes a player at the log's beginning.
+pub fn begin(player: &mut [u8], log: &[u8], memory: &[u8]) -> u64 {
+    unsafe { perch_begin(player.as_mut_ptr(), player.len(), log.as_ptr(), log.len(), memory.as_ptr(), memory.len()) }
+}
+
+/// Writes the player's next lines.
+pub fn play_on(player: &mut [u8], log: &[u8], memory: &[u8], text: &mut [u8]) -> u64 {
+    unsafe {
+        perch_play_on(
+            player.as_mut_ptr(),
+            player.len(),
+            log.as_ptr(),
+            log.len(),
+            memory.as_ptr(),
+            memory.len(),
+            text.as_mut_ptr(),
+            text.len(),
+        )
+    }
+}
+
+/// Writes the text of a refusal.
+pub fn refusal_text(number: u8, place: u64, text: &mut [u8]) -> u64 {
+    unsafe { perch_refusal_text(number, place, text.as_mut_ptr(), text.len()) }
+}

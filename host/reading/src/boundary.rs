@@ -1,0 +1,103 @@
+//! The operations on bytes and numbers, with their refusals: what a caller in C is answered.
+//!
+//! An answer is number + 256 x value, a run's number + 2^8 x clocks done + 2^32 x records. A refused call answers its
+//! number alone and leaves what it was lent as it was.
+
+use crate::bytes::SIZE;
+use crate::chip::{Chip, is_register};
+use crate::mixer::level_f32;
+use crate::plain::plain;
+use crate::{MEMORY, MOST_CLOCKS, number};
+
+fn answer(value: u64) -> u64 {
+    value << 8
+}
+
+/// Works on the state that the bytes hold, and puts it back; 2 where they hold none.
+fn with_state(state: &mut [u8], act: impl FnOnce(&mut Chip) -> u64) -> u64 {
+    let Some(mut chip) = Chip::decode(state) else {
+        return number::STATE.into();
+    };
+    let answer = act(&mut chip);
+    state.copy_from_slice(&chip.encode());
+    answer
+}
+
+/// Writes the state at power-on.
+pub fn power_on(state: &mut [u8]) -> u64 {
+    if state.len() != SIZE {
+        return number::STATE.into();
+    }
+    state.copy_from_slice(&Chip::POWER_ON.encode());
+    0
+}
+
+/// 1 where the bytes are a state in range.
+pub fn in_range(state: &[u8]) -> u64 {
+    match Chip::decode(state) {
+        Some(_) => answer(1),
+        None => number::STATE.into(),
+    }
+}
+
+/// Writes a register.
+pub fn write(state: &mut [u8], register: u16, value: u8) -> u64 {
+    if Chip::decode(state).is_some() && !is_register(register) {
+        return number::REGISTER.into();
+    }
+    with_state(state, |chip| {
+        chip.write(register, value);
+        0
+    })
+}
+
+/// Reads $4015.
+pub fn read_status(state: &mut [u8]) -> u64 {
+    with_state(state, |chip| answer(chip.read_status().into()))
+}
+
+/// 1 where the interrupt line is asserted.
+pub fn line(state: &[u8]) -> u64 {
+    Chip::decode(state).map_or(number::STATE.into(), |chip| answer(chip.line().into()))
+}
+
+/// The level.
+pub fn level(state: &[u8]) -> u64 {
+    Chip::decode(state).map_or(number::STATE.into(), |chip| answer(chip.level().into()))
+}
+
+/// The level as a float, 0.0 where refused.
+pub fn level_float(state: &[u8]) -> f32 {
+    Chip::decode(state).map_or(0.0, |chip| level_f32(chip.level()))
+}
+
+/// Works one clock.
+pub fn clock(state: &mut [u8], memory: &[u8]) -> u64 {
+    if memory.len() != MEMORY {
+        return number::MEMORY.into();
+    }
+    with_state(state, |chip| {
+        chip.clock(memory);
+        0
+    })
+}
+
+/// Runs, with two words for each record: its clock in the run from 1, and the level.
+pub fn run(state: &mut [u8], memory: &[u8], count: u64, words: &mut [u32]) -> u64 {
+    if memory.len() != MEMORY {
+        return number::MEMORY.into();
+    }
+    let Some(chip) = Chip::decode(state) else {
+        return number::STATE.into();
+    };
+    if count > MOST_CLOCKS {
+        return number::CLOCKS.into();
+    }
+    let ran = plain(chip, memory, count, words.len() as u64 / 2);
+    for (pair, record) in words.chunks_exact_mut(2).zip(&ran.records) {
+        pair[0] = record.clock as u32;
+        pair[1] = record.level.into();
+    }
+    state.copy_from_slice(&ran.chip.encode());
+    ran.done << 8 | (ran.records.len() as u64) << 32
+}

@@ -1,0 +1,52 @@
+//! Document 01 read in plain Rust, clock by clock, from the paper and from nothing else.
+//!
+//! The library that this is compared with leaps; this reading never does. It is written to be held against the paper
+//! line by line, so each rule stands in it once and in the paper's words.
+
+pub mod boundary;
+pub mod bytes;
+pub mod chip;
+pub mod log;
+pub mod mixer;
+pub mod plain;
+pub mod play;
+pub mod player;
+
+pub use chip::Chip;
+pub use plain::{Plain, Record, plain};
+
+/// The length of sample memory, $8000 to $FFFF.
+pub const MEMORY: usize = 32_768;
+
+/// The most clocks that one run may be asked for.
+pub const MOST_CLOCKS: u64 = 1_000_000;
+
+/// The numbers an answer can carry.
+pub mod number {
+    /// Done.
+    pub const DONE: u8 = 0;
+    /// Sample memory isn't 32,768 bytes.
+    pub const MEMORY: u8 = 1;
+    /// A state field is outside its range.
+    pub const STATE: u8 = 2;
+    /// A run of more than 1,000,000 clocks.
+    pub const CLOCKS: u8 = 3;
+    /// The register is not among $4000..$4013, $4015, $4017.
+    pub const REGISTER: u8 = 4;
+    /// The log is longer than 60,000 bytes.
+    pub const LONG: u8 = 5;
+    /// A line not of the log's form, or `stop` missing.
+    pub const FORM: u8 = 6;
+    /// A ninth loop opened inside eight.
+    pub const DEPTH: u8 = 7;
+    /// `done` with no loop open, or `stop` with one open.
+    pub const UNMATCHED: u8 = 8;
+    /// Over 2,000,000,000 clocks or 1,000,000 turns in all.
+    pub const TOTALS: u8 = 9;
+    /// `stop` differs from the clocks in all.
+    pub const STOP: u8 = 10;
+    /// Item k asked for and the log has k or fewer.
+    pub const ITEM: u8 = 11;
+    /// No loop line begins at the offset asked for.
+    pub const LOOP: u8 = 12;
+}

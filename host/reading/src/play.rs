@@ -1,0 +1,68 @@
+//! The player: what a log sounds like, as lines of text.
+
+use crate::chip::Chip;
+use crate::log::{self, Fault, Item};
+use crate::{MEMORY, number};
+use std::fmt::Write;
+
+/// Whether a log plays with this sample memory: the memory first, then the log.
+pub fn check(log: &[u8], memory: &[u8]) -> Result<log::Totals, Fault> {
+    if memory.len() != MEMORY {
+        return Err(Fault { number: number::MEMORY, place: 0 });
+    }
+    log::check(log)
+}
+
+/// The text of a refusal.
+pub fn refusal(fault: Fault) -> String {
+    format!("play=1\nrefused={}:{}\n", fault.number, fault.place)
+}
+
+/// All that the player writes for a log.
+pub fn text(log: &[u8], memory: &[u8]) -> String {
+    match check(log, memory).and_then(|_| log::items(log)) {
+        Ok(items) => sounds(&items, memory),
+        Err(fault) => refusal(fault),
+    }
+}
+
+/// The lines of a list.
+fn sounds(items: &[Item], memory: &[u8]) -> String {
+    let mut chip = Chip::POWER_ON;
+    let mut time = 0u64;
+    let mut last = chip.level();
+    let mut outputs = chip.outputs();
+    let mut text = format!("play=1\nlevel=0:{last}\n");
+    let mut hear = |chip: &Chip, time: u64, text: &mut String| {
+        // Equal outputs mix to an equal level.
+        if chip.outputs() != outputs {
+            outputs = chip.outputs();
+            if outputs.level() != last {
+                last = outputs.level();
+                let _ = writeln!(text, "level={time}:{last}");
+            }
+        }
+    };
+    for item in items {
+        match *item {
+            Item::Wait(clocks) => {
+                for _ in 0..clocks {
+                    chip.clock(memory);
+                    time += 1;
+                    hear(&chip, time, &mut text);
+                }
+            }
+            Item::Write(register, value) => {
+                chip.write(register, value);
+                hear(&chip, time, &mut text);
+            }
+            Item::Read => {
+                let byte = chip.read_status();
+                let _ = writeln!(text, "read={time}:{byte:02x}");
+                hear(&chip, time, &mut text);
+            }
+        }
+    }
+    let _ = writeln!(text, "stop={time}");
+    text
+}

@@ -1,0 +1,139 @@
+//! The functions of `include/perchpulley.h` by the plain Rust reading: every run goes clock by clock.
+//!
+//! It lets the tools here be built and tried where the library isn't. A comparison with it compares the reading with
+//! itself. With the feature `export` the functions have their names for C too.
+//!
+//! # Safety
+//! For every function here: each pointer is valid for as many items as the length behind it says, never null, and no
+//! two of them overlap.
+#![allow(clippy::missing_safety_doc, missing_docs)]
+
+use reading::{boundary, player as pieces};
+use std::slice::{from_raw_parts, from_raw_parts_mut};
+
+#[cfg_attr(feature = "export", unsafe(no_mangle))]
+pub extern "C" fn perch_state_size() -> usize {
+    reading::bytes::SIZE
+}
+
+#[cfg_attr(feature = "export", unsafe(no_mangle))]
+pub unsafe extern "C" fn perch_power_on(state: *mut u8, n: usize) -> u64 {
+    boundary::power_on(unsafe { from_raw_parts_mut(state, n) })
+}
+
+#[cfg_attr(feature = "export", unsafe(no_mangle))]
+pub unsafe extern "C" fn perch_in_range(state: *const u8, n: usize) -> u64 {
+    boundary::in_range(unsafe { from_raw_parts(state, n) })
+}
+
+#[cfg_attr(feature = "export", unsafe(no_mangle))]
+pub unsafe extern "C" fn perch_write(state: *mut u8, n: usize, register: u16, value: u8) -> u64 {
+    boundary::write(unsafe { from_raw_parts_mut(state, n) }, register, value)
+}
+
+#[cfg_attr(feature = "export", unsafe(no_mangle))]
+pub unsafe extern "C" fn perch_read_status(state: *mut u8, n: usize) -> u64 {
+    boundary::read_status(unsafe { from_raw_parts_mut(state, n) })
+}
+
+#[cfg_attr(feature = "export", unsafe(no_mangle))]
+pub unsafe extern "C" fn perch_line(state: *const u8, n: usize) -> u64 {
+    boundary::line(unsafe { from_raw_parts(state, n) })
+}
+
+#[cfg_attr(feature = "export", unsafe(no_mangle))]
+pub unsafe extern "C" fn perch_level(state: *const u8, n: usize) -> u64 {
+    boundary::level(unsafe { from_raw_parts(state, n) })
+}
+
+#[cfg_attr(feature = "export", unsafe(no_mangle))]
+pub unsafe extern "C" fn perch_level_f32(state: *const u8, n: usize) -> f32 {
+    boundary::level_float(unsafe { from_raw_parts(state, n) })
+}
+
+#[cfg_attr(feature = "export", unsafe(no_mangle))]
+pub unsafe extern "C" fn perch_clock(state: *mut u8, n: usize, memory: *const u8, m: usize) -> u64 {
+    unsafe { boundary::clock(from_raw_parts_mut(state, n), from_raw_parts(memory, m)) }
+}
+
+#[cfg_attr(feature = "export", unsafe(no_mangle))]
+pub unsafe extern "C" fn perch_run(
+    state: *mut u8,
+    n: usize,
+    memory: *const u8,
+    m: usize,
+    count: u64,
+    words: *mut u32,
+    w: usize,
+) -> u64 {
+    unsafe {
+        boundary::run(from_raw_parts_mut(state, n), from_raw_parts(memory, m), count, from_raw_parts_mut(words, w))
+    }
+}
+
+#[cfg_attr(feature = "export", unsafe(no_mangle))]
+pub unsafe extern "C" fn perch_run_plain(
+    state: *mut u8,
+    n: usize,
+    memory: *const u8,
+    m: usize,
+    count: u64,
+    words: *mut u32,
+    w: usize,
+) -> u64 {
+    unsafe { perch_run(state, n, memory, m, count, words, w) }
+}
+
+#[cfg_attr(feature = "export", unsafe(no_mangle))]
+pub unsafe extern "C" fn perch_check(log: *const u8, n: usize) -> u64 {
+    pieces::check(unsafe { from_raw_parts(log, n) })
+}
+
+#[cfg_attr(feature = "export", unsafe(no_mangle))]
+pub unsafe extern "C" fn perch_item(log: *const u8, n: usize, k: u64) -> u64 {
+    pieces::item(unsafe { from_raw_parts(log, n) }, k)
+}
+
+#[cfg_attr(feature = "export", unsafe(no_mangle))]
+pub unsafe extern "C" fn perch_body(log: *const u8, n: usize, offset: u64) -> u64 {
+    pieces::body(unsafe { from_raw_parts(log, n) }, offset)
+}
+
+#[cfg_attr(feature = "export", unsafe(no_mangle))]
+pub extern "C" fn perch_player_size() -> usize {
+    pieces::SIZE
+}
+
+#[cfg_attr(feature = "export", unsafe(no_mangle))]
+pub unsafe extern "C" fn perch_begin(
+    player: *mut u8,
+    p: usize,
+    log: *const u8,
+    n: usize,
+    memory: *const u8,
+    m: usize,
+) -> u64 {
+    unsafe { pieces::begin(from_raw_parts_mut(player, p), from_raw_parts(log, n), from_raw_parts(memory, m)) }
+}
+
+#[cfg_attr(feature = "export", unsafe(no_mangle))]
+pub unsafe extern "C" fn perch_play_on(
+    player: *mut u8,
+    p: usize,
+    log: *const u8,
+    n: usize,
+    memory: *const u8,
+    m: usize,
+    text: *mut u8,
+    t: usize,
+) -> u64 {
+    unsafe {
+        let (player, text) = (from_raw_parts_mut(player, p), from_raw_parts_mut(text, t));
+        pieces::play_on(player, from_raw_parts(log, n), from_raw_parts(memory, m), text)
+    }
+}
+
+#[cfg_attr(feature = "export", unsafe(no_mangle))]
+pub unsafe extern "C" fn perch_refusal_text(number: u8, place: u64, text: *mut u8, t: usize) -> u64 {
+    pieces::refusal_text(number, place, unsafe { from_raw_parts_mut(text, t) })
+}

@@ -1,0 +1,149 @@
+/* Perchpulley: a proved player of 2A03 sound logs.
+ *
+ * Every function here answers for any bytes and any numbers, and changes nothing but what it says.
+ *
+ * A slice is a pointer and then a length, in items. The pointer is valid for that many items and not null, also where
+ * the length is 0; slices lent to one call don't overlap, and nobody else writes them meanwhile.
+ *
+ * An answer is one 64-bit number: its low 8 bits are the answer's number, PERCH_DONE or a refusal, and the bits above
+ * are its value. A refused call answers its number alone, with value 0, and leaves all that was lent to it as it was.
+ * Where several refusals hold the lowest is given.
+ *
+ * A state is PERCH_STATE_SIZE bytes: the fields in the order in which document 01, "State, ranges and power-on", names
+ * them. Period, timer, shift register, address, remaining and phase take two bytes, low first, every other field one;
+ * a flag is 0 or 1. Bytes of another length, or with a flag above 1, or with a field outside its range, are no state in
+ * range (PERCH_REFUSED_STATE).
+ *
+ *   byte   0  square 1: duty, loop, constant, n, sweep enable, negate, P, S, sweep-written, sweep divider, period (2),
+ *             timer (2), half, position, envelope start, envelope divider, envelope counter, length, enabled
+ *         21  square 2: the same
+ *         42  triangle: control, reload, linear, linear-halt, period (2), timer (2), position, length, enabled
+ *         53  noise: loop, constant, n, envelope start, envelope divider, envelope counter, length, enabled, mode,
+ *             index, timer (2), shift register (2)
+ *         67  DMC: interrupt enable, loop, index, timer (2), level, address byte, length byte, address (2),
+ *             remaining (2), buffer, full, shift byte, bits, silence, interrupt
+ *         85  frame: mode, disable, phase (2), step, interrupt
+ */
+#ifndef PERCHPULLEY_H
+#define PERCHPULLEY_H
+
+#include <stddef.h>
+#include <stdint.h>
+
+#ifdef __cplusplus
+extern "C" {
+#endif
+
+#define PERCH_STATE_SIZE 91        /* bytes of a state; perch_state_size() at run time */
+#define PERCH_MEMORY_SIZE 32768    /* bytes of sample memory, $8000 to $FFFF */
+#define PERCH_MOST_CLOCKS 1000000  /* clocks that one run may be asked for */
+
+#define PERCH_DONE 0
+#define PERCH_REFUSED_MEMORY 1    /* sample memory isn't PERCH_MEMORY_SIZE bytes */
+#define PERCH_REFUSED_STATE 2     /* the bytes are no state in range */
+#define PERCH_REFUSED_CLOCKS 3    /* a run of more than PERCH_MOST_CLOCKS */
+#define PERCH_REFUSED_REGISTER 4  /* register not among $4000..$4013, $4015, $4017 */
+#define PERCH_REFUSED_LONG 5      /* log longer than 60,000 bytes */
+#define PERCH_REFUSED_FORM 6      /* a line not of the log's form, or `stop` missing */
+#define PERCH_REFUSED_DEPTH 7     /* a ninth loop opened inside eight */
+#define PERCH_REFUSED_UNMATCHED 8 /* `done` with no loop open, or `stop` with one open */
+#define PERCH_REFUSED_TOTALS 9    /* over 2,000,000,000 clocks or 1,000,000 turns in all */
+#define PERCH_REFUSED_STOP 10     /* `stop` differs from the clocks in all */
+#define PERCH_REFUSED_ITEM 11     /* item k asked for and the log has k or fewer */
+#define PERCH_REFUSED_LOOP 12     /* no loop line begins at the offset asked for */
+
+/* The number of an answer, and its value. */
+#define PERCH_NUMBER(answer) ((unsigned)((answer) & 0xff))
+#define PERCH_VALUE(answer) ((uint64_t)(answer) >> 8)
+
+/* Of a run's answer: the clocks done, and the records written. */
+#define PERCH_CLOCKS(answer) ((uint32_t)((answer) >> 8 & 0xffffff))
+#define PERCH_RECORDS(answer) ((uint32_t)((uint64_t)(answer) >> 32))
+
+/* How many bytes a state is. */
+size_t perch_state_size(void);
+
+/* Makes the n bytes the state at power-on, whatever they held. Refused: n isn't the size of a state (2). */
+uint64_t perch_power_on(uint8_t *state, size_t n);
+
+/* Value 1 where the bytes are a state in range; else refused (2). */
+uint64_t perch_in_range(const uint8_t *state, size_t n);
+
+/* Writes a value to a register. Refused: 2, 4. */
+uint64_t perch_write(uint8_t *state, size_t n, uint16_t reg, uint8_t value);
+
+/* Reads $4015, which clears the frame flag; the value is the byte read. Refused: 2. */
+uint64_t perch_read_status(uint8_t *state, size_t n);
+
+/* Value 1 where the interrupt line is asserted. Refused: 2. */
+uint64_t perch_line(const uint8_t *state, size_t n);
+
+/* The mixed level, 0..32767. Refused: 2. */
+uint64_t perch_level(const uint8_t *state, size_t n);
+
+/* The mixed level over 32,768, exact; 0.0 where the bytes are no state in range. */
+float perch_level_f32(const uint8_t *state, size_t n);
+
+/* Works one clock with the m bytes of sample memory. Refused: 1, 2. */
+uint64_t perch_clock(uint8_t *state, size_t n, const uint8_t *memory, size_t m);
+
+/* Works count clocks, leaping where nothing changes. For each clock whose level differs from that before it writes a
+ * record of two words: the clock's number in the run, from 1, and the level. It ends early exactly before a clock that
+ * needs a record where w / 2 records stand; words behind the last record stay. Refused: 1, 2, 3. */
+uint64_t perch_run(uint8_t *state, size_t n, const uint8_t *memory, size_t m, uint64_t count, uint32_t *words,
+                   size_t w);
+
+/* The same, clock by clock. */
+uint64_t perch_run_plain(uint8_t *state, size_t n, const uint8_t *memory, size_t m, uint64_t count, uint32_t *words,
+                         size_t w);
+
+/* Logs. An answer about a log is number + 2^8 x place + 2^32 x value. The place is 0 where the number is 0; else the start
+ * of the faulty line, the log's length if `stop` is missing, the `stop` line for 9 and 10, and 0 otherwise. */
+#define PERCH_PLACE(answer) ((uint32_t)((answer) >> 8 & 0xffffff))
+#define PERCH_LOG_VALUE(answer) ((uint32_t)((uint64_t)(answer) >> 32))
+
+/* Checks a log. The value is the clocks in all. Refused: 4 to 10. */
+uint64_t perch_check(const uint8_t *log, size_t n);
+
+/* Item k, from 0, of the waits, writes and reads that the log stands for, its loops unrolled. The value is kind x 2^24 + what
+ * it holds: of a wait its clocks; of a write 256 x register + value; of a read 0. Refused: as the log, then 11. */
+uint64_t perch_item(const uint8_t *log, size_t n, uint64_t k);
+#define PERCH_WAIT 1
+#define PERCH_WRITE 2
+#define PERCH_READ 3
+#define PERCH_KIND(answer) ((unsigned)((uint64_t)(answer) >> 56))
+#define PERCH_HELD(answer) ((uint32_t)((uint64_t)(answer) >> 32 & 0xffffff))
+
+/* The bytes between the loop line that begins at the offset and its `done`, as a part of the log: the value is where they
+ * start + 2^16 x how many they are. Refused: as the log, then 12. */
+uint64_t perch_body(const uint8_t *log, size_t n, uint64_t offset);
+#define PERCH_START(answer) ((uint32_t)((uint64_t)(answer) >> 32 & 0xffff))
+#define PERCH_LENGTH(answer) ((uint32_t)((uint64_t)(answer) >> 48))
+
+/* The player in pieces. A player is perch_player_size() bytes that the caller keeps between two pieces. */
+size_t perch_player_size(void);
+
+/* Makes the p bytes a player at the log's beginning, whatever they held. Refused: 1; p isn't the size of a player (2); as
+ * the log. */
+uint64_t perch_begin(uint8_t *player, size_t p, const uint8_t *log, size_t n, const uint8_t *memory, size_t m);
+
+/* Writes the player's next lines to the text, whole lines only, and moves the player behind them. The pieces joined are what
+ * the player program writes. A text of PERCH_LONGEST_LINE bytes or more gets one line at least until the player is over; how
+ * many more is free; a shorter one may get none, and then the player stays. Bytes behind the lines stay. The answer is
+ * number + 2^8 x over + 2^32 x bytes written. The log and the memory are those that the player began with. Refused: 1; the
+ * bytes are no player (2). */
+uint64_t perch_play_on(uint8_t *player, size_t p, const uint8_t *log, size_t n, const uint8_t *memory, size_t m,
+                       uint8_t *text, size_t t);
+#define PERCH_LONGEST_LINE 23
+#define PERCH_OVER(answer) ((unsigned)((answer) >> 8 & 1))
+#define PERCH_WRITTEN(answer) ((size_t)((uint64_t)(answer) >> 32))
+
+/* Writes the text of a refusal: `play=1` and `refused=NUMBER:PLACE`; nothing where the text is too short for it (40 bytes
+ * are enough). The answer is 2^32 x bytes written. */
+uint64_t perch_refusal_text(uint8_t number, uint64_t place, uint8_t *text, size_t t);
+
+#ifdef __cplusplus
+}
+#endif
+
+#endif
