@@ -66,7 +66,7 @@ size_t perch_state_size(void);
 /* Makes the n bytes the state at power-on, whatever they held. Refused: n isn't the size of a state (2). */
 uint64_t perch_power_on(uint8_t *state, size_t n);
 
-/* Value 1 where the bytes are a state in range; else refused (2). */
+/* Value 1 where the bytes are a state in range, else 0. It refuses nothing. */
 uint64_t perch_in_range(const uint8_t *state, size_t n);
 
 /* Writes a value to a register. Refused: 2, 4. */

@@ -112,7 +112,10 @@ impl Chip {
 
     /// The state that the bytes hold, in document 01's order.
     pub fn from_bytes(state: [u8; STATE]) -> Result<Self, Refusal> {
-        value(raw::in_range(&state)).map(|_| Self(state))
+        match raw::in_range(&state) >> 8 {
+            0 => Err(Refusal(2)),
+            _ => Ok(Self(state)),
+        }
     }
 
     /// The state's bytes.

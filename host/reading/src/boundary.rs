@@ -32,12 +32,9 @@ pub fn power_on(state: &mut [u8]) -> u64 {
     0
 }
 
-/// 1 where the bytes are a state in range.
+/// 1 where the bytes are a state in range, else 0: the range test refuses nothing.
 pub fn in_range(state: &[u8]) -> u64 {
-    match Chip::decode(state) {
-        Some(_) => answer(1),
-        None => number::STATE.into(),
-    }
+    answer(Chip::decode(state).is_some().into())
 }
 
 /// Writes a register.
