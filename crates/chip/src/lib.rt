@@ -29,58 +29,54 @@ pub struct State {
     pub frame: Frame,
 }
 
-const NOISE_PERIODS: [u16; 16] = [
-    4,
-    8,
-    16,
-    32,
-    64,
-    96,
-    128,
-    160,
-    202,
-    254,
-    380,
-    508,
-    762,
-    1016,
-    2034,
-    4068,
-];
-
 // The noise timer's period at an index.
 pub fn noise_period(index: u8) -> u16
     ensures { λ r. ⌜ r ≡ noisePeriod index ⌝ }
 {
-    let i = (index % 16) as usize;
-    NOISE_PERIODS[i]
+    let i = index % 16;
+    match i {
+        0 => 4,
+        1 => 8,
+        2 => 16,
+        3 => 32,
+        4 => 64,
+        5 => 96,
+        6 => 128,
+        7 => 160,
+        8 => 202,
+        9 => 254,
+        10 => 380,
+        11 => 508,
+        12 => 762,
+        13 => 1016,
+        14 => 2034,
+        _ => 4068,
+    }
 }
-
-const DMC_PERIODS: [u16; 16] = [
-    428,
-    380,
-    340,
-    320,
-    286,
-    254,
-    226,
-    214,
-    190,
-    160,
-    142,
-    128,
-    106,
-    84,
-    72,
-    54,
-];
 
 // The DMC timer's period at an index.
 pub fn dmc_period(index: u8) -> u16
     ensures { λ r. ⌜ r ≡ dmcPeriod index ⌝ }
 {
-    let i = (index % 16) as usize;
-    DMC_PERIODS[i]
+    let i = index % 16;
+    match i {
+        0 => 428,
+        1 => 380,
+        2 => 340,
+        3 => 320,
+        4 => 286,
+        5 => 254,
+        6 => 226,
+        7 => 214,
+        8 => 190,
+        9 => 160,
+        10 => 142,
+        11 => 128,
+        12 => 106,
+        13 => 84,
+        14 => 72,
+        _ => 54,
+    }
 }
 
 // The state at power-on.
@@ -203,7 +199,10 @@ impl State {
         let due = self.frame.is_due();
         let mut s = self;
         s.frame = self.frame.moved();
-        s.step_if(due)
+        if due {
+            return s.step();
+        }
+        s
     }
 
     // One clock.

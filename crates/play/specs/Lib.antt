@@ -1,0 +1,5 @@
+pub mod Calls
+pub mod Notes
+pub mod Playing
+pub mod Steps
+pub mod Whole
