@@ -1,4 +1,5 @@
 // What the programs share: the sample memory read, a log played to standard output.
+ghost use mathlib.Core.Path.{_≡_};
 ghost use Rattle.io.specs.Counts.{Counts};
 use libc::STDOUT_FILENO;
 use play::Player;
@@ -40,8 +41,10 @@ fn refused(number: u8, place: usize) {
     piece(&out, n);
 }
 
-// Writes document 01's lines for a log, or those of its refusal.
-pub fn play(log: &[u8], memory: &[u8]) {
+// Writes document 01's lines for a log, or those of its refusal. It answers nothing, and no contract can say what bytes a write sends.
+pub fn play(log: &[u8], memory: &[u8])
+    ensures { λ r. ⌜ r ≡ tt ⌝ }
+{
     let b = play::begin(log, memory);
     if b.number == 0 {
         let p = b.player;

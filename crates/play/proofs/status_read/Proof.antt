@@ -8,9 +8,9 @@ use Rattle.play.proofs.status_read.Tie as tie
 returns : tie.Need-returns
 unfolding acted
 returns c = (
-      rw (← c .read .ensures, ← c .before .status .ensures) refl,
-      λ h. ap inRange (c .read .ensures) ∙ state-back _ (read-kept _ (state-in _ h)),
-    )
+  rw (← c .read .ensures, ← c .before .status .ensures) refl,
+  λ h. ap inRange (c .read .ensures) ∙ state-back _ (read-kept _ (state-in _ h)),
+)
 
 pub status-read-spec : {M : Type 1} → statement M
 status-read-spec = tie.close (tie.spec (λ c κs. tt) (λ c κs. tt) returns)
