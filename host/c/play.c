@@ -2,7 +2,7 @@
 #include <stdio.h>
 #include <stdlib.h>
 
-#include "perchpulley.h"
+#include "logs.h"
 
 static const char example[] = "log=1\nwrite=4011:40\nwait=10\nread=4015\nstop=10\n";
 
