@@ -1,5 +1,7 @@
 //! How fast the leaping run is, beside the run clock by clock: one table.
 
+#[cfg(pace)]
+mod pace;
 mod tune;
 
 use compare::draw;
@@ -229,6 +231,26 @@ fn table(log: Option<String>, gme: Option<String>, quick: bool) -> Result<(), Bo
         (0x4015, 0x1f),
         (0x4017, 0x80),
     ];
+    let voices = [
+        (0x4015, 0x0f),
+        (0x4000, 0xbf),
+        (0x4001, 0x08),
+        (0x4002, 0xfd),
+        (0x4003, 0x00),
+        (0x4004, 0x7a),
+        (0x4005, 0x08),
+        (0x4006, 0x80),
+        (0x4007, 0x01),
+        (0x4008, 0xff),
+        (0x400a, 0x40),
+        (0x400b, 0x01),
+        (0x400c, 0x3a),
+        (0x400e, 0x05),
+        (0x400f, 0x00),
+        (0x4010, 0x4e),
+        (0x4013, 0xff),
+        (0x4015, 0x1f),
+    ];
     println!("against {}\n", perch::LINKED);
     println!(
         "| {:<34} | {:>11} | {:>9} | {:>10} | {:>8} | {:>9} | {:>10} | {:>8} | {:>9} | {:>7} |",
@@ -238,6 +260,7 @@ fn table(log: Option<String>, gme: Option<String>, quick: bool) -> Result<(), Bo
     row(&scene("power-on, quiet, noise period 4", &[])?, &memory)?;
     row(&scene("quiet with $400E:0f", &[(0x400e, 0x0f)])?, &memory)?;
     row(&scene("one square, 440 Hz", &square)?, &memory)?;
+    row(&scene("all channels, audible", &voices)?, &memory)?;
     row(&scene("all channels, shortest periods", &all)?, &memory)?;
     let (states, clocks) = if quick { (50, 20_000) } else { (400, 60_000) };
     row(&worst(&memory, states, clocks)?, &memory)?;
@@ -262,6 +285,14 @@ fn table(log: Option<String>, gme: Option<String>, quick: bool) -> Result<(), Bo
             let (seconds, bytes, clocks) = heard(log.as_bytes(), &memory)?;
             println!("| {name:<34} | {clocks:>11} | {bytes:>10} | {seconds:>8.4} | {:>14} |", "");
         }
+    }
+    #[cfg(pace)]
+    {
+        println!("\n| {:<34} | {:>8} |", "the clock by itself", "ns/clock");
+        println!("|{}|{}", "-".repeat(36), "-:|");
+        let tries = if quick { 3 } else { 20 };
+        pace::line("all channels, audible", &after(&voices)?, &memory, tries)?;
+        pace::line("all channels, shortest periods", &after(&all)?, &memory, tries)?;
     }
     if let Some(command) = gme {
         let seconds = least(&command).ok_or("the libgme command told no time")?;
