@@ -55,6 +55,12 @@ pub fn minus_u16(x: u16, y: u16) -> u16
     if x < y { 0 } else { x - y }
 }
 
+pub fn minus_u32(x: u32, y: u32) -> u32
+    ensures { λ r. ⌜ r ≡ x - y ⌝ }
+{
+    if x < y { 0 } else { x - y }
+}
+
 pub fn wide_u16(x: u8) -> u16
     ensures { λ r. ⌜ r ≡ x ⌝ }
 {

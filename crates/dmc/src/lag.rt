@@ -1,6 +1,5 @@
 // The DMC as a stretch between two frame steps keeps it.
 ghost use mathlib.Core.Path.{_≡_};
-ghost use Prim.Native.Nat.{_-_};
 ghost use Rattle.dmc.specs.Lag.{dmcLag, dmcRenewed, dmcAt};
 use super::Dmc;
 
@@ -11,13 +10,6 @@ pub struct DmcLag {
     pub at: u32,
     pub next: u64,
     pub out: u8,
-}
-
-// The clocks from at to k.
-fn since(at: u32, k: u32) -> u32
-    ensures { λ r. ⌜ r ≡ k - at ⌝ }
-{
-    if k < at { 0 } else { k - at }
 }
 
 impl DmcLag {
@@ -51,7 +43,7 @@ impl DmcLag {
     pub fn dmc_at(self, k: u32) -> Dmc
         ensures { λ r. ⌜ r ≡ dmcAt self k ⌝ }
     {
-        let g = since(self.at, k);
+        let g = arith::minus_u32(k, self.at);
         self.dmc.advance(self.n, g)
     }
 }

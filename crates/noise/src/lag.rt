@@ -1,7 +1,6 @@
 // The noise as a stretch between two frame steps keeps it.
 ghost use mathlib.Core.Path.{_≡_};
 ghost use mathlib.Core.Bool.{Bool};
-ghost use Prim.Native.Nat.{_-_};
 ghost use Rattle.noise.specs.Lag.{noiseLag, noiseRenewed, noiseShifterAt};
 use super::Shifter;
 
@@ -15,13 +14,6 @@ pub struct NoiseLag {
     pub at: u32,
     pub next: u64,
     pub out: u8,
-}
-
-// The clocks from at to k.
-fn since(at: u32, k: u32) -> u32
-    ensures { λ r. ⌜ r ≡ k - at ⌝ }
-{
-    if k < at { 0 } else { k - at }
 }
 
 impl NoiseLag {
@@ -57,7 +49,7 @@ impl NoiseLag {
     pub fn shifter_at(self, k: u32) -> Shifter
         ensures { λ r. ⌜ r ≡ noiseShifterAt self k ⌝ }
     {
-        let g = since(self.at, k);
+        let g = arith::minus_u32(k, self.at);
         self.shifter.advance(self.n, self.mode, g)
     }
 }

@@ -2,7 +2,7 @@
 // its next change; and the square as a stretch between two frame steps keeps it.
 ghost use mathlib.Core.Path.{_≡_};
 ghost use mathlib.Core.Bool.{Bool};
-ghost use Prim.Native.Nat.{ℕ, _+_, _-_, _/_, _%_};
+ghost use Prim.Native.Nat.{ℕ, _+_, _/_, _%_};
 ghost use Rattle.square.specs.Sequencer.{dutyBit};
 ghost use Rattle.square.specs.Leap.{stepsOf, beatOf, withBeat, dutyRow, beatGives, dutyTurns, squareStill, beatAdvanced, beatTurned};
 ghost use Rattle.square.specs.Packed.{turnsWord};
@@ -103,13 +103,6 @@ fn steps_after(steps: u32, k: u64) -> u32
     (((steps % 16) as u64 + k % 16) % 16) as u32
 }
 
-// The clocks from at to k.
-fn since(at: u32, k: u32) -> u32
-    ensures { λ r. ⌜ r ≡ k - at ⌝ }
-{
-    if k < at { 0 } else { k - at }
-}
-
 impl Beat {
     // What the square gives, from what it gives while the duty bit is 1 (`Square::amount`).
     pub fn gives(self, row: u32, amount: u32) -> u32
@@ -124,7 +117,7 @@ impl Beat {
         ensures { λ r. ⌜ r ≡ squareStill row amount self ⌝ }
     {
         let turns = duty_turns(row, self.steps);
-        let count = since(1, self.count);
+        let count = arith::minus_u32(self.count, 1);
         if amount == 0 {
             100000
         } else {
@@ -192,7 +185,7 @@ impl SquareLag {
     pub fn beat_at(self, k: u32) -> Beat
         ensures { λ r. ⌜ r ≡ squareBeatAt self k ⌝ }
     {
-        let g = since(self.at, k);
+        let g = arith::minus_u32(k, self.at);
         self.beat.advance(g)
     }
 }

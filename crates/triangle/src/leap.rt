@@ -2,7 +2,7 @@
 // at its next change; and the triangle as a stretch between two frame steps keeps it.
 ghost use mathlib.Core.Path.{_≡_};
 ghost use mathlib.Core.Bool.{Bool};
-ghost use Prim.Native.Nat.{ℕ, _+_, _-_, _%_};
+ghost use Prim.Native.Nat.{ℕ, _+_, _%_};
 ghost use Rattle.triangle.specs.Triangle.{triangleAt};
 ghost use Rattle.triangle.specs.Leap.{triangleGate, triangleBeatOf, triangleWithBeat, positionAfter, triangleGives, triangleStill, triangleBeatAdvanced, triangleBeatTurned};
 ghost use Rattle.triangle.specs.Lag.{triangleLag, triangleRenewed, triangleBeatAt};
@@ -81,13 +81,6 @@ fn position_after(on: u32, k: u64, position: u32) -> u32
     position_on(position, k)
 }
 
-// The clocks from at to k.
-fn since(at: u32, k: u32) -> u32
-    ensures { λ r. ⌜ r ≡ k - at ⌝ }
-{
-    if k < at { 0 } else { k - at }
-}
-
 impl Beat {
     // What the triangle gives.
     pub fn gives(self) -> u32
@@ -100,7 +93,7 @@ impl Beat {
     pub fn still_for(self, on: u32) -> u32
         ensures { λ r. ⌜ r ≡ triangleStill on self ⌝ }
     {
-        let count = since(1, self.count);
+        let count = arith::minus_u32(self.count, 1);
         if on == 0 { 100000 } else { count }
     }
 
@@ -162,7 +155,7 @@ impl TriangleLag {
     pub fn beat_at(self, k: u32) -> Beat
         ensures { λ r. ⌜ r ≡ triangleBeatAt self k ⌝ }
     {
-        let g = since(self.at, k);
+        let g = arith::minus_u32(k, self.at);
         self.beat.advance(self.on, g)
     }
 }

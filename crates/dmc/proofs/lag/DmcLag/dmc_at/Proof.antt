@@ -4,7 +4,7 @@ use Rattle.dmc.proofs.lag.DmcLag.dmc_at.Tie as tie
 
 returns : tie.Need-returns
 unfolding dmcAt
-returns c = simp (c .advance .ensures, c .before .since .ensures)
+returns c = simp (c .advance .ensures, c .before .minus-u32 .ensures)
 
 pub dmc-at-spec : {M : Type 1} → statement M
 dmc-at-spec = tie.close (tie.spec (λ c κs. tt) (λ c κs. tt) returns)

@@ -39,7 +39,7 @@ unfolding squareStill
 returns-2 c =
     simp (
       ne-eqb _ _ (c .before .if1 .left),
-      c .before .before .since .ensures,
+      c .before .before .minus-u32 .ensures,
       c .before .before .before .duty-turns .ensures,
     )
 
