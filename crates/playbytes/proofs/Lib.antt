@@ -1,0 +1,5 @@
+pub mod Back
+pub mod Codes
+pub mod Parts
+pub mod Placed
+pub mod Wides
