@@ -278,25 +278,42 @@ pub fn single(random: &mut Random) -> Case {
     Case { memory: memory(random), state, words: 0, ops }
 }
 
+/// A list of runs of up to 1,000,000 clocks from a state that sounds slowly, so that they need few records.
+fn slow(random: &mut Random) -> Case {
+    let mut chip = state(random);
+    sound(&mut chip, random);
+    for square in &mut chip.squares {
+        (square.period, square.sweep.enabled) = (random.within16(512..=2047), false);
+    }
+    chip.triangle.period = random.within16(1536..=2047);
+    chip.noise.index = 15;
+    chip.dmc.remaining = random.within16(0..=2);
+    chip.dmc.looped = false;
+    let accesses = random.one_in(2);
+    let mut ops = Vec::new();
+    for _ in 0..random.within(1..=3) {
+        ops.push(Op::Run { memory: MEMORY, count: random.within(1..=4) * MOST_CLOCKS / 4 });
+        between(random, accesses, &mut ops);
+    }
+    finish(random, &mut ops);
+    Case { memory: memory(random), state: chip.encode().to_vec(), words: 1024, ops }
+}
+
 /// A case to be stored: some of each kind, with few words.
 pub fn stored(random: &mut Random, number: u64) -> Case {
-    let mut case = match number % 4 {
-        0 => single(random),
-        1 => {
+    let mut case = match (number % 4, number % 24) {
+        (0, _) => single(random),
+        (1, _) => {
             let clocks = random.within(7_500..=40_000);
             long(random, clocks)
         }
+        (_, 2) => slow(random),
         _ => short(random),
     };
+    if number % 24 == 3 {
+        case.state.resize(random.pick(&[0, 1, SIZE - 1, SIZE + 1]), 0);
+    }
     case.words = case.words.min(random.within(900..=1024) as usize);
     case.ops.truncate(30);
-    for op in &mut case.ops {
-        if let Op::Run { count, .. } = op
-            && *count == MOST_CLOCKS
-            && number % 16 != 2
-        {
-            *count = 100_000;
-        }
-    }
     case
 }

@@ -1,6 +1,6 @@
 //! The library against the plain Rust reading, on drawn cases. See README.md beside it.
 
-use compare::case::{self, Case};
+use compare::case::{self, Case, Outcome};
 use compare::judge::{self, Tally, judge};
 use compare::random::Random;
 use compare::{draw, every, logs};
@@ -12,6 +12,7 @@ const USAGE: &str = "\
 compare [--seed N] [--short N] [--long N] [--logs N] [--archive] [--brief]
                                                         compare on drawn cases
 compare cases N [--seed N]                              write N cases with the reading's answers
+compare questions FILE                                  write the cases of a file with zeros for every answer
 compare check FILE                                      hold the library to the cases of a file
 compare log-cases N FOLDER [--seed N]                   write N logs, a sample.bin and the texts that the reading gives
 --archive: an error where the library's archive isn't linked; --brief: no more parts after one that differs";
@@ -167,9 +168,20 @@ fn write_logs(asked: &Asked, count: &str, folder: &str) -> Result<(), String> {
     write("texts".into(), texts.as_bytes())
 }
 
-fn check_cases(path: &str) -> Result<(), String> {
+fn read_cases(path: &str) -> Result<Vec<(Case, Outcome)>, String> {
     let text = std::fs::read_to_string(path).map_err(|error| format!("{path}: {error}"))?;
-    let cases = case::parse(&text).ok_or(format!("{path}: a line not of the form"))?;
+    case::parse(&text).ok_or(format!("{path}: a line not of the form"))
+}
+
+fn write_questions(path: &str) -> Result<(), String> {
+    for (case, _) in read_cases(path)? {
+        print!("{}", case::text(&case, &Outcome { answers: vec![0; case.ops.len()], state: Vec::new(), sum: 0 }));
+    }
+    Ok(())
+}
+
+fn check_cases(path: &str) -> Result<(), String> {
+    let cases = read_cases(path)?;
     for (number, (case, outcome)) in cases.iter().enumerate() {
         judge::holds(case, outcome).map_err(|what| format!("case {number}: {what}\n{}", case::text(case, outcome)))?;
         if case::text(case, &judge::expected(case)) != case::text(case, outcome) {
@@ -193,6 +205,7 @@ fn main() -> ExitCode {
     let result = match words[..] {
         [] => return if compare(&asked) { ExitCode::SUCCESS } else { ExitCode::FAILURE },
         ["cases", count] => write_cases(&asked, count),
+        ["questions", path] => write_questions(path),
         ["check", path] => check_cases(path),
         ["log-cases", count, folder] => write_logs(&asked, count, folder),
         _ => Err(USAGE.into()),

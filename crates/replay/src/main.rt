@@ -1,0 +1,117 @@
+// Works the stored cases of data/cases again and writes them with the library's answers; host/compare/README.md has their form. In
+// data/cases every answer is zeros; `stdout` is the same text with the answers of the independent reading in Rust. The program ends at
+// the first line that isn't of the form.
+mod acts;
+mod lent;
+mod lines;
+mod written;
+
+// What comes of one line.
+struct Step {
+    // the place behind it; 0 where the text ends here
+    at: u32,
+    // the words that records have taken so far
+    used: usize,
+    // whether the case ends here
+    last: bool,
+}
+
+// The place behind the n bytes at a place.
+fn behind(at: u32, n: usize) -> u32 {
+    std::num::wrapping_add_u32(at, (n % 1000) as u32)
+}
+
+// The line at a place of the file, worked and written.
+fn one(
+    file: i32,
+    at: u32,
+    memory: &[u8],
+    state: &mut [u8],
+    words: &mut [u32],
+    used: usize,
+) -> Step {
+    let mut line = lines::empty();
+    let n = lines::read(file, at, &mut line);
+    let letter = lines::byte(&line, 0);
+    if n == 0 || letter == b'B' {
+        return Step {
+            at: 0,
+            used: used,
+            last: true,
+        };
+    }
+    let a = acts::work(&line, memory, state, words, used);
+    written::answer(&mut line, a, state);
+    written::write(&line, n);
+    // only a run's answer has records
+    let taken = (a / 4294967296 * 2) as usize;
+    Step {
+        at: behind(at, n),
+        used: std::num::wrapping_add_usize(used, taken),
+        last: letter == b'E',
+    }
+}
+
+// The lines of a case behind its first, and the place behind them; 0 where the text ends there.
+fn rest(file: i32, at: u32, memory: &[u8], state: &mut [u8], words: &mut [u32]) -> u32 {
+    let mut place = at;
+    let mut used = 0;
+    for _ in 0..100000u32 {
+        let s = one(file, place, memory, state, words, used);
+        if s.last {
+            return s.at;
+        }
+        place = s.at;
+        used = s.used;
+    }
+    0
+}
+
+// The same, with what the case's first line lends.
+fn begun(file: i32, at: u32, line: &[u8]) -> u32 {
+    let room = lines::number(line, 17, 3) as usize;
+    let length = lines::number(line, 24, 1) as usize;
+    if 1024 < room {
+        return 0;
+    }
+    if 92 < length {
+        return 0;
+    }
+    let memory = lent::memory(line);
+    let mut state = lent::state(line);
+    let mut words = lent::words();
+    rest(
+        file,
+        at,
+        &memory,
+        &mut state[0..length],
+        &mut words[0..room],
+    )
+}
+
+// The case at a place of the file, and the place behind it; 0 where there is none.
+fn case(file: i32, at: u32) -> u32 {
+    let mut line = lines::empty();
+    let n = lines::read(file, at, &mut line);
+    if n == 0 || lines::byte(&line, 0) != b'B' {
+        return 0;
+    }
+    written::write(&line, n);
+    begun(file, behind(at, n), &line)
+}
+
+fn all(file: i32) {
+    let mut at = 0;
+    for _ in 0..100000u32 {
+        at = case(file, at);
+        if at == 0 {
+            return;
+        }
+    }
+}
+
+fn main() {
+    let file = os::open_read(b"cases");
+    all(file);
+    libc::close(file);
+}
