@@ -6,8 +6,9 @@
  * the length is 0; slices lent to one call don't overlap, and nobody else writes them meanwhile.
  *
  * An answer is one 64-bit number: its low 8 bits are the answer's number, PERCH_DONE or a refusal, and the bits above
- * are its value. A refused call answers its number alone, with value 0, and leaves all that was lent to it as it was.
- * Where several refusals hold the lowest is given.
+ * are its value. A refused call answers its number, about a log its place too, with value 0, and leaves all that was
+ * lent to it as it was. Where several refusals hold the lowest is given; in a log 5 comes before 4, and of 4, 6, 7 and 8
+ * the first line at fault wins.
  *
  * A state is PERCH_STATE_SIZE bytes: the fields in the order in which document 01, "State, ranges and power-on", names
  * them. Period, timer, shift register, address, remaining and phase take two bytes, low first, every other field one;
@@ -37,10 +38,13 @@ extern "C" {
 #define PERCH_STATE_SIZE 91        /* bytes of a state; perch_state_size() at run time */
 #define PERCH_MEMORY_SIZE 32768    /* bytes of sample memory, $8000 to $FFFF */
 #define PERCH_MOST_CLOCKS 1000000  /* clocks that one run may be asked for */
+#define PERCH_PLAYER_SIZE 190      /* bytes of a player; perch_player_size() at run time */
+#define PERCH_LONGEST_LINE 23      /* bytes of the longest line that a player writes, with its line feed */
+#define PERCH_REFUSAL_SIZE 40      /* bytes in which the text of any refusal fits */
 
 #define PERCH_DONE 0
 #define PERCH_REFUSED_MEMORY 1    /* sample memory isn't PERCH_MEMORY_SIZE bytes */
-#define PERCH_REFUSED_STATE 2     /* the bytes are no state in range */
+#define PERCH_REFUSED_STATE 2     /* the bytes are no state in range, or no player */
 #define PERCH_REFUSED_CLOCKS 3    /* a run of more than PERCH_MOST_CLOCKS */
 #define PERCH_REFUSED_REGISTER 4  /* register not among $4000..$4013, $4015, $4017 */
 #define PERCH_REFUSED_LONG 5      /* log longer than 60,000 bytes */
@@ -96,6 +100,57 @@ uint64_t perch_run(uint8_t *state, size_t n, const uint8_t *memory, size_t m, ui
 /* The same, clock by clock. */
 uint64_t perch_run_plain(uint8_t *state, size_t n, const uint8_t *memory, size_t m, uint64_t count, uint32_t *words,
                          size_t w);
+
+/* LOGS. An answer about a log is number + 2^8 x place + 2^32 x value. The place is 0 where the number is 0; else the start
+ * of the faulty line, the log's length if `stop` is missing, the `stop` line for 9 and 10, and 0 otherwise. */
+#define PERCH_PLACE(answer) ((uint32_t)((answer) >> 8 & 0xffffff))
+#define PERCH_LOG_VALUE(answer) ((uint32_t)((uint64_t)(answer) >> 32))
+
+/* Checks a log of n bytes. The value is the clocks in all. Refused: 4 to 10. */
+uint64_t perch_check(const uint8_t *log, size_t n);
+
+/* Item k, from 0, of the waits, writes and reads that the log stands for, its loops unrolled. The value is
+ * kind x 2^24 + what it holds: of a wait its clocks; of a write 256 x register + value; of a read 0. Refused: as the
+ * log, then 11. */
+uint64_t perch_item(const uint8_t *log, size_t n, uint64_t k);
+#define PERCH_WAIT 1
+#define PERCH_WRITE 2
+#define PERCH_READ 3
+#define PERCH_KIND(answer) ((unsigned)((uint64_t)(answer) >> 56))
+#define PERCH_HELD(answer) ((uint32_t)((uint64_t)(answer) >> 32 & 0xffffff))
+
+/* The bytes between the loop line that begins at the offset and its `done`, as a part of the log: the value is where
+ * they start + 2^16 x how many they are. Refused: as the log, then 12. */
+uint64_t perch_body(const uint8_t *log, size_t n, uint64_t offset);
+#define PERCH_START(answer) ((uint32_t)((uint64_t)(answer) >> 32 & 0xffff))
+#define PERCH_LENGTH(answer) ((uint32_t)((uint64_t)(answer) >> 48))
+
+/* THE PLAYER IN PIECES. A player is PERCH_PLAYER_SIZE bytes that the caller keeps between two pieces. */
+
+/* How many bytes a player is. */
+size_t perch_player_size(void);
+
+/* Makes the p bytes a player at the log's beginning, whatever they held. The answer is one about a log, with value 0.
+ * Refused: 1; p isn't the size of a player (2); as the log. */
+uint64_t perch_begin(uint8_t *player, size_t p, const uint8_t *log, size_t n, const uint8_t *memory, size_t m);
+
+/* Writes the player's next lines to the text, whole lines only, and moves the player behind them. The log and the memory
+ * are those that the player began with; then the pieces joined are what the player program writes, and no piece is
+ * refused. A text of PERCH_LONGEST_LINE bytes or more gets one line at least until the player is over; how many more is
+ * free; a shorter one may get none, and then the player stays. Bytes behind the lines stay; no line goes behind the
+ * first 4,294,967,295 bytes. The answer is number + 2^8 x over + 2^32 x bytes written.
+ *
+ * Refused: 1; the bytes are no player, or their state is out of range (2). A player that its log didn't lead to may be
+ * refused with 3 (a wait of more than PERCH_MOST_CLOCKS), with 9 (a time above 2,000,000,000) or as the line that it
+ * comes to. The answer doesn't hold the place of that line. */
+uint64_t perch_play_on(uint8_t *player, size_t p, const uint8_t *log, size_t n, const uint8_t *memory, size_t m,
+                       uint8_t *text, size_t t);
+#define PERCH_OVER(answer) ((unsigned)((answer) >> 8 & 1))
+#define PERCH_WRITTEN(answer) ((size_t)((uint64_t)(answer) >> 32))
+
+/* Writes the text of a refusal, `play=1` and `refused=NUMBER:PLACE`, or nothing where the text is too short for it. Of a
+ * place of more than ten digits it writes the last ten. The answer is 2^32 x bytes written. */
+uint64_t perch_refusal_text(uint8_t number, uint64_t place, uint8_t *text, size_t t);
 
 #ifdef __cplusplus
 }

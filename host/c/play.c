@@ -1,8 +1,7 @@
 /* The player from C: plays document 01's example, or the log and the sample memory in the two files named. */
 #include <stdio.h>
-#include <stdlib.h>
 
-#include "logs.h"
+#include "perchpulley.h"
 
 static const char example[] = "log=1\nwrite=4011:40\nwait=10\nread=4015\nstop=10\n";
 
@@ -19,13 +18,11 @@ static size_t read_file(const char *name, uint8_t *bytes, size_t most)
 int main(int count, char **words)
 {
     static uint8_t memory[PERCH_MEMORY_SIZE + 1], file[60001], text[4096];
+    uint8_t player[PERCH_PLAYER_SIZE];
     const uint8_t *log = (const uint8_t *)example;
-    size_t n = sizeof example - 1, m = PERCH_MEMORY_SIZE, p = perch_player_size();
-    uint8_t *player = malloc(p);
+    size_t n = sizeof example - 1, m = PERCH_MEMORY_SIZE, p = sizeof player;
     uint64_t answer;
 
-    if (!player)
-        return 1;
     if (count == 3) {
         n = read_file(words[1], file, sizeof file);
         m = read_file(words[2], memory, sizeof memory);
@@ -42,6 +39,5 @@ int main(int count, char **words)
                 break;
         } while (!PERCH_OVER(answer));
     }
-    free(player);
     return 0;
 }

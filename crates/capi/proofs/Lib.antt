@@ -1,2 +1,5 @@
 pub mod Answers
+pub mod Joined
+pub mod Packed
+pub mod Players
 pub mod Stored

@@ -13,10 +13,14 @@ use Rattle.codec.specs.Bytes.{stateBytes, flagPlaces, flagsRight, isState}
 use Rattle.codec.specs.Encoded.{encoded}
 use Rattle.capi.specs.Boundary.{bytesAfter, powerNumber, noState}
 
+-- bytes that are written only where t says so
+pub written-by : (t : Bool) (x y b : List ℕ) → (t ≡ true → x ≡ y) → pick t x b ≡ pick t y b
+written-by true x y b h = h refl
+written-by false x y b h = refl
+
 stored-by : (t : Bool) (b : List ℕ) (s : State) → (t ≡ true → length b ≡ 91) → pick t (encoded s b) b ≡ pick t (stateBytes s) b
 unfolding encoded
-stored-by true b s h = rw (eq-eqb (length b) 91 (h refl))
-stored-by false b s h = refl
+stored-by t b s h = written-by t (encoded s b) (stateBytes s) b (λ e. rw (eq-eqb (length b) 91 (h e)))
 
 -- a state is 91 bytes
 state-long : (b : List ℕ) → isState b ≡ true → length b ≡ 91

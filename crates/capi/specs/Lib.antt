@@ -1,2 +1,5 @@
 pub mod Boundary
 pub mod Runs
+pub mod Logs
+pub mod Players
+pub mod Pieces

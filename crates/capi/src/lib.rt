@@ -8,6 +8,8 @@ ghost use Rattle.codec.specs.Bytes.{flagByte};
 ghost use Rattle.codec.specs.Encoded.{encoded};
 ghost use Rattle.capi.specs.Boundary.{packed, bytesAfter, powerNumber, powerBytes, bytesIn, writeFrom, statusFrom, lineFrom, levelFrom, fractionFrom, noState, clockFrom};
 
+pub mod logs;
+pub mod playing;
 pub mod runs;
 
 use api::Asserted;

@@ -4,3 +4,4 @@ pub mod Descent
 pub mod Derived
 pub mod Judged
 pub mod Checks
+pub mod Limits

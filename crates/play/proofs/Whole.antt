@@ -14,9 +14,9 @@ use Rattle.arith.specs.Pick.{pick}
 use Rattle.bus.specs.declared.Access.the-variants as bus
 use Rattle.line.specs.declared.Act.{Act}
 use Rattle.line.specs.declared.Act.the-variants as line
-use Rattle.line.specs.Printed.{Allowed}
-use Rattle.judge.specs.Tree.{Tree, end, act, loop, acts, times, clocks, actClocks, Within}
+use Rattle.judge.specs.Tree.{acts, clocks, actClocks}
 use Rattle.judge.specs.Whole.{treeOf, checkOf}
+use Rattle.log.proofs.Limits.{Every, every-acts}
 use Rattle.log.proofs.Passing.{clear, stands}
 use Rattle.log.proofs.Listed.{clocksIn, clocks-listed}
 use Rattle.emit.specs.Machine.{Said, over, on, says, refused, Turn, Gives, ends, goes, gives}
@@ -46,26 +46,6 @@ use Rattle.play.proofs.Telling.{Tells, weaken, by-rest, by-tell, by-end
 use Rattle.play.proofs.Texts.{notes-append, notes-none, notes-empty}
 use Rattle.play.proofs.Turning.{turn-cursor, turn-phase}
 use Rattle.play.proofs.Waits.{Ways, waits}
-
--- every act of a list is within document 01's limits
-abbrev Every : List Act → Type 0
-Every [] = Unit {0}
-Every (a ∷ l) = Allowed a × Every l
-
-every-append : (a b : List Act) → Every a → Every b → Every (a ++ b)
-every-append [] b h g = g
-every-append (x ∷ a) b h g = (h .0, every-append a b (h .1) g)
-
-every-times : (n : ℕ) (l : List Act) → Every l → Every (times n l)
-unfolding times
-every-times zero l h = tt
-every-times (suc n) l h = every-append l (times n l) h (every-times n l h)
-
-every-acts : (t : Tree) (d : ℕ) → Within t d → Every (acts t)
-unfolding acts
-every-acts end d w = tt
-every-acts (act a t) d w = (w .0, every-acts t d (w .1))
-every-acts (loop n b t) d w = every-append (times n (acts b)) (acts t) (every-times n (acts b) (every-acts b (d + 1) (w .2))) (every-acts t d (w .3))
 
 -- a read leaves the level
 level-read : (s : State) → stateLevel (statusRead s) ≡ stateLevel s

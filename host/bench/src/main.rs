@@ -278,7 +278,7 @@ fn table(log: Option<String>, gme: Option<String>, quick: bool) -> Result<(), Bo
     println!("|{}|{}", "-".repeat(36), "-:|".repeat(4));
     let (seconds, bytes, clocks) = heard(tune.as_bytes(), &memory)?;
     println!("| {name:<34} | {clocks:>11} | {bytes:>10} | {seconds:>8.4} | {:>14.2} |", seconds / leap);
-    if perch::ARCHIVE_LOGS && !quick {
+    if perch::ARCHIVE && !quick {
         for (name, first) in [("2,000,000,000 quiet clocks", ""), ("the same after $400E:0f", "write=400e:0f\n")] {
             let loops = "loop=200\nloop=10\nwait=1000000\ndone=loop\ndone=loop\n";
             let log = format!("log=1\n{first}{loops}stop=2000000000\n");

@@ -38,17 +38,10 @@ pub const MEMORY: usize = 32_768;
 pub const STATE: usize = 91;
 
 /// What these functions are linked to.
-pub const LINKED: &str = match (ARCHIVE, ARCHIVE_LOGS) {
-    (false, _) => "the stand-in",
-    (true, false) => "the archive, for logs the stand-in",
-    (true, true) => "the archive",
-};
+pub const LINKED: &str = if ARCHIVE { "the archive" } else { "the stand-in" };
 
-/// Whether the chip's functions are the library's, and not the stand-in's.
+/// Whether the functions are the library's, and not the stand-in's.
 pub const ARCHIVE: bool = cfg!(archive);
-
-/// Whether the functions of logs and of the player are the library's.
-pub const ARCHIVE_LOGS: bool = cfg!(archive_logs);
 
 /// A refusal, with its number by document 01.
 #[derive(Clone, Copy, Debug, PartialEq, Eq)]

@@ -5,12 +5,10 @@
 
 #[cfg(not(archive))]
 use standin::{
-    perch_clock, perch_in_range, perch_level, perch_level_f32, perch_line, perch_power_on, perch_read_status,
-    perch_run, perch_run_plain, perch_state_size, perch_write,
+    perch_begin, perch_body, perch_check, perch_clock, perch_in_range, perch_item, perch_level, perch_level_f32,
+    perch_line, perch_play_on, perch_player_size, perch_power_on, perch_read_status, perch_refusal_text, perch_run,
+    perch_run_plain, perch_state_size, perch_write,
 };
-
-#[cfg(not(archive_logs))]
-use standin::{perch_begin, perch_body, perch_check, perch_item, perch_play_on, perch_player_size, perch_refusal_text};
 
 #[cfg(archive)]
 unsafe extern "C" {
@@ -33,10 +31,6 @@ unsafe extern "C" {
         words: *mut u32,
         w: usize,
     ) -> u64;
-}
-
-#[cfg(archive_logs)]
-unsafe extern "C" {
     fn perch_check(log: *const u8, n: usize) -> u64;
     fn perch_item(log: *const u8, n: usize, k: u64) -> u64;
     fn perch_body(log: *const u8, n: usize, offset: u64) -> u64;

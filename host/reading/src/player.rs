@@ -40,8 +40,11 @@ pub fn body(log: &[u8], offset: u64) -> u64 {
     answer(log::body(log, offset), |part| part.start as u64 | (part.len() as u64) << 16)
 }
 
-/// How many bytes a player is.
-pub const SIZE: usize = 23 + bytes::SIZE;
+/// How many bytes a player is: as many as the library's, whose bytes hold other numbers.
+pub const SIZE: usize = 190;
+
+/// Of these, where the chip's begin and end; zeros stand behind them.
+const CHIP: (usize, usize) = (23, 23 + bytes::SIZE);
 
 /// Where a player stands.
 #[derive(Clone, Copy, Debug, PartialEq, Eq)]
@@ -68,20 +71,22 @@ impl Player {
         bytes[9..13].copy_from_slice(&self.left.to_le_bytes());
         bytes[13..21].copy_from_slice(&self.time.to_le_bytes());
         bytes[21..23].copy_from_slice(&self.level.to_le_bytes());
-        bytes[23..].copy_from_slice(&self.chip.encode());
+        bytes[CHIP.0..CHIP.1].copy_from_slice(&self.chip.encode());
         bytes
     }
 
     fn decode(bytes: &[u8]) -> Option<Self> {
-        let (numbers, chip) = bytes.split_at_checked(23)?;
-        let number = |from: usize, to: usize| numbers[from..to].iter().rev().fold(0, |sum, &b| sum << 8 | u64::from(b));
+        if bytes.len() != SIZE {
+            return None;
+        }
+        let number = |from: usize, to: usize| bytes[from..to].iter().rev().fold(0, |sum, &b| sum << 8 | u64::from(b));
         let player = Self {
-            stage: numbers[0],
+            stage: bytes[0],
             item: number(1, 9),
             left: number(9, 13) as u32,
             time: number(13, 21),
             level: number(21, 23) as u16,
-            chip: Chip::decode(chip)?,
+            chip: Chip::decode(&bytes[CHIP.0..CHIP.1])?,
         };
         (player.left <= 1_000_000).then_some(player)
     }

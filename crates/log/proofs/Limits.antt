@@ -1,0 +1,116 @@
+-- What is answered about items and bodies is within document 01's limits. Assumes nothing.
+use mathlib.Core.Path.{_≡_, refl, ap, sym, _∙_}
+use mathlib.Core.List.{List, [], _∷_, _++_}
+use mathlib.Core.Bool.{Bool, true, false}
+use Prim.Native.Nat.{ℕ, zero, suc, _+_, _-_, _≤_, _<_}
+use native.Mathlib.Omega.{arith}
+use borrow.Author.Tests.{eqb-true, eq-eqb, ltb-true}
+use lib.ListN.{length, getD, take, drop, length-take, length-drop}
+use lib.Seq.{take-length}
+use lib.Dec.{eqb, ltb}
+use Rattle.arith.specs.Pick.{pick}
+use Rattle.arith.proofs.Picks.{pick-both, pick-each}
+use Rattle.line.specs.declared.Act.{Act}
+use Rattle.line.specs.declared.Act.the-variants.{Wait}
+use Rattle.line.specs.declared.Line.the-variants.{Loop}
+use Rattle.line.specs.Printed.{Allowed}
+use Rattle.judge.specs.Lines.{linesOf, nextLine}
+use Rattle.judge.specs.Tree.{Tree, end, act, loop, acts, times, actClocks, Within}
+use Rattle.judge.specs.Whole.{treeOf, checkOf}
+use Rattle.judge.proofs.Places.{had, next-le}
+use Rattle.judge.proofs.Limits.{check-limits}
+use Rattle.log.specs.declared.Found.{Found}
+use Rattle.log.specs.declared.Found.the-variants.{Is, Refused}
+use Rattle.log.specs.declared.Answer.{Answer}
+use Rattle.log.specs.Items.{nth, itemOf}
+use Rattle.log.specs.Bodies.{beginsLoop, bodyCheckOf, doneFrom, between, bodyOf}
+use Rattle.log.proofs.Passing.{stands}
+use Rattle.log.proofs.Parts.{here}
+
+-- every act of a list is within the limits
+abbrev pub Every : List Act → Type 0
+Every [] = Unit {0}
+Every (a ∷ l) = Allowed a × Every l
+
+every-append : (a b : List Act) → Every a → Every b → Every (a ++ b)
+every-append [] b h g = g
+every-append (x ∷ a) b h g = (h .0, every-append a b (h .1) g)
+
+every-times : (n : ℕ) (l : List Act) → Every l → Every (times n l)
+unfolding times
+every-times zero l h = tt
+every-times (suc n) l h = every-append l (times n l) h (every-times n l h)
+
+pub every-acts : (t : Tree) (d : ℕ) → Within t d → Every (acts t)
+unfolding acts
+every-acts end d w = tt
+every-acts (act a t) d w = (w .0, every-acts t d (w .1))
+every-acts (loop n b t) d w =
+    every-append (times n (acts b)) (acts t) (every-times n (acts b) (every-acts b (d + 1) (w .2))) (every-acts t d (w .3))
+
+every-at : (l : List Act) (k : ℕ) → k < length l → Every l → Allowed (getD l k (Wait 0))
+every-at [] k h g = absurd (omega arith)
+every-at (a ∷ l) zero h g = g .0
+every-at (a ∷ l) (suc k) h g = every-at l k (omega arith) (g .1)
+
+-- an item is within the limits; a refusal's number is in the table, and its place in the log
+abbrev pub FoundIn : Found → Type 0
+FoundIn (Is a) = Allowed a
+FoundIn (Refused k p) = (k ≤ 12) × (p ≤ 60000)
+
+nth-in-limits : (l : List Act) (k : ℕ) → Every l → FoundIn (nth l k)
+unfolding nth
+nth-in-limits l k h = pick-each FoundIn (ltb k (length l)) (λ e. every-at l k (ltb-true k (length l) e) h) (λ e. (omega arith, omega arith))
+
+pub item-limits : (log : List ℕ) (k : ℕ) → FoundIn (itemOf log k)
+unfolding itemOf
+item-limits log k =
+    pick-each FoundIn (eqb (checkOf log .number) 0)
+    (λ e. nth-in-limits (acts (treeOf log)) k (every-acts (treeOf log) 0 (stands log (eqb-true (checkOf log .number) 0 e) .within)))
+    (λ e. (omega (arith, check-limits log .number), check-limits log .place))
+
+module _ (log : List ℕ) (k : ℕ) where
+  pub item-waits : (a : Act) → itemOf log k ≡ Is a → actClocks a ≤ 1000000
+  unfolding actClocks
+  item-waits (Wait n) e = (rw e at (item-limits log k)) .1
+  item-waits (Act.Access x) e = omega arith
+
+  pub item-place : (n p : ℕ) → itemOf log k ≡ Refused n p → p ≤ 60000
+  item-place n p e = (rw e at (item-limits log k)) .1
+
+-- the number of a body's answer is in the table and its place in the log; where it is not refused the body starts in the log, and is a part of it
+
+pub body-answer : (log : List ℕ) (o : ℕ) → (bodyCheckOf log o .number ≤ 12) × (bodyCheckOf log o .place ≤ 60000)
+unfolding bodyCheckOf
+body-answer log o =
+    let c = check-limits log in
+    let In : Answer → Type 0 = λ a. (a .number ≤ 12) × (a .place ≤ 60000) in
+    pick-both In (eqb (checkOf log .number) 0)
+    (pick-both In (beginsLoop log o) (omega arith, omega arith) (omega arith, omega arith)) (omega (arith, c .number), c .place)
+
+pub body-start : (log : List ℕ) (o : ℕ) → bodyCheckOf log o .number ≡ 0 → (length log ≤ 60000) × (nextLine log o ≤ length log)
+body-start log o h =
+    let w = here log o h in
+    let l = had log o (Loop (w .turns)) (w .from) (w .read) in
+    (l .short, next-le log o (omega (arith, l .inside)))
+
+retaken : (n : ℕ) (l : List ℕ) → take (length (take n l)) l ≡ take n l
+retaken zero l = refl
+retaken (suc n) [] = refl
+retaken (suc n) (a ∷ l) = ap (λ (x : List ℕ). a ∷ x) (retaken n l)
+
+between-part : (log : List ℕ) (from : ℕ) → take (length (between log from)) (drop from log) ≡ between log from
+unfolding between
+between-part log from = retaken (doneFrom 0 from (linesOf (drop from log)) - from) (drop from log)
+
+pub body-is-part : (log : List ℕ) (o : ℕ) → take (length (bodyOf log o)) (drop (nextLine log o) log) ≡ bodyOf log o
+unfolding bodyOf
+body-is-part log o =
+    pick-both (λ (b : List ℕ). take (length b) (drop (nextLine log o) log) ≡ b) (eqb (bodyCheckOf log o .number) 0)
+    {a = between log (nextLine log o)} {b = []} (between-part log (nextLine log o)) refl
+
+pub body-length : (log : List ℕ) (o : ℕ) → length (bodyOf log o) ≤ length log
+body-length log o =
+    let e = ap length (body-is-part log o) in
+    let f = simp (length-take, length-drop) at e in
+    omega arith
