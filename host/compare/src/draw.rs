@@ -128,12 +128,27 @@ pub fn state(random: &mut Random) -> Chip {
     chip
 }
 
-/// Bytes that are no state in range: of another length, or with one field outside its range, or any.
+/// Bytes that are no state in range: of another length, or any, or with one field outside its range or against another.
 fn no_state(random: &mut Random) -> Vec<u8> {
-    let mut bytes = state(random).encode().to_vec();
-    match random.within(0..=3) {
+    let mut chip = state(random);
+    let mut bytes = chip.encode().to_vec();
+    match random.within(0..=5) {
         0 => bytes.resize(random.pick(&[0, 1, SIZE - 1, SIZE + 1]).min(MOST_STATE), 0),
         1 => bytes.iter_mut().for_each(|byte| *byte = random.byte()),
+        2 => {
+            (chip.frame.mode, chip.frame.step) = (false, 4);
+            bytes = chip.encode().to_vec();
+        }
+        3 => {
+            let (channel, mut at) = (random.within(0..=3), 0);
+            lengths(&mut chip, |length| {
+                if at == channel {
+                    (length.count, length.enabled) = (1, false);
+                }
+                at += 1;
+            });
+            bytes = chip.encode().to_vec();
+        }
         _ => {
             let field = random.within(0..=reading::bytes::FIELDS as u64 - 1);
             let (mut at, mut number) = (0, 0);
@@ -299,21 +314,58 @@ fn slow(random: &mut Random) -> Case {
     Case { memory: memory(random), state: chip.encode().to_vec(), words: 1024, ops }
 }
 
+/// A run up to where a timer or the frame divider gives an output, and what is seen there.
+fn edge(random: &mut Random) -> Case {
+    let mut chip = state(random);
+    sound(&mut chip, random);
+    random.pick(&LEANS)(&mut chip, random);
+    for square in &mut chip.squares {
+        let (period, s) =
+            random.pick(&[(1023, 0), (1024, 0), (1365, 1), (1366, 1), (1638, 2), (1639, 2), (7, 3), (8, 3)]);
+        (square.period, square.sweep.s, square.sweep.negate) = (period, s, random.one_in(4));
+        (square.sweep.enabled, square.sweep.divider) = (true, 1);
+    }
+    (chip.dmc.bits, chip.dmc.full) = (random.within16(1..=2), true);
+    let [first, second] = &chip.squares;
+    let timers = [first.timer, second.timer, chip.triangle.timer, chip.noise.timer, chip.dmc.timer, chip.dmc.timer];
+    let count = if random.one_in(3) { to_step(random, &chip) } else { random.pick(&timers).into() };
+    let mut ops = vec![Op::Run { memory: MEMORY, count }];
+    finish(random, &mut ops);
+    Case { memory: memory(random), state: chip.encode().to_vec(), words: 1024, ops }
+}
+
+/// Writes of every register; then with every channel enabled those of the lengths, so that cases together load every length.
+fn registers(random: &mut Random, number: u64) -> Case {
+    let chip = state(random);
+    let write = |register, value| Op::Write { register, value };
+    let mut ops: Vec<Op> = (0..=0x14).map(|i| write(0x4000 + i, random.byte())).collect();
+    ops.extend([Op::Line, write(0x4015, random.byte() | 0x0f)]);
+    for (i, register) in [0x4003, 0x4007, 0x400b, 0x400f].into_iter().enumerate() {
+        ops.push(write(register, ((4 * number + i as u64) % 32 * 8) as u8 | random.byte() % 8));
+    }
+    ops.push(write(0x4017, random.byte()));
+    Case { memory: memory(random), state: chip.encode().to_vec(), words: 0, ops }
+}
+
 /// A case to be stored: some of each kind, with few words.
 pub fn stored(random: &mut Random, number: u64) -> Case {
-    let mut case = match (number % 4, number % 24) {
-        (0, _) => single(random),
-        (1, _) => {
+    let mut case = match number % 24 {
+        2 => slow(random),
+        6 | 14 | 18 => edge(random),
+        10 | 22 => registers(random, number / 12),
+        kind if kind % 4 == 0 => single(random),
+        kind if kind % 4 == 1 => {
             let clocks = random.within(7_500..=40_000);
             long(random, clocks)
         }
-        (_, 2) => slow(random),
         _ => short(random),
     };
-    if number % 24 == 3 {
-        case.state.resize(random.pick(&[0, 1, SIZE - 1, SIZE + 1]), 0);
+    match number % 24 {
+        3 => case.state.resize(random.pick(&[0, 1, SIZE - 1, SIZE + 1]), 0),
+        7 | 15 | 19 => case.state = no_state(random),
+        _ => {}
     }
     case.words = case.words.min(random.within(900..=1024) as usize);
-    case.ops.truncate(30);
+    case.ops.truncate(if Chip::decode(&case.state).is_some() { 30 } else { 6 });
     case
 }
