@@ -12,8 +12,8 @@ fn piece(out: &[u8], n: usize) -> bool {
     false
 }
 
-// A player's text, piece by piece, until it is over or a write fails. Each piece holds a line at least; the loop is counted, so
-// that it ends.
+// A player's text, piece by piece, until it is over or a write fails; no piece of a log that passes is refused. Each piece holds a line at
+// least; the loop is counted, so that it ends.
 fn pour(p: Player, log: &[u8], memory: &[u8], out: &mut [u8]) {
     let mut q = p;
     let mut n: u64 = 0;
@@ -22,7 +22,7 @@ fn pour(p: Player, log: &[u8], memory: &[u8], out: &mut [u8]) {
         if !piece(out, r.length) {
             return;
         }
-        if r.over {
+        if arith::either_of(r.over, r.number != 0) {
             return;
         }
         q = r.player;

@@ -35,7 +35,11 @@ same-length c = search needs
 returns : tie.Need-returns Inv-loop μ-loop
 returns c = search needs
 
--- src/lib.rt:25:13
+-- src/lib.rt:25:12
+either-of-requires : tie.Need-either-of-requires Inv-loop μ-loop
+either-of-requires c κs = search needs
+
+-- src/lib.rt:26:13
 same-length-2 : tie.Need-same-length-2 Inv-loop μ-loop
 same-length-2 c = search needs
 
@@ -74,6 +78,7 @@ pour-spec =
     piece-requires
     same-length
     returns
+    either-of-requires
     same-length-2
     returns-2
     add-n
