@@ -83,17 +83,12 @@ pub(crate) fn copy_of_words(words: &[u32]) -> [u32; 1024]
 
 // Whether two lists of words are the same.
 pub(crate) fn alike(a: &[u32], b: &[u32]) -> bool {
-    if a.len() != b.len() {
-        return false;
-    }
-    let mut i = 0;
-    while i < a.len() && i < b.len() {
+    for i in 0..least(a.len(), b.len()) {
         if a[i] != b[i] {
             return false;
         }
-        i += 1;
     }
-    true
+    a.len() == b.len()
 }
 
 // A sum with one more word.

@@ -5,10 +5,10 @@ use Rattle.replay.proofs.lent.alike.Statement.{statement}
 use Rattle.replay.proofs.lent.alike.Tie as tie
 
 abbrev Inv-loop : tie.InvT-loop
-Inv-loop a b i₀ i = i ≤ length a
+Inv-loop a b i₀ i-end i = (i ≤ i-end) × (i-end ≤ length a) × (i-end ≤ length b)
 
 abbrev μ-loop : tie.MeasureT-loop
-μ-loop a b i₀ i = length a - i
+μ-loop a b i₀ i-end i = i-end - i
 
 pub alike-spec : {M : Type 1} → statement M
 alike-spec =
@@ -16,8 +16,7 @@ alike-spec =
     (tie.spec
     Inv-loop
     μ-loop
-    (λ c. search needs)
-    (λ c. search needs)
+    (λ c κs. search needs)
     (λ c. search needs)
     (λ c. search needs)
     (λ c. search needs)
