@@ -5,15 +5,13 @@ use super::lines::byte;
 use super::lines::number;
 use super::lines::short;
 use super::lines::value;
-use super::written::differs;
+use super::written::hold;
 
 // The level; as a float it must be the level over 32,768.
 fn level(state: &[u8]) -> u64 {
     let a = capi::perch_level(state);
     let whole = (a / 256 % 65536) as u16;
-    if capi::perch_level_f32(state) != (whole as f32) / 32768.0 {
-        differs();
-    }
+    hold(capi::perch_level_f32(state) == (whole as f32) / 32768.0);
     a
 }
 
@@ -23,13 +21,6 @@ fn access(line: &[u8], state: &mut [u8]) -> u64 {
         b'R' => capi::perch_read_status(state),
         b'I' => capi::perch_line(state),
         _ => level(state),
-    }
-}
-
-// State and words after a run, and after the plain run.
-fn compared(state: &[u8], words: &[u32], twin: &[u8], other: &[u32]) {
-    if !text::exact(state, twin) || !lent::alike(words, other) {
-        differs();
     }
 }
 
@@ -44,37 +35,26 @@ fn both(
 ) -> u64 {
     let a = capi::runs::perch_run(state, memory, count, words);
     let b = capi::runs::perch_run_plain(twin, memory, count, other);
-    if a != b {
-        differs();
-    }
-    compared(state, words, twin, other);
+    hold(a == b);
+    hold(text::exact(state, twin));
+    hold(lent::alike(words, other));
     a
 }
 
-// A run, with copies of state and words for the plain run.
-fn run(count: u64, memory: &[u8], state: &mut [u8], words: &mut [u32]) -> u64 {
+// A run with what its line lends, and copies of state and words for the plain run.
+fn run(line: &[u8], memory: &[u8], state: &mut [u8], words: &mut [u32]) -> u64 {
     let n = lent::least(state.len(), 92);
     let m = lent::least(words.len(), 1024);
     let mut twin = lent::copy_of_state(state);
     let mut other = lent::copy_of_words(words);
     both(
-        count,
-        memory,
+        number(line, 7, 8),
+        lent::front(line, memory),
         state,
         words,
         &mut twin[0..n],
         &mut other[0..m],
     )
-}
-
-// A run on the words behind the records so far.
-fn run_on(line: &[u8], memory: &[u8], state: &mut [u8], words: &mut [u32], used: usize) -> u64 {
-    if words.len() < used {
-        differs();
-        return 0;
-    }
-    let count = number(line, 7, 8);
-    run(count, lent::front(line, memory), state, &mut words[used..])
 }
 
 // The answer to a line behind the first of a case, whose records have taken so many words; to the last line the sum of the words.
@@ -86,7 +66,10 @@ pub(crate) fn work(
     used: usize,
 ) -> u64 {
     match byte(line, 0) {
-        b'N' => run_on(line, memory, state, words, used),
+        b'N' => {
+            let from = lent::least(used, words.len());
+            run(line, memory, state, &mut words[from..])
+        }
         b'C' => capi::perch_clock(state, lent::front(line, memory)),
         b'E' => lent::sum(words) as u64,
         _ => access(line, state),

@@ -44,21 +44,17 @@ pub(crate) fn words() -> [u32; 1024]
     [0xa5a5a5a5; 1024]
 }
 
-// The bytes of memory that a clock or a run is lent.
-pub(crate) fn front<'a>(line: &[u8], memory: &'a [u8]) -> &'a [u8] {
-    let n = number(line, 2, 2) as usize;
-    if n <= memory.len() {
-        &memory[0..n]
-    } else {
-        &memory[0..0]
-    }
-}
-
 // The lesser of two numbers.
 pub(crate) fn least(n: usize, most: usize) -> usize
     ensures { λ r. ⌜ (r ≤ n) × (r ≤ most) ⌝ }
 {
     if n <= most { n } else { most }
+}
+
+// The bytes of memory that a clock or a run is lent.
+pub(crate) fn front<'a>(line: &[u8], memory: &'a [u8]) -> &'a [u8] {
+    let n = least(number(line, 2, 2) as usize, memory.len());
+    &memory[0..n]
 }
 
 // A state copied, with zeros behind.
@@ -83,12 +79,11 @@ pub(crate) fn copy_of_words(words: &[u32]) -> [u32; 1024]
 
 // Whether two lists of words are the same.
 pub(crate) fn alike(a: &[u32], b: &[u32]) -> bool {
+    let mut same = a.len() == b.len();
     for i in 0..least(a.len(), b.len()) {
-        if a[i] != b[i] {
-            return false;
-        }
+        same = arith::both_of(same, a[i] == b[i]);
     }
-    a.len() == b.len()
+    same
 }
 
 // A sum with one more word.

@@ -41,7 +41,8 @@ fn one(
         };
     }
     let a = acts::work(&line, memory, state, words, used);
-    written::answer(&mut line, a, state);
+    written::answer(&mut line, a);
+    written::last(&mut line, state);
     written::write(&line, n);
     // only a run's answer has records
     let taken = (a / 4294967296 * 2) as usize;
@@ -67,16 +68,10 @@ fn rest(file: i32, at: u32, memory: &[u8], state: &mut [u8], words: &mut [u32]) 
     0
 }
 
-// The same, with what the case's first line lends.
+// The same, with what the case's first line lends: no more than there is.
 fn begun(file: i32, at: u32, line: &[u8]) -> u32 {
-    let room = lines::number(line, 17, 3) as usize;
-    let length = lines::number(line, 24, 1) as usize;
-    if 1024 < room {
-        return 0;
-    }
-    if 92 < length {
-        return 0;
-    }
+    let room = lent::least(lines::number(line, 17, 3) as usize, 1024);
+    let length = lent::least(lines::number(line, 24, 1) as usize, 92);
     let memory = lent::memory(line);
     let mut state = lent::state(line);
     let mut words = lent::words();

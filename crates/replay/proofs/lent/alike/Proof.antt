@@ -5,10 +5,10 @@ use Rattle.replay.proofs.lent.alike.Statement.{statement}
 use Rattle.replay.proofs.lent.alike.Tie as tie
 
 abbrev Inv-loop : tie.InvT-loop
-Inv-loop a b i₀ i-end i = (i ≤ i-end) × (i-end ≤ length a) × (i-end ≤ length b)
+Inv-loop a b same₀ i₀ i-end same i = (i ≤ i-end) × (i-end ≤ length a) × (i-end ≤ length b)
 
 abbrev μ-loop : tie.MeasureT-loop
-μ-loop a b i₀ i-end i = i-end - i
+μ-loop a b same₀ i₀ i-end same i = i-end - i
 
 pub alike-spec : {M : Type 1} → statement M
 alike-spec =
@@ -22,7 +22,7 @@ alike-spec =
     (λ c. search needs)
     (λ c. search needs)
     (λ c. search needs)
-    (λ c. search needs)
+    (λ c κs. search needs)
     (λ c. search needs)
     (λ c. search needs)
     (λ c. search needs)
