@@ -10,9 +10,10 @@ use lib.Dec.{eqb}
 use Rattle.arith.specs.Pick.{pick}
 use Rattle.codec.specs.Bytes.{flagByte}
 use Rattle.api.specs.Answer.{isMemory}
-use Rattle.play.specs.declared.Player.{Player}
+use Rattle.playing.specs.declared.Player.{Player}
 use Rattle.play.specs.declared.Played.{Played}
-use Rattle.play.specs.Playing.{freshPlayer, endedPlayer, PlayedOn}
+use Rattle.playing.specs.Turns.{freshPlayer, endedPlayer}
+use Rattle.play.specs.Playing.{PlayedOn}
 use Rattle.play.specs.Calls as play
 use Rattle.play.specs.Whole.{playNumber, begunOf}
 use Rattle.play.proofs.Whole.{Beginning, pieces-whole, never-halted, gets-line}

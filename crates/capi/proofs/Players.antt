@@ -17,13 +17,13 @@ use Rattle.api.specs.Answer.{isMemory}
 use Rattle.codec.specs.Bytes.{isState}
 use Rattle.judge.proofs.Limits.{check-limits}
 use Rattle.print.specs.Printed.{fits, placed}
-use Rattle.play.specs.declared.Player.{Player}
+use Rattle.playing.specs.declared.Player.{Player}
 use Rattle.play.specs.declared.Played.{Played}
 use Rattle.play.specs.declared.Begun.{Begun}
-use Rattle.play.specs.Notes.{refusalText}
+use Rattle.notes.specs.Notes.{refusalText}
 use Rattle.play.specs.Playing.{Piece, Untouched, Answered, Where, PlayedOn}
 use Rattle.play.specs.Whole.{playPlace, begunOf}
-use Rattle.play.proofs.Texts.{refusal-size}
+use Rattle.notes.proofs.Texts.{refusal-size}
 use Rattle.playbytes.specs.Player.{playerBytes, playerAt, statePart, isPlayer, playerEncoded}
 use Rattle.capi.specs.Boundary.{noState}
 use Rattle.capi.specs.Logs.{logPacked}

@@ -7,9 +7,9 @@ use lib.Dec.{eqb}
 use Rattle.arith.specs.Pick.{pick}
 use Rattle.codec.specs.Bytes.{flagByte}
 use Rattle.print.specs.Printed.{placed}
-use Rattle.play.specs.declared.Player.{Player}
+use Rattle.playing.specs.declared.Player.{Player}
 use Rattle.play.specs.declared.Played.{Played}
-use Rattle.play.specs.Notes.{refusalText}
+use Rattle.notes.specs.Notes.{refusalText}
 use Rattle.play.specs.Playing.{Where, Untouched, PlayedOn}
 use Rattle.play.specs.Whole.{begunOf}
 use Rattle.playbytes.specs.Player.{playerBytes, playerAt, isPlayer, PlayerFits}

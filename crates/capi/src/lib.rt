@@ -9,7 +9,7 @@ ghost use Rattle.codec.specs.Encoded.{encoded};
 ghost use Rattle.capi.specs.Boundary.{packed, bytesAfter, powerNumber, powerBytes, bytesIn, writeFrom, statusFrom, lineFrom, levelFrom, fractionFrom, noState, clockFrom};
 
 pub mod logs;
-pub mod playing;
+pub mod pieces;
 pub mod runs;
 
 use api::Asserted;

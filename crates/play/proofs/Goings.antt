@@ -1,23 +1,30 @@
--- What the loop of `play_lines` holds, and how turns keep it. Assumes nothing.
-use Prim.Native.Nat.{ℕ, zero, suc, _+_, _-_, _≤_, _<_}
+-- What the loop of `play_lines` holds, how steps keep it, and what it answers. Assumes nothing.
+use Prim.Native.Nat.{ℕ, zero, suc, _+_, _≤_, _<_}
 use mathlib.Core.Path.{_≡_, refl, ap, sym, _∙_}
 use mathlib.Core.Logic.{_⊎_, inl, inr}
 use mathlib.Core.Bool.{Bool, true, false}
 use mathlib.Core.List.{List, [], _∷_, _++_}
-use native.Mathlib.Nat.{add-zero, zero-add, suc-add}
+use native.Mathlib.Nat.{zero-add, suc-add}
 use native.Mathlib.Omega.{arith}
+use lib.Dec.{eqb, leb}
 use lib.ListN.{length, take, drop, length-append}
 use lib.Seq.{sets, sets-eq, length-sets, take-at, drop-at, drop-drop, length-take-le}
-use Rattle.emit.specs.Machine.{Said, over, on, says, refused, Turn}
+use borrow.Author.Tests.{eqb-true, eqb-false, leb-true, leb-false}
+use Rattle.arith.specs.Pick.{pick, both}
+use Rattle.emit.specs.Machine.{over, refused}
 use Rattle.chip.specs.Range.{inRange}
-use Rattle.play.specs.declared.Note.{Note}
-use Rattle.play.specs.declared.Player.{Player}
+use Rattle.notes.specs.declared.Note.{Note}
+use Rattle.notes.specs.Notes.{noteText, notesText}
+use Rattle.notes.proofs.Texts.{notes-append, notes-none, notes-empty}
+use Rattle.playing.specs.declared.Player.{Player}
+use Rattle.playing.specs.Turns.{Go, turnOf, Goes, here, quietly, saying}
+use Rattle.steps.specs.declared.Taken.{Taken}
+use Rattle.steps.proofs.Takings.{Moved, Took}
 use Rattle.play.specs.declared.Played.{Played}
-use Rattle.play.specs.declared.Taken.{Taken}
-use Rattle.play.specs.Notes.{noteText, notesText}
-use Rattle.play.specs.Playing.{Go, turnOf, Goes, here, quietly, saying, Piece, Untouched, Halted, Answered}
-use Rattle.play.specs.Steps.{Moved, Took}
-use Rattle.play.proofs.Texts.{notes-append, notes-none, notes-empty}
+use Rattle.play.specs.Playing.{Piece, Untouched, Halted, Answered, answerOf}
+
+pub no-flag : {A : Type 0} → _≡_ {A = Bool} false true → A
+no-flag e = absurd (let z : _≡_ {A = ℕ} 0 1 = cc in omega arith)
 
 -- from a player to another, and on to a third
 module _ (turn : Player → Go) where
@@ -38,8 +45,8 @@ module _ (b v : List ℕ) (at : ℕ) (h : at + length v ≤ length b) where
   sets-behind = ap (drop (at + length v)) (sets-eq v b at h) ∙ drop-at (take at b ++ v) (drop (at + length v) b) (at + length v) front-long
 
 module _ (log memory : List ℕ) (p₀ : Player) (before : List ℕ) where
-  -- so far: the player q, `at` bytes written, behind `steps` steps
-  pub record Going (q : Player) (at steps : ℕ) (out : List ℕ) : Type 0 where
+  -- so far: the player q, `at` bytes written, behind `least` turns or more
+  pub record Going (q : Player) (at least : ℕ) (out : List ℕ) : Type 0 where
     pub notes : List Note
     pub turns : ℕ
     pub fits : at ≤ length before
@@ -48,10 +55,20 @@ module _ (log memory : List ℕ) (p₀ : Player) (before : List ℕ) where
     pub piece : take at out ≡ notesText notes
     pub rest : drop at out ≡ drop at before
     pub went : Goes (turnOf log memory) p₀ notes turns q
-    pub many : steps ≤ turns
+    pub many : least ≤ turns
     pub fine : inRange (q .state) ≡ true
 
-  pub going-start : inRange (p₀ .state) ≡ true → Going p₀ 0 0 before
+  -- behind `steps` steps, of which the last came to t
+  pub record Standing (t : Taken) (steps : ℕ) (out : List ℕ) : Type 0 where
+    pub least : ℕ
+    pub going : Going (t .player) (t .at) least out
+    pub counted : t .kind ≡ 0 → steps ≤ least
+    pub idle : length before < 23 → t .player ≡ p₀
+    pub ended : t .kind ≡ 1 → turnOf log memory (t .player) .said ≡ over
+    pub halted : t .kind ≡ 2 → turnOf log memory (t .player) .said ≡ refused (t .number) (t .place)
+    pub kinds : t .kind ≤ 2
+
+  going-start : inRange (p₀ .state) ≡ true → Going p₀ 0 0 before
   going-start f =
       record {
         notes = [];
@@ -66,89 +83,156 @@ module _ (log memory : List ℕ) (p₀ : Player) (before : List ℕ) where
         fine = f;
       }
 
-  module _ (q : Player) (at steps : ℕ) (out : List ℕ) (g : Going q at steps out) where
-    -- on by some lines
-    pub going-on : (after : List ℕ) (r : Taken) → Moved (turnOf log memory) q at out after r → Going (r .player) (r .at) (steps + 1) after
-    going-on after r m =
-        let v = notesText (m .notes) in
-        let l = g .long in
-        let f = m .fits in
-        let j = g .size in
-        let k = g .many in
-        let t = m .some in
-        rw (m .place, m .bytes)
-        (record {
-          notes = g .notes ++ m .notes;
-          turns = g .turns + m .turns;
-          fits = omega arith;
-          long = length-sets out at v ∙ g .long;
-          size = rw (notes-append, length-append) (omega arith);
-          piece = sets-front out v at f ∙ rw (g .piece, notes-append) (refl);
-          rest = sets-behind out v at f ∙ (sym (drop-drop (length v) at out) ∙ (ap (drop (length v)) (g .rest) ∙ drop-drop (length v) at before));
-          went = goes-on (turnOf log memory) (g .went) (m .goes);
-          many = omega arith;
-          fine = m .fine;
-        })
+  pub standing-start : inRange (p₀ .state) ≡ true → (t : Taken) → t ≡ record { kind = 0; number = 0; place = 0; player = p₀; at = 0 } → Standing t 0 before
+  standing-start f t e =
+      rw e
+      (record {
+        least = 0;
+        going = going-start f;
+        counted = λ z. omega arith;
+        idle = λ z. refl;
+        ended = λ z. absurd (omega arith);
+        halted = λ z. absurd (omega arith);
+        kinds = omega arith;
+      })
 
-    -- the call ends here
-    abbrev answer : Bool → Played
-    answer o = record { number = 0; place = 0; player = q; length = at; over = o }
+  -- on by some lines
+  going-on : (q : Player) (at least : ℕ) (out : List ℕ) → Going q at least out → (after : List ℕ) (r : Taken) → Moved (turnOf log memory) q at out after r
+      → Going (r .player) (r .at) (least + 1) after
+  going-on q at least out g after r m =
+      let v = notesText (m .notes) in
+      let l = g .long in
+      let f = m .fits in
+      let j = g .size in
+      let k = g .many in
+      let t = m .some in
+      rw (m .place, m .bytes)
+      (record {
+        notes = g .notes ++ m .notes;
+        turns = g .turns + m .turns;
+        fits = omega arith;
+        long = length-sets out at v ∙ g .long;
+        size = rw (notes-append, length-append) (omega arith);
+        piece = sets-front out v at f ∙ rw (g .piece, notes-append) (refl);
+        rest = sets-behind out v at f ∙ (sym (drop-drop (length v) at out) ∙ (ap (drop (length v)) (g .rest) ∙ drop-drop (length v) at before));
+        went = goes-on (turnOf log memory) (g .went) (m .goes);
+        many = omega arith;
+        fine = m .fine;
+      })
 
-    ends : (o : Bool) → (o ≡ true → turnOf log memory q .said ≡ over)
-        → (g .notes ≡ [] → o ≡ false → ((length before < 23) × (q ≡ p₀)) ⊎ (4000010 ≤ g .turns)) → Answered log memory p₀ before out (answer o)
-    ends o e s =
-        inl (refl, refl, record { notes = g .notes; turns = g .turns; fits = g .fits; piece = g .piece; rest = g .rest; went = g .went; over = e; fine = g .fine; gets = s })
+  module _ (t : Taken) (steps : ℕ) (out : List ℕ) (s : Standing t steps out) where
+    -- a step on
+    module _ (k : t .kind ≡ 0) (room : t .at + 23 ≤ length out) (after : List ℕ) (r : Taken) (e : Took (turnOf log memory) (t .player) (t .at) out after r) where
+      busy : length before < 23 → r .player ≡ p₀
+      busy h = let l = s .going .long in absurd (omega arith)
 
-    no-notes : g .notes ≡ [] → at ≡ 0
-    no-notes e = g .size ∙ (ap (λ (l : List Note). length (notesText l)) e ∙ ap length notes-none)
+      -- over or refused: the player and the bytes stay
+      stood : (r .kind ≡ 0 → ⊥) → after ≡ out → Going (r .player) (r .at) (s .least) after
+      stood n a = let i = e .stays n in rw (a, i .0, i .1) (s .going)
 
-    no-flag : {A : Type 0} → _≡_ {A = Bool} false true → A
-    no-flag e = absurd (let z : _≡_ {A = ℕ} 0 1 = cc in omega arith)
+      moves : r .kind ≡ 0 → Standing r (steps + 1) after
+      moves z =
+          let c = s .counted k in
+          record {
+            least = s .least + 1;
+            going = going-on (t .player) (t .at) (s .least) out (s .going) after r (e .moved z);
+            counted = λ y. omega arith;
+            idle = busy;
+            ended = λ y. absurd (omega arith);
+            halted = λ y. absurd (omega arith);
+            kinds = e .kinds;
+          }
 
-    no-flag′ : {A : Type 0} → _≡_ {A = Bool} true false → A
-    no-flag′ e = absurd (let z : _≡_ {A = ℕ} 0 1 = cc in omega arith)
+      over-here : r .kind ≡ 1 → Standing r (steps + 1) after
+      over-here z =
+          let n : r .kind ≡ 0 → ⊥ = λ y. omega arith in
+          record {
+            least = s .least;
+            going = stood n (e .ended z .0);
+            counted = λ y. absurd (n y);
+            idle = busy;
+            ended = λ y. rw (e .stays n .0) (e .ended z .1);
+            halted = λ y. absurd (omega arith);
+            kinds = e .kinds;
+          }
 
-    -- with fewer than 23 bytes left of 23 or more
-    pub going-full : 23 ≤ length before → length before - at < 23 → Answered log memory p₀ before out (answer false)
-    going-full h k = ends false no-flag (λ e z. let n = no-notes e in absurd (omega arith))
+      halted-here : r .kind ≡ 2 → Standing r (steps + 1) after
+      halted-here z =
+          let n : r .kind ≡ 0 → ⊥ = λ y. omega arith in
+          record {
+            least = s .least;
+            going = stood n (e .halted z .0);
+            counted = λ y. absurd (n y);
+            idle = busy;
+            ended = λ y. absurd (omega arith);
+            halted = λ y. rw (e .stays n .0) (e .halted z .1);
+            kinds = e .kinds;
+          }
 
-    -- at the end of the log
-    pub going-over : turnOf log memory q .said ≡ over → Answered log memory p₀ before out (answer true)
-    going-over e = ends true (λ z. e) (λ n z. no-flag′ z)
+      pub standing-on : Standing r (steps + 1) after
+      standing-on = by (r .kind) refl
+        where
+          by : (z : ℕ) → r .kind ≡ z → Standing r (steps + 1) after
+          by zero h = moves h
+          by (suc zero) h = over-here h
+          by (suc (suc z)) h = halted-here (let m = e .kinds in omega arith)
 
-    -- behind very many steps
-    pub going-long : 4000010 ≤ steps → Answered log memory p₀ before out (answer false)
-    going-long h = ends false no-flag (λ e z. inr (let m = g .many in omega arith))
+    no-notes : s .going .notes ≡ [] → t .at ≡ 0
+    no-notes e = s .going .size ∙ (ap (λ (l : List Note). length (notesText l)) e ∙ ap length notes-none)
 
-    -- behind a line
-    pub going-short : (at ≡ 0 → ⊥) → Answered log memory p₀ before out (answer false)
-    going-short h = ends false no-flag (λ e z. absurd (h (no-notes e)))
-
-    -- at a refusal with nothing written
-    pub going-halted : at ≡ 0 → (number place : ℕ) → turnOf log memory q .said ≡ refused number place
-        → Answered log memory p₀ before out (record { number = number; place = place; player = p₀; length = 0; over = false })
-    going-halted e number place s =
+    -- the refusal, with nothing written
+    at-refusal : t .kind ≡ 2 → t .at ≡ 0 → Answered log memory p₀ before out (record { number = t .number; place = t .place; player = p₀; length = 0; over = false })
+    at-refusal k e =
+        let g = s .going in
         let n : g .notes ≡ [] = notes-empty (g .notes) (sym (g .size) ∙ e) in
         inr (
-          record { turns = g .turns; at = q; went = rw n at (g .went); refuses = s },
+          record { turns = g .turns; at = t .player; went = rw n at (g .went); refuses = s .halted k },
           record { answer = refl; stays = rw e at (g .rest) },
         )
 
-  -- a small buffer
-  pub small : inRange (p₀ .state) ≡ true → length before < 23 → Answered log memory p₀ before before (record { number = 0; place = 0; player = p₀; length = 0; over = false })
-  small f h =
-      inl (
-        refl,
-        refl,
-        record {
-          notes = [];
-          turns = 0;
-          fits = omega arith;
-          piece = sym notes-none;
-          rest = refl;
-          went = here;
-          over = λ z. absurd (let y : _≡_ {A = ℕ} 0 1 = cc in omega arith);
-          fine = f;
-          gets = λ a b. inl (h, refl);
-        },
-      )
+    -- the lines
+    at-lines : (t .kind ≡ 2 → t .at ≡ 0 → ⊥) → (t .kind ≡ 0 → steps < 4000010 → length out < t .at + 23)
+        → Answered log memory p₀ before out (record { number = 0; place = 0; player = t .player; length = t .at; over = eqb (t .kind) 1 })
+    at-lines some full =
+        let g = s .going in
+        inl (
+          refl,
+          refl,
+          record {
+            notes = g .notes;
+            turns = g .turns;
+            fits = g .fits;
+            piece = g .piece;
+            rest = g .rest;
+            went = g .went;
+            over = λ e. s .ended (eqb-true (t .kind) 1 e);
+            fine = g .fine;
+            gets = λ e o. short e (eqb-false (t .kind) 1 o);
+          },
+        )
+      where
+        short : s .going .notes ≡ [] → (t .kind ≡ 1 → ⊥) → ((length before < 23) × (t .player ≡ p₀)) ⊎ (4000010 ≤ s .going .turns)
+        short e n = by (t .kind) refl (leb 4000010 steps) refl
+          where
+            by : (k : ℕ) → t .kind ≡ k → (b : Bool) → leb 4000010 steps ≡ b → ((length before < 23) × (t .player ≡ p₀)) ⊎ (4000010 ≤ s .going .turns)
+            by zero h true c = let l = leb-true 4000010 steps c in let m = s .counted h in let n = s .going .many in inr (omega arith)
+            by zero h false c =
+                let l = leb-false 4000010 steps c in
+                let a = no-notes e in
+                let f = full h (omega arith) in
+                let g = s .going .long in
+                let small : length before < 23 = omega arith in
+                inl (small, s .idle small)
+            by (suc zero) h b c = absurd (n h)
+            by (suc (suc k)) h b c = absurd (some (let m = s .kinds in omega arith) (no-notes e))
+
+    pub standing-answer : (t .kind ≡ 0 → steps < 4000010 → length out < t .at + 23) → (r : Played) → r ≡ answerOf p₀ t → Answered log memory p₀ before out r
+    unfolding answerOf
+    standing-answer full r e = rw e (by (eqb (t .kind) 2) refl (eqb (t .at) 0) refl)
+      where
+        by : (a : Bool) → eqb (t .kind) 2 ≡ a → (b : Bool) → eqb (t .at) 0 ≡ b
+            → Answered log memory p₀ before out (pick (both a b) (record { number = t .number; place = t .place; player = p₀; length = 0; over = false })
+            (record { number = 0; place = 0; player = t .player; length = t .at; over = eqb (t .kind) 1 }))
+        by true i true j = at-refusal (eqb-true (t .kind) 2 i) (eqb-true (t .at) 0 j)
+        by true i false j = at-lines (λ x y. eqb-false (t .at) 0 j y) full
+        by false i b j = at-lines (λ x y. eqb-false (t .kind) 2 i x) full

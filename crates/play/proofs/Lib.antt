@@ -1,10 +1,2 @@
 pub mod Goings
-pub mod Levels
-pub mod Pieces
-pub mod Rooms
-pub mod Stretches
-pub mod Telling
-pub mod Texts
-pub mod Turning
-pub mod Waits
 pub mod Whole

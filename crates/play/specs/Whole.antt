@@ -6,8 +6,9 @@ use Rattle.arith.specs.Pick.{pick}
 use Rattle.api.specs.Answer.{isMemory}
 use Rattle.judge.specs.Tree.{acts}
 use Rattle.judge.specs.Whole.{treeOf, checkOf}
-use Rattle.play.specs.Notes.{notesOf, notesText, refusalText}
-use Rattle.play.specs.Playing.{freshPlayer, endedPlayer}
+use Rattle.notes.specs.Notes.{notesText, refusalText}
+use Rattle.playing.specs.Sound.{notesOf}
+use Rattle.playing.specs.Turns.{freshPlayer, endedPlayer}
 use Rattle.play.specs.declared.Begun.{Begun}
 
 -- 1 at 0 for a sample memory that isn't 32,768 bytes, then the log's own number and place

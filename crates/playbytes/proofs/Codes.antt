@@ -10,7 +10,7 @@ use lib.Seq.{take-at, drop-at, getD-append-add}
 use borrow.Author.Tests.{eq-eqb}
 use Rattle.codec.specs.Bytes.{low, high, stateBytes}
 use Rattle.codec.proofs.Codes.{state-size, state-right, written-read as state-read}
-use Rattle.play.specs.declared.Player.{Player}
+use Rattle.playing.specs.declared.Player.{Player}
 use Rattle.playbytes.specs.Player.{wideBytes, widesBytes, cursorBytes, playerBytes, wideOf, widesOf, cursorOf, statePart, playerAt, isPlayer, PlayerFits}
 use Rattle.playbytes.proofs.Wides.{wide-size, wides-size}
 use Rattle.playbytes.proofs.Placed.{numbers, numbers-size, whole, player-size}

@@ -9,7 +9,7 @@ use Rattle.print.proofs.Stores.{sets-append}
 use Rattle.codec.specs.Bytes.{stateBytes}
 use Rattle.codec.proofs.Codes.{state-size}
 use Rattle.cursor.specs.declared.Cursor.{Cursor}
-use Rattle.play.specs.declared.Player.{Player}
+use Rattle.playing.specs.declared.Player.{Player}
 use Rattle.playbytes.specs.Player.{wideBytes, widesBytes, cursorBytes, playerBytes}
 use Rattle.playbytes.proofs.Wides.{wide-size, wides-size}
 

@@ -9,7 +9,7 @@ use lib.Dec.{eqb}
 use Rattle.arith.specs.Pick.{pick, both}
 use Rattle.codec.specs.Bytes.{low, high, byteOf, stateBytes, stateOf, isState}
 use Rattle.cursor.specs.declared.Cursor.{Cursor}
-use Rattle.play.specs.declared.Player.{Player}
+use Rattle.playing.specs.declared.Player.{Player}
 
 -- WRITTEN
 

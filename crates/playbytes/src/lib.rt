@@ -6,7 +6,7 @@ mod number;
 mod reader;
 mod writer;
 
-use play::Player;
+use playing::Player;
 
 // Whether bytes are a player's: 190 of them, and those of the state are a state's.
 pub fn is_player(b: &[u8]) -> bool

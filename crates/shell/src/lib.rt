@@ -2,7 +2,7 @@
 ghost use mathlib.Core.Path.{_≡_};
 ghost use Rattle.io.specs.Counts.{Counts};
 use libc::STDOUT_FILENO;
-use play::Player;
+use playing::Player;
 
 // Writes the first n bytes; whether all of them went out.
 fn piece(out: &[u8], n: usize) -> bool {
@@ -37,7 +37,7 @@ fn all(p: Player, log: &[u8], memory: &[u8]) {
 
 fn refused(number: u8, place: usize) {
     let mut out = [0u8; 64];
-    let n = play::refusal(number, place, &mut out);
+    let n = notes::refusal(number, place, &mut out);
     piece(&out, n);
 }
 
