@@ -1,4 +1,4 @@
-// The lines of what is played, in bytes over lent bytes.
+// The lines of what is played, written over lent bytes.
 ghost use mathlib.Core.Path.{_≡_};
 ghost use Prim.Native.Nat.{_+_, _*_, _/_, _≤_};
 ghost use lib.Dec.{leb, ltb};

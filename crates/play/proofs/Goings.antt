@@ -3,7 +3,7 @@ use Prim.Native.Nat.{ℕ, zero, suc, _+_, _≤_, _<_}
 use mathlib.Core.Path.{_≡_, refl, ap, sym, _∙_}
 use mathlib.Core.Logic.{_⊎_, inl, inr}
 use mathlib.Core.Bool.{Bool, true, false}
-use mathlib.Core.List.{List, [], _∷_, _++_}
+use mathlib.Core.List.{List, [], _++_}
 use native.Mathlib.Nat.{zero-add, suc-add}
 use native.Mathlib.Omega.{arith}
 use lib.Dec.{eqb, leb}
@@ -14,14 +14,15 @@ use Rattle.arith.specs.Pick.{pick, both}
 use Rattle.emit.specs.Machine.{over, refused}
 use Rattle.chip.specs.Range.{inRange}
 use Rattle.notes.specs.declared.Note.{Note}
-use Rattle.notes.specs.Notes.{noteText, notesText}
+use Rattle.notes.specs.Notes.{notesText}
 use Rattle.notes.proofs.Texts.{notes-append, notes-none, notes-empty}
 use Rattle.playing.specs.declared.Player.{Player}
 use Rattle.playing.specs.Turns.{Go, turnOf, Goes, here, quietly, saying}
 use Rattle.steps.specs.declared.Taken.{Taken}
 use Rattle.steps.proofs.Takings.{Moved, Took}
 use Rattle.play.specs.declared.Played.{Played}
-use Rattle.play.specs.Playing.{Piece, Untouched, Halted, Answered, answerOf}
+use Rattle.play.specs.Loop.{answerOf}
+use Rattle.play.specs.Playing.{Answered}
 
 pub no-flag : {A : Type 0} → _≡_ {A = Bool} false true → A
 no-flag e = absurd (let z : _≡_ {A = ℕ} 0 1 = cc in omega arith)

@@ -21,7 +21,7 @@ use Rattle.playing.specs.declared.Player.{Player}
 use Rattle.playing.specs.Sound.{notesOf}
 use Rattle.playing.specs.Turns.{freshPlayer, turnOf}
 use Rattle.playing.proofs.Saying.{Told, fresh-told}
-use Rattle.playing.proofs.Telling.{Tells, Left, left, never-refused, over-none}
+use Rattle.playing.proofs.Telling.{Left, left, never-refused, over-none}
 use Rattle.play.specs.declared.Played.{Played}
 use Rattle.play.specs.Playing.{Piece, Answered, PlayedOn}
 use Rattle.play.specs.Whole.{playNumber, playText}

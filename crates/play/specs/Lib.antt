@@ -1,3 +1,4 @@
 pub mod Calls
+pub mod Loop
 pub mod Playing
 pub mod Whole

@@ -5,8 +5,6 @@ use mathlib.Core.Logic.{_⊎_}
 use mathlib.Core.Bool.{Bool, true, false}
 use mathlib.Core.List.{List, []}
 use lib.ListN.{length, take, drop}
-use lib.Dec.{eqb}
-use Rattle.arith.specs.Pick.{pick, both}
 use Rattle.emit.specs.Machine.{over, refused}
 use Rattle.chip.specs.Range.{inRange}
 use Rattle.api.specs.Answer.{isMemory}
@@ -14,7 +12,6 @@ use Rattle.notes.specs.Notes.{notesText}
 use Rattle.notes.specs.declared.Note.{Note}
 use Rattle.playing.specs.Turns.{turnOf, Goes}
 use Rattle.playing.specs.declared.Player.{Player}
-use Rattle.steps.specs.declared.Taken.{Taken}
 use Rattle.play.specs.declared.Played.{Played}
 
 -- WHAT A CALL OF `play_on` WRITES. How full a piece gets is left free: `notes` are its lines, `turns` how far the player went.
@@ -63,10 +60,3 @@ PlayedOn log memory p before after r =
     Where (isMemory memory)
     (Where (inRange (p .state)) (Answered log memory p before after r) (Untouched p 2 0 before after r))
     (Untouched p 1 0 before after r)
-
--- what the loop came to: the refusal, where no line was written before it; else the lines
-unfoldable pub answerOf : Player → Taken → Played
-answerOf p t =
-    pick (both (eqb (t .kind) 2) (eqb (t .at) 0))
-    (record { number = t .number; place = t .place; player = p; length = 0; over = false })
-    (record { number = 0; place = 0; player = t .player; length = t .at; over = eqb (t .kind) 1 })

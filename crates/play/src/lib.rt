@@ -7,7 +7,8 @@ ghost use lib.Dec.{eqb};
 ghost use Rattle.arith.specs.Pick.{pick};
 ghost use Rattle.chip.specs.Range.{inRange};
 ghost use Rattle.playing.specs.Turns.{freshPlayer, endedPlayer};
-ghost use Rattle.play.specs.Playing.{Answered, answerOf, PlayedOn};
+ghost use Rattle.play.specs.Loop.{answerOf};
+ghost use Rattle.play.specs.Playing.{Answered, PlayedOn};
 ghost use Rattle.play.specs.Whole.{begunOf};
 use playing::Player;
 use steps::Taken;
@@ -81,9 +82,9 @@ fn answer(p: Player, t: Taken) -> Played
     }
 }
 
-// Whether the loop goes on: neither over nor refused, 23 bytes left, and not for ever.
-fn goes_on(kind: u8, size: usize, at: usize, steps: u32) -> bool
-    ensures { λ r. ⌜ (r ≡ true → (kind ≡ 0) × (at + 23 ≤ size) × (steps < 4000010)) × (r ≡ false → kind ≡ 0 → steps < 4000010 → size < at + 23) ⌝ }
+// Whether the loop goes on: neither over nor refused, 23 bytes left, and fewer than 4,000,010 steps.
+fn goes_on(kind: u8, size: usize, at: usize, count: u32) -> bool
+    ensures { λ r. ⌜ (r ≡ true → (kind ≡ 0) × (at + 23 ≤ size) × (count < 4000010)) × (r ≡ false → kind ≡ 0 → count < 4000010 → size < at + 23) ⌝ }
 {
     if kind != 0 {
         return false;
@@ -94,7 +95,7 @@ fn goes_on(kind: u8, size: usize, at: usize, steps: u32) -> bool
     if size - at < 23 {
         return false;
     }
-    steps < 4000010
+    count < 4000010
 }
 
 // Whole lines, while 23 bytes are left.
@@ -103,12 +104,12 @@ fn play_lines(p: Player, log: &[u8], memory: &[u8], out: &mut [u8]) -> Played
     ensures { λ r. ⌜ Answered (now (log .entry)) (now (memory .entry)) p (now (out .entry)) (now (out .exit)) r ⌝ }
 {
     let mut t = steps::outcome(0, 0, 0, p, 0);
-    let mut steps: u32 = 0;
-    while goes_on(t.kind, out.len(), t.at, steps) {
+    let mut count: u32 = 0;
+    while goes_on(t.kind, out.len(), t.at, count) {
         let q = t.player;
         let at = t.at;
         t = steps::step(q, log, memory, out, at);
-        steps += 1;
+        count += 1;
     }
     answer(p, t)
 }

@@ -1,6 +1,6 @@
 -- A PLAYER AT THE BEGINNING OF A LOG THAT PASSES SAYS JUST THE LINES OF WHAT THE LOG SOUNDS LIKE. Assumes nothing.
 use Prim.Native.Nat.{ℕ, zero, suc, _+_, _-_, _*_, _≤_, _<_}
-use mathlib.Core.Path.{_≡_, refl, sym, ap, _∙_, subst}
+use mathlib.Core.Path.{_≡_, refl, _∙_, subst}
 use mathlib.Core.Bool.{Bool, true, false}
 use mathlib.Core.List.{List, [], _∷_, _++_, map}
 use native.Mathlib.Omega.{arith}
@@ -10,12 +10,12 @@ use Rattle.arith.specs.Pick.{pick}
 use Rattle.bus.specs.declared.Access.the-variants as bus
 use Rattle.line.specs.declared.Act.{Act}
 use Rattle.line.specs.declared.Act.the-variants as line
-use Rattle.judge.specs.Tree.{acts, clocks, actClocks}
+use Rattle.judge.specs.Tree.{acts, actClocks}
 use Rattle.judge.specs.Whole.{treeOf, checkOf}
 use Rattle.log.proofs.Limits.{Every, every-acts}
 use Rattle.log.proofs.Passing.{clear, stands}
 use Rattle.log.proofs.Listed.{clocksIn, clocks-listed}
-use Rattle.emit.specs.Machine.{Said, over, on, says, refused, Turn, Gives, ends, goes, gives}
+use Rattle.emit.specs.Machine.{over, on, says, Gives, ends, goes, gives}
 use Rattle.cursor.specs.declared.Cursor.{Cursor}
 use Rattle.cursor.specs.Stepping.{beginning, stepOf}
 use Rattle.cursor.proofs.Whole.{cursor-gives}
@@ -28,12 +28,12 @@ use Rattle.notes.specs.declared.Note.{Note}
 use Rattle.notes.specs.declared.Note.the-variants.{Play, Level, Read, Stop}
 use Rattle.playing.specs.declared.Player.{Player}
 use Rattle.playing.specs.Sound.{heard, waited, notesFrom, notesOf}
-use Rattle.playing.specs.Turns.{Go, go, playerOf, freshPlayer, accessed, acted, stepSaid, cursorTurn, phaseTurn, turnOf, Goes}
+use Rattle.playing.specs.Turns.{go, playerOf, freshPlayer, accessed, acted, stepSaid, cursorTurn, phaseTurn, turnOf, Goes}
 use Rattle.playing.specs.Stretch.{noteAt}
 use Rattle.playing.proofs.Levels.{all, waited-all, last-all, done-all}
 use Rattle.playing.proofs.Telling.{Tells, by-rest, by-tell, by-end, goes-tells}
 use Rattle.playing.proofs.Turning.{turn-cursor, turn-phase}
-use Rattle.playing.proofs.Waits.{Ways, waits}
+use Rattle.playing.proofs.Waits.{waits}
 
 -- a read leaves the level
 level-read : (s : State) → stateLevel (statusRead s) ≡ stateLevel s

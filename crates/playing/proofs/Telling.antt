@@ -1,10 +1,10 @@
 -- A player that says all its lines, with few turns between them that say nothing. Assumes nothing.
 use Prim.Native.Nat.{ℕ, zero, suc, _+_, _≤_, _<_}
-use mathlib.Core.Path.{_≡_, refl, sym, ap, _∙_}
+use mathlib.Core.Path.{_≡_, refl, ap}
 use mathlib.Core.List.{List, [], _∷_, _++_}
 use native.Mathlib.Omega.{arith}
 use lib.ListN.{length}
-use Rattle.emit.specs.Machine.{Said, over, on, says, refused, Turn}
+use Rattle.emit.specs.Machine.{over, on, says, refused}
 use Rattle.notes.specs.declared.Note.{Note}
 use Rattle.playing.specs.declared.Player.{Player}
 use Rattle.playing.specs.Turns.{Go, go, Goes, here, quietly, saying}

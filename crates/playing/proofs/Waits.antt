@@ -1,16 +1,14 @@
 -- A stretch of a wait, read with room for many records, is so many turns with room for one. Assumes nothing.
-use Prim.Native.Nat.{ℕ, zero, suc, _+_, _-_, _*_, _/_, _≤_, _<_}
+use Prim.Native.Nat.{ℕ, zero, suc, _+_, _-_, _≤_, _<_}
 use mathlib.Core.Path.{_≡_, refl, sym, ap, ap₂, _∙_, subst}
 use mathlib.Core.Logic.{_⊎_, inl, inr}
-use mathlib.Core.Bool.{Bool, true, false}
-use mathlib.Core.List.{List, [], _∷_, _++_, map}
-use native.Mathlib.Nat.{add-zero, zero-add, add-assoc}
-use native.Mathlib.Numerals.{one-add}
+use mathlib.Core.Bool.{true}
+use mathlib.Core.List.{List, [], _∷_, map}
+use native.Mathlib.Nat.{add-zero, add-assoc}
 use native.Mathlib.Omega.{arith}
 use lib.ListN.{length}
 use borrow.Author.Tests.{le-leb, ne-eqb}
-use Rattle.arith.specs.Pick.{pick}
-use Rattle.emit.specs.Machine.{Said, over, on, says, refused, Turn}
+use Rattle.emit.specs.Machine.{on, says}
 use Rattle.reading.specs.Reading.{Mark, Progress, raised, start, plain}
 use Rattle.reading.proofs.Readings.{later, reading-keeps}
 use Rattle.plain.specs.Run.{chipMachine}

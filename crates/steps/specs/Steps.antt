@@ -1,6 +1,5 @@
 -- A step of the player over lent bytes: a turn's line, or a stretch of a wait as lines.
 use Prim.Native.Nat.{ℕ, _+_, _-_, _*_, _/_}
-use mathlib.Core.Bool.{Bool}
 use mathlib.Core.List.{List, [], map}
 use lib.ListN.{length, getD}
 use lib.Dec.{eqb, leb, ltb}

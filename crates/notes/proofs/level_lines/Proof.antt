@@ -1,12 +1,9 @@
 use borrow.Author.Needs.{needs}
-use mathlib.Core.Path.{_≡_, refl, sym, ap, _∙_}
+use mathlib.Core.Path.{_≡_, sym, ap, _∙_}
 use native.Mathlib.Omega.{arith}
 use Prim.Native.Nat.{ℕ, _+_, _*_, _≤_}
-use mathlib.Core.List.{List}
 use lib.ListN.{length}
-use lib.Seq.{sets}
 use borrow.Author.Tests.{leb-true}
-use Rattle.notes.specs.Notes.{notesText}
 use Rattle.notes.specs.Lines.{levelNotes}
 use Rattle.notes.proofs.Lines.{lines-in, lines-end, lines-out, lines-stay, levels-size, levels-all, few, few-long, few-least}
 use Rattle.notes.proofs.level_lines.Statement.{statement}

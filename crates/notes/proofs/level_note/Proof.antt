@@ -1,5 +1,4 @@
 use borrow.Author.Needs.{needs}
-use mathlib.Core.Path.{_≡_, refl, sym, ap, _∙_}
 use native.Mathlib.Omega.{arith}
 use Rattle.notes.proofs.Texts.{level-size}
 use Rattle.notes.proofs.level_note.Statement.{statement}

@@ -1,5 +1,4 @@
 use borrow.Author.Needs.{needs}
-use native.Mathlib.Omega.{arith}
 use Rattle.notes.proofs.line.Statement.{statement}
 use Rattle.notes.proofs.line.Tie as tie
 

@@ -1,12 +1,9 @@
 use borrow.Author.Needs.{needs}
-use mathlib.Core.Path.{_≡_, refl, sym, ap, _∙_}
 use native.Mathlib.Omega.{arith}
-use mathlib.Core.List.{_++_}
 use Rattle.text.specs.Ascii.{bytes}
-use Rattle.text.specs.Decimal.{decimalText}
 use Rattle.notes.specs.declared.Note.the-variants.{Play}
 use Rattle.notes.specs.Notes.{noteText}
-use Rattle.notes.proofs.Pieces.{put-last, put-more, lined}
+use Rattle.notes.proofs.Pieces.{put-last, lined}
 use Prim.Native.Nat.{_+_, _≤_}
 use lib.ListN.{length}
 use Rattle.notes.proofs.Texts.{play-size}

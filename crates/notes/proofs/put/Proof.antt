@@ -1,5 +1,5 @@
 use borrow.Author.Needs.{needs}
-use mathlib.Core.Path.{_≡_, refl, sym, _∙_}
+use mathlib.Core.Path.{sym, _∙_}
 use borrow.Author.Tests.{leb-true}
 use Rattle.notes.specs.Notes.{noteText}
 use Rattle.notes.proofs.Lines.{lines-in, lines-end, lines-out, lines-stay}

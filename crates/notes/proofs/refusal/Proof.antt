@@ -1,6 +1,5 @@
 use borrow.Author.Needs.{needs}
-use mathlib.Core.Path.{_≡_, refl, sym, ap, ap₂, _∙_}
-use native.Mathlib.Omega.{arith}
+use mathlib.Core.Path.{sym, ap, _∙_}
 use lib.ListN.{length, take}
 use Rattle.print.specs.Printed.{printed, placed}
 use Rattle.notes.proofs.Texts.{refusal-taken}

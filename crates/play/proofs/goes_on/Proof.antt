@@ -1,4 +1,3 @@
-use mathlib.Core.Path.{_≡_, refl}
 use native.Mathlib.Omega.{arith}
 use borrow.Author.Tests.{ltb-true, ltb-false}
 use Rattle.play.proofs.Goings.{no-flag}
@@ -17,7 +16,7 @@ returns-3 c = (no-flag, λ e k s. omega (arith, c .if3 .taken))
 returns-4 : tie.Need-returns-4
 returns-4 c = (
   λ e. (c .before .before .if1 .left, omega (arith, c .if3 .left, c .before .if2 .left), ltb-true _ _ e),
-  λ e k s. absurd (let l = ltb-false (c .before .before .before .args .steps) 4000010 e in omega (arith, l, s)),
+  λ e k s. absurd (let l = ltb-false (c .before .before .before .args .count) 4000010 e in omega (arith, l, s)),
 )
 
 pub goes-on-spec : {M : Type 1} → statement M

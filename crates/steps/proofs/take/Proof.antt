@@ -1,5 +1,5 @@
 use borrow.Author.Needs.{needs}
-use mathlib.Core.Path.{_≡_, refl, _∙_}
+use mathlib.Core.Path.{refl, _∙_}
 use Rattle.steps.proofs.take.Statement.{statement}
 use Rattle.steps.proofs.take.Tie as tie
 

@@ -1,9 +1,9 @@
 use borrow.Author.Needs.{needs}
-use mathlib.Core.Path.{_≡_, refl, sym, ap, _∙_}
+use mathlib.Core.Path.{refl, sym, ap, _∙_}
 use mathlib.Core.List.{List, _++_}
 use native.Mathlib.Omega.{arith}
-use Prim.Native.Nat.{ℕ, _*_, _≤_}
-use lib.ListN.{length, drop, length-append, length-drop}
+use Prim.Native.Nat.{ℕ, _*_}
+use lib.ListN.{drop}
 use lib.Seq.{length-take-le}
 use Rattle.steps.proofs.Stretches.{room-low, stretch-long, stretch-low, stretch-done, stretch-all}
 use Rattle.steps.proofs.waited.Statement.{statement}

@@ -1,4 +1,4 @@
-use mathlib.Core.Path.{_≡_, refl, sym, ap, _∙_}
+use mathlib.Core.Path.{refl, _∙_}
 use Rattle.playing.specs.Turns.{cursorTurn}
 use Rattle.turns.proofs.Keeping.{found-back}
 use Rattle.turns.proofs.cursor_turn.Statement.{statement}

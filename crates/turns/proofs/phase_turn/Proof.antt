@@ -1,4 +1,4 @@
-use mathlib.Core.Path.{_≡_, refl, sym, ap, _∙_}
+use mathlib.Core.Path.{refl}
 use borrow.Author.Tests.{eq-eqb, ne-eqb}
 use Rattle.playing.specs.Turns.{phaseTurn}
 use Rattle.turns.proofs.phase_turn.Statement.{statement}

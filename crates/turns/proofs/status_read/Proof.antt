@@ -1,4 +1,4 @@
-use mathlib.Core.Path.{_≡_, refl, sym, ap, _∙_}
+use mathlib.Core.Path.{refl, ap, _∙_}
 use Rattle.chip.specs.Range.{inRange}
 use Rattle.chip.proofs.Ranges.{state-in, state-back, read-kept}
 use Rattle.playing.specs.Turns.{acted}

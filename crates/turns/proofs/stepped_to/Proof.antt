@@ -1,5 +1,5 @@
 use borrow.Author.Needs.{needs}
-use mathlib.Core.Path.{_≡_, refl, sym, ap, _∙_}
+use mathlib.Core.Path.{refl}
 use Rattle.playing.specs.Turns.{stepSaid}
 use Rattle.turns.proofs.stepped_to.Statement.{statement}
 use Rattle.turns.proofs.stepped_to.Tie as tie

@@ -1,4 +1,4 @@
-use mathlib.Core.Path.{_≡_, refl, sym, ap, _∙_}
+use mathlib.Core.Path.{refl, _∙_}
 use native.Mathlib.Omega.{arith}
 use Rattle.turns.proofs.Keeping.{write-both}
 use Rattle.turns.proofs.write_at.Statement.{statement}
