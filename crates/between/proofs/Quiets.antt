@@ -10,25 +10,25 @@ use Rattle.arith.specs.Iterate.{iterate}
 use Rattle.arith.specs.Pick.{pick}
 use Rattle.square.specs.Sequencer.{sequencerClock}
 use Rattle.square.specs.Square as square
-use Rattle.square.specs.Leap.{beatOf, withBeat, beatClock, dutyRow, beatGives, beatAdvanced}
+use Rattle.squareleap.specs.Leap.{beatOf, withBeat, beatClock, dutyRow, beatGives, beatAdvanced}
 use Rattle.square.specs.declared.Square.{Square}
 use Rattle.square.specs.declared.Sequencer as square1
 use Rattle.square.proofs.Ranges.{SquareRanged}
-use Rattle.square.proofs.Leaps as squares
+use Rattle.squareleap.proofs.Leaps as squares
 use Rattle.triangle.specs.Triangle as triangle
-use Rattle.triangle.specs.Leap.{triangleGate, triangleBeatOf, triangleWithBeat, triangleBeatClock, triangleGives, triangleBeatAdvanced}
+use Rattle.triangleleap.specs.Leap.{triangleGate, triangleBeatOf, triangleWithBeat, triangleBeatClock, triangleGives, triangleBeatAdvanced}
 use Rattle.triangle.specs.declared.Triangle.{Triangle}
 use Rattle.triangle.specs.declared.Sequencer as triangle1
 use Rattle.triangle.proofs.Ranges.{TriangleRanged}
-use Rattle.triangle.proofs.Leaps as triangles
+use Rattle.triangleleap.proofs.Leaps as triangles
 use Rattle.noise.specs.Shifter.{shifterClock}
 use Rattle.noise.specs.Noise as noise
-use Rattle.noise.specs.Leap.{shifterGives, shifterAdvanced}
+use Rattle.noiseleap.specs.Leap.{shifterGives, shifterAdvanced}
 use Rattle.noise.specs.declared.Noise.{Noise}
 use Rattle.noise.specs.declared.Shifter.{Shifter}
-use Rattle.noise.proofs.Leaps as noises
+use Rattle.noiseleap.proofs.Leaps as noises
 use Rattle.dmc.specs.Clock.{dmcClock, dmcOutput}
-use Rattle.dmc.proofs.Leaps.{DmcIdle, idle-closed, idle-still}
+use Rattle.dmcleap.proofs.Leaps.{DmcIdle, idle-closed, idle-still}
 use Rattle.frame.specs.Leap.{frameBefore}
 use Rattle.chip.specs.Clock.{chipClock}
 use Rattle.chip.specs.Level.{stateLevel}
@@ -57,7 +57,7 @@ square-silent : (second : Bool) (q : Square) → SquareRanged q → q .length .c
     → square.squareOutput second (square.withSequencer q (iterate sequencerClock g (q .sequencer))) ≡ square.squareOutput second q
 square-silent second q r z g =
     let row = dutyRow (q .duty) in
-    let none : (b : Rattle.square.specs.declared.leap.Beat.Beat) → beatGives row (square.squareAmount second q) b ≡ 0 =
+    let none : (b : Rattle.squareleap.specs.declared.Beat.Beat) → beatGives row (square.squareAmount second q) b ≡ 0 =
     λ b. rw (no-amount second q z) (squares.gives-none row b)
     in
     ap (λ (x : square1.Sequencer). square.squareOutput second (square.withSequencer q x)) (squares.sequencer-beats (q .sequencer) (r .sequencer) g)

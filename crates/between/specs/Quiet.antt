@@ -2,10 +2,10 @@
 use Prim.Native.Nat.{ℕ}
 use mathlib.Core.Path.{_≡_}
 use mathlib.Core.Bool.{true, false}
-use Rattle.square.specs.Leap.{beatOf, withBeat, beatAdvanced}
-use Rattle.triangle.specs.Leap.{triangleBeatOf, triangleWithBeat, triangleBeatAdvanced}
-use Rattle.noise.specs.Leap.{shifterAdvanced}
-use Rattle.dmc.specs.Leap.{dmcAdvanced}
+use Rattle.squareleap.specs.Leap.{beatOf, withBeat, beatAdvanced}
+use Rattle.triangleleap.specs.Leap.{triangleBeatOf, triangleWithBeat, triangleBeatAdvanced}
+use Rattle.noiseleap.specs.Leap.{shifterAdvanced}
+use Rattle.dmcleap.specs.Leap.{dmcAdvanced}
 use Rattle.frame.specs.Leap.{framePassed}
 use Rattle.chip.specs.Table.{noisePeriod, dmcPeriod}
 use Rattle.chip.specs.declared.State.{State}

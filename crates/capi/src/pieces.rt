@@ -1,16 +1,9 @@
 // The player in pieces for C and Rust. A player is 190 bytes lent in place (crate `playbytes`), which the caller keeps between two
 // pieces. Bytes that are no player's are refused, and stay.
 ghost use mathlib.Core.Path.{_≡_};
-ghost use Prim.Native.Nat.{_≤_, _<_};
-ghost use lib.Dec.{eqb};
-ghost use Rattle.arith.specs.Pick.{pick};
 ghost use Rattle.print.specs.Printed.{printed};
 ghost use Rattle.notes.specs.Notes.{refusalText};
-ghost use Rattle.playbytes.specs.Player.{playerEncoded};
-ghost use Rattle.capi.specs.Players.{beginPacked, beginBytes, piecePacked, PlayedFrom, Continued, refusalPacked};
-use super::logs::pack_log;
-use play::Played;
-use playing::Player;
+ghost use Rattle.byteplay.specs.Players.{beginPacked, beginBytes, Continued, refusalPacked};
 
 // How many bytes a player is.
 #[no_mangle]
@@ -20,67 +13,13 @@ pub extern "C" fn perch_player_size() -> usize
     190
 }
 
-// The player written to the bytes, where the number says that it is done.
-fn store_player(number: u8, p: Player, b: &mut [u8])
-    ensures { λ r. ⌜ now (b .exit) ≡ pick (eqb number 0) (playerEncoded p (now (b .entry))) (now (b .entry)) ⌝ }
-{
-    if number == 0 {
-        playbytes::encode(p, b);
-    }
-}
-
 // Makes the bytes a player at the log's beginning, whatever they held. Refused: 1; 2, for another length; as the log.
 #[no_mangle]
 pub extern "C" fn perch_begin(player: &mut [u8], log: &[u8], memory: &[u8]) -> u64
     ensures { λ r. ⌜ r ≡ beginPacked (now (log .entry)) (now (memory .entry)) (now (player .entry)) ⌝ }
     ensures { λ r. ⌜ now (player .exit) ≡ beginBytes (now (log .entry)) (now (memory .entry)) (now (player .entry)) ⌝ }
 {
-    if player.len() != 190 {
-        let number = super::no_state(memory);
-        return pack_log(number, 0, 0);
-    }
-    let g = play::begin(log, memory);
-    let p = g.player;
-    store_player(g.number, p, player);
-    pack_log(g.number, g.place, 0)
-}
-
-// As many bytes of a text as the answer can count.
-fn most(length: usize) -> usize
-    ensures { λ r. ⌜ (r ≤ length) × (r ≤ 4294967295) × (r < 23 → r ≡ length) ⌝ }
-{
-    if length < 4294967295 {
-        length
-    } else {
-        4294967295
-    }
-}
-
-fn play_on(b: &[u8], log: &[u8], memory: &[u8], text: &mut [u8]) -> Played
-    ensures { λ r. ⌜ PlayedFrom (now (log .entry)) (now (memory .entry)) (now (b .entry)) (now (text .entry)) (now (text .exit)) r × (r .length ≤ 4294967295) ⌝ }
-{
-    let p = playbytes::decode(b);
-    if playbytes::is_player(b) {
-        let end = most(text.len());
-        return play::play_on(p, log, memory, &mut text[..end]);
-    }
-    let number = super::no_state(memory);
-    Played {
-        number: number,
-        place: 0,
-        player: p,
-        length: 0,
-        over: false,
-    }
-}
-
-// A piece's answer in one number.
-fn pack_piece(r: Played) -> u64
-    requires { ⌜ r .length ≤ 4294967295 ⌝ }
-    ensures { λ n. ⌜ n ≡ piecePacked r ⌝ }
-{
-    let over = arith::pick_u16(r.over, 1, 0);
-    r.number as u64 + 256 * over as u64 + 4294967296 * r.length as u64
+    byteplay::begin(player, log, memory)
 }
 
 // Writes the player's next lines to the text, whole lines only and to its first 4,294,967,295 bytes at most, and moves the player
@@ -94,10 +33,7 @@ pub extern "C" fn perch_play_on(
 ) -> u64
     ensures { λ r. ⌜ Continued (now (log .entry)) (now (memory .entry)) (now (player .entry)) (now (player .exit)) (now (text .entry)) (now (text .exit)) r ⌝ }
 {
-    let m = play_on(player, log, memory, text);
-    let p = m.player;
-    store_player(m.number, p, player);
-    pack_piece(m)
+    byteplay::play_on(player, log, memory, text)
 }
 
 // Writes the text of a refusal where it fits, else nothing. Of a place of more than ten digits it writes the last ten.
@@ -106,7 +42,5 @@ pub extern "C" fn perch_refusal_text(number: u8, place: u64, text: &mut [u8]) ->
     ensures { λ r. ⌜ r ≡ refusalPacked number place (now (text .entry)) ⌝ }
     ensures { λ r. ⌜ now (text .exit) ≡ printed (now (text .entry)) 0 (refusalText number place) ⌝ }
 {
-    let at = place as usize;
-    let n = notes::refusal(number, at, text);
-    4294967296 * n as u64
+    byteplay::refusal_text(number, place, text)
 }

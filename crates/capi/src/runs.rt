@@ -1,29 +1,7 @@
 // The runs that C and Rust call.
 ghost use mathlib.Core.Path.{_≡_};
-ghost use Prim.Native.Nat.{_≤_};
-ghost use Rattle.capi.specs.Boundary.{bytesAfter};
-ghost use Rattle.capi.specs.Runs.{runPacked, runFrom, wordsFrom};
-use plain::Ran;
-
-// A run's answer in one number.
-fn pack_run(r: Ran) -> u64
-    requires { ⌜ r .done ≤ 1000000 ⌝ }
-    ensures { λ n. ⌜ n ≡ runPacked r ⌝ }
-{
-    r.number as u64 + 256 * r.done as u64 + 4294967296 * r.records as u64
-}
-
-fn run_leaping(b: &[u8], memory: &[u8], count: u64, words: &mut [u32]) -> Ran
-    ensures { λ r. ⌜ r ≡ runFrom (now (memory .entry)) (now (b .entry)) count (now (words .entry)) ⌝ }
-    ensures { λ r. ⌜ now (words .exit) ≡ wordsFrom (now (memory .entry)) (now (b .entry)) count (now (words .entry)) ⌝ }
-{
-    let s = codec::decode(b);
-    if codec::is_state(b) {
-        return run::run(s, memory, count, words);
-    }
-    let number = super::no_state(memory);
-    plain::refuse(number, s)
-}
+ghost use Rattle.bytechip.specs.Boundary.{bytesAfter};
+ghost use Rattle.byterun.specs.Runs.{runPacked, runFrom, wordsFrom};
 
 // Works `count` clocks, leaping where nothing changes, and writes a record of two words for each clock whose level differs from
 // that before it. Refused: 1, 2, 3.
@@ -33,22 +11,7 @@ pub extern "C" fn perch_run(state: &mut [u8], memory: &[u8], count: u64, words: 
     ensures { λ r. ⌜ now (state .exit) ≡ bytesAfter (runFrom (now (memory .entry)) (now (state .entry)) count (now (words .entry)) .number) (runFrom (now (memory .entry)) (now (state .entry)) count (now (words .entry)) .state) (now (state .entry)) ⌝ }
     ensures { λ r. ⌜ now (words .exit) ≡ wordsFrom (now (memory .entry)) (now (state .entry)) count (now (words .entry)) ⌝ }
 {
-    let r = run_leaping(state, memory, count, words);
-    let s = r.state;
-    super::store(r.number, s, state);
-    pack_run(r)
-}
-
-fn run_plain(b: &[u8], memory: &[u8], count: u64, words: &mut [u32]) -> Ran
-    ensures { λ r. ⌜ r ≡ runFrom (now (memory .entry)) (now (b .entry)) count (now (words .entry)) ⌝ }
-    ensures { λ r. ⌜ now (words .exit) ≡ wordsFrom (now (memory .entry)) (now (b .entry)) count (now (words .entry)) ⌝ }
-{
-    let s = codec::decode(b);
-    if codec::is_state(b) {
-        return plain::run_plain(s, memory, count, words);
-    }
-    let number = super::no_state(memory);
-    plain::refuse(number, s)
+    byterun::run(state, memory, count, words)
 }
 
 // The same, clock by clock.
@@ -63,8 +26,5 @@ pub extern "C" fn perch_run_plain(
     ensures { λ r. ⌜ now (state .exit) ≡ bytesAfter (runFrom (now (memory .entry)) (now (state .entry)) count (now (words .entry)) .number) (runFrom (now (memory .entry)) (now (state .entry)) count (now (words .entry)) .state) (now (state .entry)) ⌝ }
     ensures { λ r. ⌜ now (words .exit) ≡ wordsFrom (now (memory .entry)) (now (state .entry)) count (now (words .entry)) ⌝ }
 {
-    let r = run_plain(state, memory, count, words);
-    let s = r.state;
-    super::store(r.number, s, state);
-    pack_run(r)
+    byterun::run_plain(state, memory, count, words)
 }

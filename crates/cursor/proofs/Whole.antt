@@ -8,7 +8,7 @@ use Rattle.emit.proofs.Steps.{within}
 use Rattle.judge.specs.Lines.{startOf}
 use Rattle.judge.specs.Tree.{acts}
 use Rattle.judge.specs.Whole.{treeOf, checkOf}
-use Rattle.log.proofs.Passing.{clear, passing}
+use Rattle.passing.proofs.Passing.{clear, passing}
 use Rattle.cursor.specs.Stepping.{beginning, stepOf}
 use Rattle.cursor.proofs.Walk.{begin-gives}
 

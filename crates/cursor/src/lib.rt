@@ -223,7 +223,7 @@ fn refusal(c: Cursor, r: Reading) -> Stepped
 pub fn step(log: &[u8], c: Cursor) -> Stepped
     ensures { λ r. ⌜ r ≡ stepped (stepOf (now (log .entry)) c) ⌝ }
 {
-    let r = judge::lines::read(log, c.at);
+    let r = lines::read(log, c.at);
     let Reading::Item(l, next) = r else {
         return refusal(c, r);
     };

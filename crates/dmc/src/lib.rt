@@ -8,9 +8,6 @@ ghost use Rattle.dmc.specs.Clock.{levelMoved, outputStep, withTimer, out
 ghost use Rattle.dmc.specs.Write.{dmcWrite0, dmcWrite1, dmcWrite2, dmcWrite3, dmcWrite, switched, dmcEnabled};
 ghost use Rattle.dmc.specs.Range.{registersIn, outputIn, readerIn, dmcIn, dmcOn};
 
-pub mod lag;
-mod leap;
-
 // What the registers hold: interrupt enable, loop, period index, address byte, length byte.
 pub struct Registers {
     pub enable: bool,
@@ -85,7 +82,8 @@ impl Output {
         }
     }
 
-    fn at(self, timer: u16) -> Output
+    // With another timer count.
+    pub fn at(self, timer: u16) -> Output
         ensures { λ r. ⌜ r ≡ withTimer self timer ⌝ }
     {
         let mut o = self;
@@ -186,7 +184,8 @@ impl Reader {
         r
     }
 
-    fn waits(self) -> bool
+    // Whether a fetch is due.
+    pub fn waits(self) -> bool
         ensures { λ r. ⌜ r ≡ pending self ⌝ }
     {
         arith::both_of(!self.full, 0 < self.remaining)

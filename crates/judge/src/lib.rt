@@ -1,16 +1,5 @@
-// A log judged: one line read at a place, a block of lines read with the blocks inside it, and the check of a whole log.
+// A log judged line by line, and as blocks of lines: definitions and laws, no code.
 use line::Line;
-
-pub mod blocks;
-pub mod checking;
-pub mod lines;
-
-pub use blocks::read_block;
-pub use checking::check;
-pub use lines::number;
-pub use lines::place;
-pub use lines::read;
-pub use lines::start;
 
 // What reading one line at a place finds: an item and where the next line begins, or a refusal's number and place.
 pub enum Reading {

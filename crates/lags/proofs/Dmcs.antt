@@ -12,12 +12,12 @@ use Rattle.divider.specs.Divider.{forever}
 use Rattle.reading.specs.Lag.{Follows}
 use Rattle.reading.proofs.Lags.{lag-start, lag-to, lag-wait}
 use Rattle.dmc.specs.Clock.{dmcClock, dmcOutput}
-use Rattle.dmc.specs.Leap.{dmcStill, dmcAdvanced, dmcTurned}
-use Rattle.dmc.specs.Lag.{dmcLag, dmcRenewed, dmcAt}
+use Rattle.dmcleap.specs.Leap.{dmcStill, dmcAdvanced, dmcTurned}
+use Rattle.dmcleap.specs.Lag.{dmcLag, dmcRenewed, dmcAt}
 use Rattle.dmc.specs.declared.Dmc.{Dmc}
-use Rattle.dmc.specs.declared.lag.DmcLag.{DmcLag}
+use Rattle.dmcleap.specs.declared.lag.DmcLag.{DmcLag}
 use Rattle.dmc.proofs.Ranges.{DmcRanged, dmc-clock-kept}
-use Rattle.dmc.proofs.Leaps.{dmc-closed, dmc-still, dmc-turned}
+use Rattle.dmcleap.proofs.Leaps.{dmc-closed, dmc-still, dmc-turned}
 use Rattle.chip.specs.Range.{Bytes}
 use Rattle.lags.proofs.Turns.{Leaps, held-fine, turned-follows, held-gives}
 

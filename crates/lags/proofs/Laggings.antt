@@ -20,10 +20,10 @@ use Rattle.chip.specs.declared.State.{State}
 use Rattle.chip.proofs.Ranges.{StateRanged, noise-period-range, dmc-period-range}
 use Rattle.between.specs.Between.{stateWith}
 use Rattle.between.proofs.Betweens.{between}
-use Rattle.square.specs.declared.leap.SquareLag.{SquareLag}
-use Rattle.triangle.specs.declared.leap.TriangleLag.{TriangleLag}
-use Rattle.noise.specs.declared.lag.NoiseLag.{NoiseLag}
-use Rattle.dmc.specs.declared.lag.DmcLag.{DmcLag}
+use Rattle.squareleap.specs.declared.SquareLag.{SquareLag}
+use Rattle.triangleleap.specs.declared.TriangleLag.{TriangleLag}
+use Rattle.noiseleap.specs.declared.lag.NoiseLag.{NoiseLag}
+use Rattle.dmcleap.specs.declared.lag.DmcLag.{DmcLag}
 use Rattle.lags.specs.Lagged.{sooner, lagsAt, lagsOf, renewed, stateAt}
 use Rattle.lags.specs.declared.Lags.{Lags}
 use Rattle.lags.proofs.Squares.{SquareKept, square-start, square-renewed, square-out, square-at}

@@ -12,13 +12,13 @@ use Rattle.reading.specs.Lag.{Follows}
 use Rattle.reading.proofs.Lags.{lag-start, lag-to, lag-wait}
 use Rattle.noise.specs.Shifter.{shifterClock}
 use Rattle.noise.specs.Noise.{withShifter, noiseAmount, noiseOutput}
-use Rattle.noise.specs.Leap.{shifterGives, noiseStill, shifterAdvanced, shifterTurned}
-use Rattle.noise.specs.Lag.{noiseLag, noiseRenewed, noiseShifterAt}
+use Rattle.noiseleap.specs.Leap.{shifterGives, noiseStill, shifterAdvanced, shifterTurned}
+use Rattle.noiseleap.specs.Lag.{noiseLag, noiseRenewed, noiseShifterAt}
 use Rattle.noise.specs.declared.Shifter.{Shifter}
 use Rattle.noise.specs.declared.Noise.{Noise}
-use Rattle.noise.specs.declared.lag.NoiseLag.{NoiseLag}
+use Rattle.noiseleap.specs.declared.lag.NoiseLag.{NoiseLag}
 use Rattle.noise.proofs.Ranges.{ShifterRanged, NoiseRanged, shifter-clock-kept}
-use Rattle.noise.proofs.Leaps.{shifter-closed, noise-still, noise-turned, noise-gives}
+use Rattle.noiseleap.proofs.Leaps.{shifter-closed, noise-still, noise-turned, noise-gives}
 use Rattle.lags.proofs.Turns.{Leaps, held-fine, turned-follows, held-gives}
 
 -- kept at clock `now` of a stretch that began with the noise c, with its timer's period

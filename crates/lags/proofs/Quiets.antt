@@ -7,23 +7,23 @@ use native.Mathlib.Omega.{arith}
 use borrow.Author.Tests.{eq-eqb}
 use Rattle.divider.specs.Divider.{forever}
 use Rattle.square.specs.Square.{squareAmount}
-use Rattle.square.specs.Leap.{squareStill}
-use Rattle.square.specs.Lag.{squareLag, squareBeatAt}
+use Rattle.squareleap.specs.Leap.{squareStill}
+use Rattle.squareleap.specs.Lag.{squareLag, squareBeatAt}
 use Rattle.square.specs.declared.Square.{Square}
-use Rattle.square.specs.declared.leap.Beat as square1
+use Rattle.squareleap.specs.declared.Beat as square1
 use Rattle.triangle.specs.Triangle.{runs}
-use Rattle.triangle.specs.Leap.{triangleGate, triangleStill}
-use Rattle.triangle.specs.Lag.{triangleLag, triangleBeatAt}
+use Rattle.triangleleap.specs.Leap.{triangleGate, triangleStill}
+use Rattle.triangleleap.specs.Lag.{triangleLag, triangleBeatAt}
 use Rattle.triangle.specs.declared.Triangle.{Triangle}
-use Rattle.triangle.specs.declared.leap.Beat as triangle1
+use Rattle.triangleleap.specs.declared.Beat as triangle1
 use Rattle.noise.specs.Noise.{noiseAmount}
-use Rattle.noise.specs.Leap.{noiseStill}
-use Rattle.noise.specs.Lag.{noiseLag, noiseShifterAt}
+use Rattle.noiseleap.specs.Leap.{noiseStill}
+use Rattle.noiseleap.specs.Lag.{noiseLag, noiseShifterAt}
 use Rattle.noise.specs.declared.Noise.{Noise}
 use Rattle.noise.specs.declared.Shifter.{Shifter}
-use Rattle.dmc.specs.Leap.{dmcStill}
-use Rattle.dmc.specs.Lag.{dmcLag, dmcAt}
-use Rattle.dmc.proofs.Leaps.{DmcIdle, idle-forever}
+use Rattle.dmcleap.specs.Leap.{dmcStill}
+use Rattle.dmcleap.specs.Lag.{dmcLag, dmcAt}
+use Rattle.dmcleap.proofs.Leaps.{DmcIdle, idle-forever}
 use Rattle.frame.specs.Leap.{frameBefore}
 use Rattle.frame.proofs.Leaps.{before-most}
 use Rattle.chip.specs.Table.{dmcPeriod}

@@ -12,14 +12,14 @@ use Rattle.reading.specs.Lag.{Follows}
 use Rattle.reading.proofs.Lags.{lag-start, lag-to, lag-wait}
 use Rattle.square.specs.Sequencer.{sequencerClock}
 use Rattle.square.specs.Square.{withSequencer, squareAmount, squareOutput}
-use Rattle.square.specs.Leap.{beatOf, withBeat, beatClock, dutyRow, beatGives, squareStill, beatAdvanced, beatTurned}
-use Rattle.square.specs.Lag.{squareLag, squareRenewed, squareBeatAt}
+use Rattle.squareleap.specs.Leap.{beatOf, withBeat, beatClock, dutyRow, beatGives, squareStill, beatAdvanced, beatTurned}
+use Rattle.squareleap.specs.Lag.{squareLag, squareRenewed, squareBeatAt}
 use Rattle.square.specs.declared.Sequencer.{Sequencer}
 use Rattle.square.specs.declared.Square.{Square}
-use Rattle.square.specs.declared.leap.Beat.{Beat}
-use Rattle.square.specs.declared.leap.SquareLag.{SquareLag}
+use Rattle.squareleap.specs.declared.Beat.{Beat}
+use Rattle.squareleap.specs.declared.SquareLag.{SquareLag}
 use Rattle.square.proofs.Ranges.{SquareRanged}
-use Rattle.square.proofs.Leaps.{BeatRanged, beat-clocked, beat-ranged, beat-closed, sequencer-beats, square-still, square-turned, square-gives-at}
+use Rattle.squareleap.proofs.Leaps.{BeatRanged, beat-clocked, beat-ranged, beat-closed, sequencer-beats, square-still, square-turned, square-gives-at}
 use Rattle.lags.proofs.Turns.{Leaps, held-fine, turned-follows, held-gives}
 
 -- kept at clock `now` of a stretch that began with the square q

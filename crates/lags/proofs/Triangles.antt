@@ -11,14 +11,14 @@ use Rattle.divider.specs.Divider.{forever}
 use Rattle.reading.specs.Lag.{Follows}
 use Rattle.reading.proofs.Lags.{lag-start, lag-to, lag-wait}
 use Rattle.triangle.specs.Triangle.{runs, triangleSequenced, withSequencer, triangleOutput}
-use Rattle.triangle.specs.Leap.{triangleGate, triangleBeatOf, triangleWithBeat, triangleBeatClock, triangleGives, triangleStill, triangleBeatAdvanced, triangleBeatTurned}
-use Rattle.triangle.specs.Lag.{triangleLag, triangleRenewed, triangleBeatAt}
+use Rattle.triangleleap.specs.Leap.{triangleGate, triangleBeatOf, triangleWithBeat, triangleBeatClock, triangleGives, triangleStill, triangleBeatAdvanced, triangleBeatTurned}
+use Rattle.triangleleap.specs.Lag.{triangleLag, triangleRenewed, triangleBeatAt}
 use Rattle.triangle.specs.declared.Sequencer.{Sequencer}
 use Rattle.triangle.specs.declared.Triangle.{Triangle}
-use Rattle.triangle.specs.declared.leap.Beat.{Beat}
-use Rattle.triangle.specs.declared.leap.TriangleLag.{TriangleLag}
+use Rattle.triangleleap.specs.declared.Beat.{Beat}
+use Rattle.triangleleap.specs.declared.TriangleLag.{TriangleLag}
 use Rattle.triangle.proofs.Ranges.{TriangleRanged}
-use Rattle.triangle.proofs.Leaps.{BeatRanged, beat-clocked, beat-ranged, triangle-beat-closed, triangle-beats, triangle-still, triangle-turned, triangle-gives-at}
+use Rattle.triangleleap.proofs.Leaps.{BeatRanged, beat-clocked, beat-ranged, triangle-beat-closed, triangle-beats, triangle-still, triangle-turned, triangle-gives-at}
 use Rattle.lags.proofs.Turns.{Leaps, held-fine, turned-follows, held-gives}
 
 -- kept at clock `now` of a stretch that began with the triangle q

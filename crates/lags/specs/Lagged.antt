@@ -5,21 +5,21 @@ use mathlib.Core.List.{List}
 use lib.Dec.{ltb}
 use Rattle.arith.specs.Pick.{pick}
 use Rattle.square.specs.Square.{squareAmount}
-use Rattle.square.specs.Leap.{beatOf, withBeat, dutyRow}
-use Rattle.square.specs.Lag.{squareLag, squareRenewed, squareBeatAt}
-use Rattle.triangle.specs.Leap.{triangleGate, triangleBeatOf, triangleWithBeat}
-use Rattle.triangle.specs.Lag.{triangleLag, triangleRenewed, triangleBeatAt}
+use Rattle.squareleap.specs.Leap.{beatOf, withBeat, dutyRow}
+use Rattle.squareleap.specs.Lag.{squareLag, squareRenewed, squareBeatAt}
+use Rattle.triangleleap.specs.Leap.{triangleGate, triangleBeatOf, triangleWithBeat}
+use Rattle.triangleleap.specs.Lag.{triangleLag, triangleRenewed, triangleBeatAt}
 use Rattle.noise.specs.Noise.{noiseAmount}
-use Rattle.noise.specs.Lag.{noiseLag, noiseRenewed, noiseShifterAt}
-use Rattle.dmc.specs.Lag.{dmcLag, dmcRenewed, dmcAt}
+use Rattle.noiseleap.specs.Lag.{noiseLag, noiseRenewed, noiseShifterAt}
+use Rattle.dmcleap.specs.Lag.{dmcLag, dmcRenewed, dmcAt}
 use Rattle.frame.specs.Leap.{framePassed}
 use Rattle.mixer.specs.Mixer.{mixed}
 use Rattle.chip.specs.Table.{noisePeriod, dmcPeriod}
 use Rattle.between.specs.Between.{stateWith}
-use Rattle.square.specs.declared.leap.SquareLag.{SquareLag}
-use Rattle.triangle.specs.declared.leap.TriangleLag.{TriangleLag}
-use Rattle.noise.specs.declared.lag.NoiseLag.{NoiseLag}
-use Rattle.dmc.specs.declared.lag.DmcLag.{DmcLag}
+use Rattle.squareleap.specs.declared.SquareLag.{SquareLag}
+use Rattle.triangleleap.specs.declared.TriangleLag.{TriangleLag}
+use Rattle.noiseleap.specs.declared.lag.NoiseLag.{NoiseLag}
+use Rattle.dmcleap.specs.declared.lag.DmcLag.{DmcLag}
 use Rattle.chip.specs.declared.State.{State}
 use Rattle.lags.specs.declared.Lags.{Lags}
 

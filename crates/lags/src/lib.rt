@@ -5,10 +5,10 @@ ghost use Prim.Native.Nat.{ℕ};
 ghost use Rattle.between.specs.Between.{stateWith};
 ghost use Rattle.lags.specs.Lagged.{sooner, lagsAt, lagsOf, renewed, stateAt};
 use chip::State;
-use dmc::lag::DmcLag;
-use noise::lag::NoiseLag;
-use square::leap::SquareLag;
-use triangle::leap::TriangleLag;
+use dmcleap::lag::DmcLag;
+use noiseleap::lag::NoiseLag;
+use squareleap::SquareLag;
+use triangleleap::TriangleLag;
 
 // The channels as a stretch keeps them at clock `now` of it, the clock of the next event, and the level up to then.
 pub struct Lags {
@@ -52,16 +52,16 @@ fn lags_at(a: SquareLag, b: SquareLag, t: TriangleLag, n: NoiseLag, d: DmcLag, a
 pub fn lags_of(s: State) -> Lags
     ensures { λ r. ⌜ r ≡ lagsOf s ⌝ }
 {
-    let row1 = square::leap::row_of(s.square1.duty);
+    let row1 = squareleap::row_of(s.square1.duty);
     let amount1 = s.square1.amount(false);
-    let beat1 = square::leap::beat_of(s.square1.sequencer);
+    let beat1 = squareleap::beat_of(s.square1.sequencer);
     let a = SquareLag::new(row1, amount1 as u32, beat1, 0);
-    let row2 = square::leap::row_of(s.square2.duty);
+    let row2 = squareleap::row_of(s.square2.duty);
     let amount2 = s.square2.amount(true);
-    let beat2 = square::leap::beat_of(s.square2.sequencer);
+    let beat2 = squareleap::beat_of(s.square2.sequencer);
     let b = SquareLag::new(row2, amount2 as u32, beat2, 0);
-    let on = s.triangle.gate();
-    let beat3 = triangle::leap::beat_of(s.triangle.sequencer);
+    let on = triangleleap::gate(s.triangle);
+    let beat3 = triangleleap::beat_of(s.triangle.sequencer);
     let t = TriangleLag::new(on, beat3, 0);
     let noise_n = chip::noise_period(s.noise.index);
     let amount = s.noise.amount();
@@ -119,9 +119,9 @@ pub fn state_at(s: State, l: Lags, k: u32) -> State
     let beat1 = l.square1.beat_at(k);
     let beat2 = l.square2.beat_at(k);
     let beat3 = l.triangle.beat_at(k);
-    let q1 = square::leap::with_beat(s.square1.sequencer, beat1);
-    let q2 = square::leap::with_beat(s.square2.sequencer, beat2);
-    let tq = triangle::leap::with_beat(s.triangle.sequencer, beat3);
+    let q1 = squareleap::with_beat(s.square1.sequencer, beat1);
+    let q2 = squareleap::with_beat(s.square2.sequencer, beat2);
+    let tq = triangleleap::with_beat(s.triangle.sequencer, beat3);
     let h = l.noise.shifter_at(k);
     let d = l.dmc.dmc_at(k);
     let f = s.frame.passed(k);

@@ -1,6 +1,3 @@
-pub mod Written
-pub mod Passing
-pub mod Anywhere
 pub mod Counts
 pub mod Hopping
 pub mod Listed

@@ -1,21 +1,18 @@
 -- What is answered about items and bodies is within document 01's limits. Assumes nothing.
-use mathlib.Core.Path.{_≡_, refl, ap, sym, _∙_}
-use mathlib.Core.List.{List, [], _∷_, _++_}
-use mathlib.Core.Bool.{Bool, true, false}
-use Prim.Native.Nat.{ℕ, zero, suc, _+_, _-_, _≤_, _<_}
+use mathlib.Core.Path.{_≡_, refl, ap}
+use mathlib.Core.List.{List, [], _∷_}
+use Prim.Native.Nat.{ℕ, zero, suc, _-_, _≤_, _<_}
 use native.Mathlib.Omega.{arith}
-use borrow.Author.Tests.{eqb-true, eq-eqb, ltb-true}
+use borrow.Author.Tests.{eqb-true, ltb-true}
 use lib.ListN.{length, getD, take, drop, length-take, length-drop}
-use lib.Seq.{take-length}
 use lib.Dec.{eqb, ltb}
-use Rattle.arith.specs.Pick.{pick}
 use Rattle.arith.proofs.Picks.{pick-both, pick-each}
 use Rattle.line.specs.declared.Act.{Act}
 use Rattle.line.specs.declared.Act.the-variants.{Wait}
 use Rattle.line.specs.declared.Line.the-variants.{Loop}
 use Rattle.line.specs.Printed.{Allowed}
 use Rattle.judge.specs.Lines.{linesOf, nextLine}
-use Rattle.judge.specs.Tree.{Tree, end, act, loop, acts, times, actClocks, Within}
+use Rattle.judge.specs.Tree.{acts, actClocks}
 use Rattle.judge.specs.Whole.{treeOf, checkOf}
 use Rattle.judge.proofs.Places.{had, next-le}
 use Rattle.judge.proofs.Limits.{check-limits}
@@ -24,29 +21,9 @@ use Rattle.log.specs.declared.Found.the-variants.{Is, Refused}
 use Rattle.log.specs.declared.Answer.{Answer}
 use Rattle.log.specs.Items.{nth, itemOf}
 use Rattle.log.specs.Bodies.{beginsLoop, bodyCheckOf, doneFrom, between, bodyOf}
-use Rattle.log.proofs.Passing.{stands}
+use Rattle.passing.proofs.Acts.{Every, every-acts}
+use Rattle.passing.proofs.Passing.{stands}
 use Rattle.log.proofs.Parts.{here}
-
--- every act of a list is within the limits
-abbrev pub Every : List Act → Type 0
-Every [] = Unit {0}
-Every (a ∷ l) = Allowed a × Every l
-
-every-append : (a b : List Act) → Every a → Every b → Every (a ++ b)
-every-append [] b h g = g
-every-append (x ∷ a) b h g = (h .0, every-append a b (h .1) g)
-
-every-times : (n : ℕ) (l : List Act) → Every l → Every (times n l)
-unfolding times
-every-times zero l h = tt
-every-times (suc n) l h = every-append l (times n l) h (every-times n l h)
-
-pub every-acts : (t : Tree) (d : ℕ) → Within t d → Every (acts t)
-unfolding acts
-every-acts end d w = tt
-every-acts (act a t) d w = (w .0, every-acts t d (w .1))
-every-acts (loop n b t) d w =
-    every-append (times n (acts b)) (acts t) (every-times n (acts b) (every-acts b (d + 1) (w .2))) (every-acts t d (w .3))
 
 every-at : (l : List Act) (k : ℕ) → k < length l → Every l → Allowed (getD l k (Wait 0))
 every-at [] k h g = absurd (omega arith)

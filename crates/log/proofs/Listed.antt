@@ -1,22 +1,20 @@
 -- Item k of a log is the list's. Assumes nothing.
-use mathlib.Core.Path.{_≡_, refl, ap, sym, _∙_}
-use mathlib.Core.List.{List, [], _∷_, _++_}
-use Prim.Native.Nat.{ℕ, zero, suc, _+_, _*_, _≤_, _<_}
+use mathlib.Core.Path.{_≡_, ap}
+use mathlib.Core.List.{List}
+use Prim.Native.Nat.{ℕ, _≤_, _<_}
 use native.Mathlib.Omega.{arith}
-use native.Mathlib.Nat.{zero-mul, suc-mul, add-comm}
 use borrow.Author.Tests.{eq-eqb, ne-eqb, lt-ltb, le-ltb}
 use lib.ListN.{length, getD}
-use Rattle.line.specs.declared.Act.{Act}
 use Rattle.line.specs.declared.Act.the-variants.{Wait}
 use Rattle.judge.specs.declared.Checked.{Checked}
 use Rattle.judge.specs.Lines.{startOf}
-use Rattle.judge.specs.Tree.{Tree, end, act, loop, acts, times, actClocks, clocks, turns, logText, Within}
+use Rattle.judge.specs.Tree.{Tree, acts, clocks, turns, logText, Within}
 use Rattle.judge.specs.Whole.{treeOf, checkOf}
 use Rattle.judge.proofs.Checks.{acts-le}
 use Rattle.log.specs.declared.Found.the-variants.{Is, Refused}
 use Rattle.log.specs.Items.{nth, itemOf}
 use Rattle.log.specs.Walk.{actsAt}
-use Rattle.log.proofs.Passing.{clear, passes, passing, printed}
+use Rattle.passing.proofs.Passing.{clear, passes, passing, printed}
 use Rattle.log.proofs.Hopping.{acts-of}
 
 module _ (log : List ℕ) (k : ℕ) where
@@ -51,26 +49,3 @@ module _ (log : List ℕ) (k : ℕ) where
 pub item-text : (t : Tree) (k : ℕ) → Within t 0 → clocks t ≤ 2000000000 → turns t ≤ 1000000 → length (logText t (clocks t)) ≤ 60000 → itemOf (logText t (clocks t)) k ≡ nth (acts t) k
 unfolding itemOf
 item-text t k w c n s = let p = printed t w c n s in rw (p .0, p .1)
-
--- the clocks in all are those of the list
-unfoldable pub clocksIn : List Act → ℕ
-clocksIn [] = 0
-clocksIn (a ∷ list) = actClocks a + clocksIn list
-
-clocks-append : (xs ys : List Act) → clocksIn (xs ++ ys) ≡ clocksIn xs + clocksIn ys
-unfolding clocksIn
-clocks-append [] ys = omega arith
-clocks-append (a ∷ xs) ys = let h = clocks-append xs ys in omega arith
-
-clocks-times : (n : ℕ) (l : List Act) → clocksIn (times n l) ≡ n * clocksIn l
-unfolding times clocksIn
-clocks-times zero l = sym (zero-mul (clocksIn l))
-clocks-times (suc n) l = clocks-append l (times n l) ∙ (ap (λ (x : ℕ). clocksIn l + x) (clocks-times n l) ∙ (add-comm (clocksIn l) (n * clocksIn l) ∙ sym (suc-mul n (clocksIn l))))
-
-pub clocks-listed : (t : Tree) → clocksIn (acts t) ≡ clocks t
-unfolding clocksIn acts clocks
-clocks-listed end = refl
-clocks-listed (act a t) = ap (λ (x : ℕ). actClocks a + x) (clocks-listed t)
-clocks-listed (loop n b t) =
-    clocks-append (times n (acts b)) (acts t)
-    ∙ (ap (λ (x : ℕ). x + clocksIn (acts t)) (clocks-times n (acts b) ∙ ap (λ (x : ℕ). n * x) (clocks-listed b)) ∙ ap (λ (x : ℕ). n * clocks b + x) (clocks-listed t))

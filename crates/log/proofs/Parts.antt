@@ -30,7 +30,7 @@ use Rattle.judge.proofs.Descent.{got-behind}
 use Rattle.judge.proofs.Derived.{Ending, closes, stops, Reads, an-act, a-loop, a-done, a-stop, block-of}
 use Rattle.judge.proofs.Judged.{linesFrom, lines-at}
 use Rattle.log.specs.Bodies.{beginsLine, isLoop, readsLoop, beginsLoop, bodyCheckOf, isDone, inner, doneFrom, between, bodyOf}
-use Rattle.log.proofs.Passing.{clear, Passing, passing, had-split, text-of, within-of}
+use Rattle.passing.proofs.Passing.{clear, Passing, passing, had-split, text-of, within-of}
 
 -- no line begins inside a line
 

@@ -45,7 +45,7 @@ fn begins_loop(log: &[u8], at: usize) -> bool
     ensures { λ r. ⌜ r ≡ beginsLoop (now (log .entry)) at ⌝ }
 {
     let line = begins_line(log, at);
-    let loops = reads_loop(judge::read(log, at));
+    let loops = reads_loop(lines::read(log, at));
     arith::both_of(line, loops)
 }
 
@@ -53,7 +53,7 @@ fn begins_loop(log: &[u8], at: usize) -> bool
 pub fn body_check(log: &[u8], offset: usize) -> Answer
     ensures { λ r. ⌜ r ≡ bodyCheckOf (now (log .entry)) offset ⌝ }
 {
-    let c = judge::check(log);
+    let c = checking::check(log);
     if c.number != 0 {
         return Answer {
             number: c.number,
@@ -80,11 +80,11 @@ pub fn body<'a>(log: &'a [u8], offset: usize) -> &'a [u8]
     if a.number != 0 {
         return &log[0..0];
     }
-    let r = judge::read(log, offset);
+    let r = lines::read(log, offset);
     let Reading::Item(_, from) = r else {
         return &log[0..0];
     };
-    let b = judge::read_block(log, from, 1);
+    let b = blocks::read_block(log, from, 1);
     let Block::Closed(to, _, _) = b else {
         return &log[0..0];
     };

@@ -68,14 +68,14 @@ fn hop(log: &[u8], at: usize, depth: u64, r: u64) -> Hop
     requires { ⌜ (r ≤ 1000000) × (r < length (actsAt (now log) at depth)) ⌝ }
     ensures { λ h. ⌜ Hops (now (log .entry)) at depth r h ⌝ }
 {
-    let a = judge::read(log, at);
+    let a = lines::read(log, at);
     let Reading::Item(l, next) = a else {
         return Hop::Lost;
     };
     match l {
         Line::One(x) => stay(x, next, depth, r),
         Line::Loop(n) => inside(
-            judge::read_block(log, next, depth + 1),
+            blocks::read_block(log, next, depth + 1),
             wide(n),
             next,
             depth,
@@ -118,12 +118,12 @@ fn find(log: &[u8], at: usize, k: u64) -> Act
 pub fn item(log: &[u8], k: u64) -> Found
     ensures { λ r. ⌜ r ≡ itemOf (now (log .entry)) k ⌝ }
 {
-    let c = judge::check(log);
+    let c = checking::check(log);
     if c.number != 0 {
         return Found::Refused(c.number, c.place);
     }
     if c.items <= k {
         return Found::Refused(11, 0);
     }
-    Found::Is(find(log, judge::start(log), k))
+    Found::Is(find(log, lines::start(log), k))
 }

@@ -167,7 +167,7 @@ fn parts(log: &[u8], n: u64) {
 
 // A log that passes is through in 2,000,002 steps; one that does not may never be.
 fn judged(log: &[u8]) {
-    let c = judge::checking::check(log);
+    let c = checking::check(log);
     place(b"check=", c.number, c.place);
     text(b" clocks=");
     number(c.clocks);

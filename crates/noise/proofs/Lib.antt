@@ -1,5 +1,2 @@
-pub mod Aheads
-pub mod Jumps
-pub mod Leaps
 pub mod Ranges
 pub mod Shifts

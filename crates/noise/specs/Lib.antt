@@ -1,4 +1,2 @@
-pub mod Lag
-pub mod Leap
 pub mod Noise
 pub mod Shifter

@@ -7,9 +7,6 @@ ghost use Rattle.noise.specs.Noise.{noiseTimed, noiseEnveloped, noiseLen
 use units::envelope::Envelope;
 use units::length::Length;
 
-pub mod lag;
-pub mod leap;
-
 // What the timer moves: its count and the shift register.
 pub struct Shifter {
     pub timer: u16,
@@ -24,7 +21,8 @@ pub struct Noise {
     pub length: Length,
 }
 
-fn tap(mode: bool) -> u16
+// The bit that goes into the feedback beside bit 0.
+pub fn tap(mode: bool) -> u16
     ensures { λ r. ⌜ r ≡ tapOf mode ⌝ }
 {
     if mode { 6 } else { 1 }

@@ -48,7 +48,7 @@ pub fn begin(log: &[u8], memory: &[u8]) -> Begun
     if memory.len() != 32768 {
         return opening(1, 0);
     }
-    let k = judge::checking::check(log);
+    let k = checking::check(log);
     opening(k.number, k.place)
 }
 

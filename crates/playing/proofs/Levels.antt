@@ -10,7 +10,7 @@ use lib.ListN.{length}
 use borrow.Author.Tests.{ne-eqb, eqb-true}
 use Rattle.arith.specs.Pick.{pick}
 use Rattle.reading.specs.Reading.{Mark, Progress, start, same, stopped, unrecorded, recorded, worked, reading, plain}
-use Rattle.plain.specs.Run.{chipMachine}
+use Rattle.ran.specs.Run.{chipMachine}
 use Rattle.chip.specs.Clock.{chipClock}
 use Rattle.chip.specs.Level.{stateLevel}
 use Rattle.chip.specs.declared.State.{State}

@@ -12,9 +12,8 @@ use Rattle.line.specs.declared.Act.{Act}
 use Rattle.line.specs.declared.Act.the-variants as line
 use Rattle.judge.specs.Tree.{acts, actClocks}
 use Rattle.judge.specs.Whole.{treeOf, checkOf}
-use Rattle.log.proofs.Limits.{Every, every-acts}
-use Rattle.log.proofs.Passing.{clear, stands}
-use Rattle.log.proofs.Listed.{clocksIn, clocks-listed}
+use Rattle.passing.proofs.Acts.{Every, every-acts, clocksIn, clocks-listed}
+use Rattle.passing.proofs.Passing.{clear, stands}
 use Rattle.emit.specs.Machine.{over, on, says, Gives, ends, goes, gives}
 use Rattle.cursor.specs.declared.Cursor.{Cursor}
 use Rattle.cursor.specs.Stepping.{beginning, stepOf}

@@ -11,7 +11,7 @@ use borrow.Author.Tests.{le-leb, ne-eqb}
 use Rattle.emit.specs.Machine.{on, says}
 use Rattle.reading.specs.Reading.{Mark, Progress, raised, start, plain}
 use Rattle.reading.proofs.Readings.{later, reading-keeps}
-use Rattle.plain.specs.Run.{chipMachine}
+use Rattle.ran.specs.Run.{chipMachine}
 use Rattle.chip.specs.Range.{inRange, Bytes}
 use Rattle.chip.specs.declared.State.{State}
 use Rattle.chip.proofs.Ranges.{StateRanged, state-in, state-back, clock-kept}

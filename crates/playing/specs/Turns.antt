@@ -12,7 +12,7 @@ use Rattle.emit.specs.Machine.{Said, over, on, says, refused, Turn}
 use Rattle.cursor.specs.declared.Cursor.{Cursor}
 use Rattle.cursor.specs.Stepping.{beginning, stepOf}
 use Rattle.reading.specs.Reading.{Mark, Progress, plain}
-use Rattle.plain.specs.Run.{chipMachine}
+use Rattle.ran.specs.Run.{chipMachine}
 use Rattle.chip.specs.Level.{stateLevel}
 use Rattle.chip.specs.Range.{powerOn}
 use Rattle.chip.specs.Status.{statusByte, statusRead}

@@ -1,25 +1,25 @@
-// What a line asks for, worked with the library. An answer is the number that the library gives C: number + 256 x value, of a run
-// number + 2^8 x clocks done + 2^32 x records.
+// What a line asks for, worked with the functions that `capi` hands out under C names. An answer is the number that C gets: number +
+// 256 x value, of a run number + 2^8 x clocks done + 2^32 x records.
 use super::lent;
-use super::lines::byte;
-use super::lines::number;
-use super::lines::short;
-use super::lines::value;
+use super::stored::byte;
+use super::stored::number;
+use super::stored::short;
+use super::stored::value;
 use super::written::hold;
 
 // The level; as a float it must be the level over 32,768.
 fn level(state: &[u8]) -> u64 {
-    let a = capi::perch_level(state);
+    let a = bytechip::level(state);
     let whole = (a / 256 % 65536) as u16;
-    hold(capi::perch_level_f32(state) == (whole as f32) / 32768.0);
+    hold(bytechip::level_f32(state) == (whole as f32) / 32768.0);
     a
 }
 
 fn access(line: &[u8], state: &mut [u8]) -> u64 {
     match byte(line, 0) {
-        b'W' => capi::perch_write(state, short(line, 2), value(line, 7)),
-        b'R' => capi::perch_read_status(state),
-        b'I' => capi::perch_line(state),
+        b'W' => bytechip::write(state, short(line, 2), value(line, 7)),
+        b'R' => bytechip::read_status(state),
+        b'I' => bytechip::line(state),
         _ => level(state),
     }
 }
@@ -33,8 +33,8 @@ fn both(
     twin: &mut [u8],
     other: &mut [u32],
 ) -> u64 {
-    let a = capi::runs::perch_run(state, memory, count, words);
-    let b = capi::runs::perch_run_plain(twin, memory, count, other);
+    let a = byterun::run(state, memory, count, words);
+    let b = byterun::run_plain(twin, memory, count, other);
     hold(a == b);
     hold(text::exact(state, twin));
     hold(lent::alike(words, other));
@@ -70,7 +70,7 @@ pub(crate) fn work(
             let from = lent::least(used, words.len());
             run(line, memory, state, &mut words[from..])
         }
-        b'C' => capi::perch_clock(state, lent::front(line, memory)),
+        b'C' => bytechip::clock(state, lent::front(line, memory)),
         b'E' => lent::sum(words) as u64,
         _ => access(line, state),
     }

@@ -2,9 +2,9 @@
 ghost use mathlib.Core.Path.{_≡_};
 ghost use Prim.Native.Nat.{_≤_};
 ghost use lib.ListN.{length};
-use super::lines::number;
-use super::lines::short;
-use super::lines::value;
+use super::stored::number;
+use super::stored::short;
+use super::stored::value;
 
 // x for the next byte of sample memory.
 fn moved(x: u16, times: u16, plus: u16) -> u16 {

@@ -3,7 +3,7 @@
 // the first line that isn't of the form.
 mod acts;
 mod lent;
-mod lines;
+mod stored;
 mod written;
 
 // What comes of one line.
@@ -30,9 +30,9 @@ fn one(
     words: &mut [u32],
     used: usize,
 ) -> Step {
-    let mut line = lines::empty();
-    let n = lines::read(file, at, &mut line);
-    let letter = lines::byte(&line, 0);
+    let mut line = stored::empty();
+    let n = stored::read(file, at, &mut line);
+    let letter = stored::byte(&line, 0);
     if n == 0 || letter == b'B' {
         return Step {
             at: 0,
@@ -70,8 +70,8 @@ fn rest(file: i32, at: u32, memory: &[u8], state: &mut [u8], words: &mut [u32]) 
 
 // The same, with what the case's first line lends: no more than there is.
 fn begun(file: i32, at: u32, line: &[u8]) -> u32 {
-    let room = lent::least(lines::number(line, 17, 3) as usize, 1024);
-    let length = lent::least(lines::number(line, 24, 1) as usize, 92);
+    let room = lent::least(stored::number(line, 17, 3) as usize, 1024);
+    let length = lent::least(stored::number(line, 24, 1) as usize, 92);
     let memory = lent::memory(line);
     let mut state = lent::state(line);
     let mut words = lent::words();
@@ -86,9 +86,9 @@ fn begun(file: i32, at: u32, line: &[u8]) -> u32 {
 
 // The case at a place of the file, and the place behind it; 0 where there is none.
 fn case(file: i32, at: u32) -> u32 {
-    let mut line = lines::empty();
-    let n = lines::read(file, at, &mut line);
-    if n == 0 || lines::byte(&line, 0) != b'B' {
+    let mut line = stored::empty();
+    let n = stored::read(file, at, &mut line);
+    if n == 0 || stored::byte(&line, 0) != b'B' {
         return 0;
     }
     written::write(&line, n);

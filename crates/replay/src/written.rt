@@ -1,7 +1,7 @@
 // Answers put into a line in place of its zeros, and the line written.
 ghost use Prim.Native.Nat.{_≤_};
-use super::lines::answers;
-use super::lines::byte;
+use super::stored::answers;
+use super::stored::byte;
 use libc::STDOUT_FILENO;
 
 // The last n bytes of a number at a place, and the number above them.

@@ -18,10 +18,10 @@ use Rattle.chip.proofs.Ranges.{StateRanged, state-back, clock-kept}
 use Rattle.lags.specs.Lagged.{lagsAt, lagsOf, renewed, stateAt}
 use Rattle.lags.specs.declared.Lags.{Lags}
 use Rattle.lags.proofs.Laggings.{Lagging, lagging-start, next-past, lagging-renewed, lagging-level, lagging-state, event-level}
-use Rattle.plain.specs.Run.{roomOf, stored}
-use Rattle.plain.specs.Held.{Held}
-use Rattle.plain.proofs.Words.{stored-in}
-use Rattle.plain.proofs.Runs.{held-at, held-length, held-leap, held-same, held-mark}
+use Rattle.ran.specs.Run.{roomOf, stored}
+use Rattle.ran.specs.Held.{Held}
+use Rattle.ran.proofs.Words.{stored-in}
+use Rattle.ran.proofs.Runs.{held-at, held-length, held-leap, held-same, held-mark}
 use Rattle.run.specs.Segment.{Segmented}
 use Rattle.run.specs.declared.Segment.{Segment}
 

@@ -7,7 +7,7 @@ use lib.ListN.{length}
 use Rattle.chip.specs.Clock.{chipClock}
 use Rattle.chip.specs.Level.{stateLevel}
 use Rattle.chip.specs.Range.{inRange}
-use Rattle.plain.specs.Held.{Held}
+use Rattle.ran.specs.Held.{Held}
 use Rattle.chip.specs.declared.State.{State}
 use Rattle.run.specs.declared.Segment.{Segment}
 

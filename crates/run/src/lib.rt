@@ -6,10 +6,10 @@ ghost use Prim.Native.Nat.{ℕ, _+_, _/_, _≤_};
 ghost use lib.ListN.{length};
 ghost use Rattle.frame.specs.Leap.{frameBefore};
 ghost use Rattle.chip.specs.Range.{inRange};
-ghost use Rattle.plain.specs.Run.{answer, answered, lent, readBy, over, flat};
+ghost use Rattle.ran.specs.Run.{answer, answered, lent, readBy, over, flat};
 ghost use Rattle.run.specs.Segment.{Segmented};
 use chip::State;
-use plain::Ran;
+use ran::Ran;
 
 // What working a stretch came to; `full` says that the next clock needs a record and there is no room.
 pub struct Segment {
@@ -55,7 +55,7 @@ fn segment_on(
                     full: true,
                 };
             }
-            plain::put(words, at, base + e, r.level as u32);
+            ran::put(words, at, base + e, r.level as u32);
             n += 1;
             l = r;
         }
@@ -117,7 +117,7 @@ fn run_on(s: State, memory: &[u8], count: u32, words: &mut [u32]) -> Ran
                     records: m,
                 };
             }
-            plain::put(words, place, at + 1, after as u32);
+            ran::put(words, place, at + 1, after as u32);
             state = next;
             done = at + 1;
             n = m + 1;
@@ -136,9 +136,9 @@ pub fn run(s: State, memory: &[u8], count: u64, words: &mut [u32]) -> Ran
     ensures { λ r. ⌜ r ≡ answer (now (memory .entry)) s count (now (words .entry)) ⌝ }
     ensures { λ r. ⌜ now (words .exit) ≡ lent (now (memory .entry)) s count (now (words .entry)) ⌝ }
 {
-    let number = plain::number_of(s, memory, count);
+    let number = ran::number_of(s, memory, count);
     if number != 0 {
-        return plain::refuse(number, s);
+        return ran::refuse(number, s);
     }
     run_on(s, memory, count as u32, words)
 }

@@ -1,6 +1,3 @@
-pub mod Lag
-pub mod Leap
-pub mod Packed
 pub mod Range
 pub mod Sequencer
 pub mod Square

@@ -10,8 +10,6 @@ use units::length::Length;
 use units::sweep::Sweep;
 use units::timer::Timer;
 
-pub mod leap;
-
 // What the timer moves. `half` is document 01's half flag: position advances at every other output.
 pub struct Sequencer {
     pub timer: Timer,

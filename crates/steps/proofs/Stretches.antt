@@ -11,9 +11,9 @@ use lib.Seq.{sets, length-take-le}
 use borrow.Author.Tests.{ne-eqb, eqb-true, lt-leb, leb-true, leb-false, ltb-true, ltb-false}
 use Rattle.arith.specs.Pick.{pick}
 use Rattle.reading.specs.Reading.{Mark, Progress, start, plain}
-use Rattle.plain.specs.declared.Ran.{Ran}
-use Rattle.plain.specs.Run.{chipMachine, roomOf, flat, over, number, readBy, refusal, answered, answer, lent}
-use Rattle.plain.proofs.Words.{length-flat}
+use Rattle.ran.specs.declared.Ran.{Ran}
+use Rattle.ran.specs.Run.{chipMachine, roomOf, flat, over, number, readBy, refusal, answered, answer, lent}
+use Rattle.ran.proofs.Words.{length-flat}
 use Rattle.chip.specs.declared.State.{State}
 use Rattle.chip.proofs.Ranges.{level-most}
 use Rattle.notes.specs.declared.Note.{Note}

@@ -12,8 +12,8 @@ use borrow.Author.Tests.{eq-eqb, eqb-true, eqb-false, leb-true, leb-false}
 use Rattle.arith.specs.Pick.{pick}
 use Rattle.emit.specs.Machine.{Said, over, on, says, refused}
 use Rattle.reading.specs.Reading.{Progress, plain}
-use Rattle.plain.specs.Run.{chipMachine, number}
-use Rattle.plain.proofs.Answers.{number-none}
+use Rattle.ran.specs.Run.{chipMachine, number}
+use Rattle.ran.proofs.Answers.{number-none}
 use Rattle.chip.specs.Range.{inRange, Bytes}
 use Rattle.chip.specs.declared.State.{State}
 use Rattle.notes.specs.declared.Note.{Note}

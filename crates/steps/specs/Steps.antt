@@ -6,7 +6,7 @@ use lib.Dec.{eqb, leb, ltb}
 use lib.Seq.{sets}
 use Rattle.arith.specs.Pick.{pick}
 use Rattle.reading.specs.Reading.{Progress, start, plain}
-use Rattle.plain.specs.Run.{chipMachine, number}
+use Rattle.ran.specs.Run.{chipMachine, number}
 use Rattle.chip.specs.declared.State.{State}
 use Rattle.notes.specs.Notes.{noteText, notesText}
 use Rattle.notes.specs.Lines.{linesIn, linesEnd}

@@ -1,4 +1,2 @@
-pub mod Lag
-pub mod Leap
 pub mod Triangle
 pub mod Write

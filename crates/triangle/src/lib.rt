@@ -7,8 +7,6 @@ use units::length::Length;
 use units::linear::Linear;
 use units::timer::Timer;
 
-pub mod leap;
-
 // What the timer moves.
 pub struct Sequencer {
     pub timer: Timer,

@@ -1,7 +1,7 @@
 use mathlib.Core.Path.{sym, _∙_}
 use native.Mathlib.Omega.{arith}
 use borrow.Author.Needs.{needs}
-use Rattle.plain.proofs.Answers.{number-fine, refused, worked-out}
+use Rattle.ran.proofs.Answers.{number-fine, refused, worked-out}
 use Rattle.plain.proofs.run_plain.Statement.{statement}
 use Rattle.plain.proofs.run_plain.Tie as tie
 

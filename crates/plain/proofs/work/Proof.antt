@@ -3,9 +3,9 @@ use mathlib.Core.Path.{_≡_, refl, sym, ap, _∙_}
 use native.Mathlib.Omega.{arith}
 use borrow.Author.Needs.{needs}
 use Rattle.chip.specs.Level.{stateLevel}
-use Rattle.plain.specs.Run.{roomOf}
-use Rattle.plain.specs.Held.{Held}
-use Rattle.plain.proofs.Runs.{held-at, held-start, held-length, held-few, held-same, held-mark, held-end, held-early}
+use Rattle.ran.specs.Run.{roomOf}
+use Rattle.ran.specs.Held.{Held}
+use Rattle.ran.proofs.Runs.{held-at, held-start, held-length, held-few, held-same, held-mark, held-end, held-early}
 use Rattle.plain.proofs.work.Statement.{statement}
 use Rattle.plain.proofs.work.Tie as tie
 

@@ -5,9 +5,9 @@ use borrow.Author.Needs.{needs}
 use Rattle.chip.specs.Level.{stateLevel}
 use Rattle.chip.specs.Range.{Bytes}
 use Rattle.chip.proofs.Ranges.{state-in, state-back}
-use Rattle.plain.specs.Run.{roomOf}
-use Rattle.plain.specs.Held.{Held}
-use Rattle.plain.proofs.Runs.{held-start, held-length, held-few, held-ranged, held-same, held-mark, held-end, held-early}
+use Rattle.ran.specs.Run.{roomOf}
+use Rattle.ran.specs.Held.{Held}
+use Rattle.ran.proofs.Runs.{held-start, held-length, held-few, held-ranged, held-same, held-mark, held-end, held-early}
 use Rattle.run.proofs.run_on.Statement.{statement}
 use Rattle.run.proofs.run_on.Tie as tie
 

@@ -5,7 +5,7 @@ use Rattle.chip.specs.Range.{Bytes}
 use Rattle.chip.proofs.Ranges.{state-in}
 use Rattle.lags.specs.Lagged.{renewed, lagsAt}
 use Rattle.lags.proofs.Laggings.{next-past}
-use Rattle.plain.specs.Run.{roomOf}
+use Rattle.ran.specs.Run.{roomOf}
 use Rattle.run.proofs.Events.{Within, within-start, within-same, within-mark, within-full, within-end}
 use Rattle.run.proofs.segment_on.Statement.{statement}
 use Rattle.run.proofs.segment_on.Tie as tie

@@ -1,5 +1,0 @@
-pub mod Answers
-pub mod Joined
-pub mod Packed
-pub mod Players
-pub mod Stored

@@ -1,0 +1,3 @@
+pub mod Aheads
+pub mod Jumps
+pub mod Leaps

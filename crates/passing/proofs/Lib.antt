@@ -1,0 +1,4 @@
+pub mod Acts
+pub mod Anywhere
+pub mod Passing
+pub mod Written

@@ -1,4 +1,0 @@
-pub mod Answers
-pub mod Lists
-pub mod Runs
-pub mod Words

@@ -1,0 +1,3 @@
+pub mod Lag
+pub mod Leap
+pub mod Packed

@@ -1,0 +1,10 @@
+use Rattle.triangleleap.specs.Leap.{triangleBeatTurned}
+use Rattle.triangleleap.proofs.Beat.turn.Statement.{statement}
+use Rattle.triangleleap.proofs.Beat.turn.Tie as tie
+
+returns : tie.Need-returns
+unfolding triangleBeatTurned
+returns c = simp (c .position-on .ensures)
+
+pub turn-spec : {M : Type 1} → statement M
+turn-spec = tie.close (tie.spec (λ c κs. tt) returns)
