@@ -22,7 +22,7 @@ pub record Piece (log memory : List ℕ) (p : Player) (before after : List ℕ) 
   pub fits : r .length ≤ length before
   pub piece : take (r .length) after ≡ notesText notes
   pub rest : drop (r .length) after ≡ drop (r .length) before
-  -- the player went on by just these lines, and is over exactly where it says so
+  -- the player went on by just these lines, and is over where it says so
   pub went : Goes (turnOf log memory) p notes turns (r .player)
   pub over : r .over ≡ true → turnOf log memory (r .player) .said ≡ over
   -- a state in range stays in range
