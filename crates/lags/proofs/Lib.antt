@@ -5,3 +5,4 @@ pub mod Quiets
 pub mod Squares
 pub mod Triangles
 pub mod Turns
+pub mod Waits

@@ -56,6 +56,16 @@ renewed memory l e =
     lagsAt (squareRenewed (l .square1) e) (squareRenewed (l .square2) e) (triangleRenewed (l .triangle) e) (noiseRenewed (l .noise) e)
     (dmcRenewed memory (l .dmc) e) e
 
+-- Helper: the same event with the DMC left as it is, which is right where it isn't due
+unfoldable pub soundsRenewed : Lags → ℕ → Lags
+soundsRenewed l e =
+    lagsAt (squareRenewed (l .square1) e) (squareRenewed (l .square2) e) (triangleRenewed (l .triangle) e) (noiseRenewed (l .noise) e) (l .dmc) e
+
+-- Helper: the same event with noise and DMC left as they are
+unfoldable pub voicesRenewed : Lags → ℕ → Lags
+voicesRenewed l e =
+    lagsAt (squareRenewed (l .square1) e) (squareRenewed (l .square2) e) (triangleRenewed (l .triangle) e) (l .noise) (l .dmc) e
+
 -- the whole state at clock k of a stretch that began in s
 unfoldable pub stateAt : State → Lags → ℕ → State
 stateAt s l k =

@@ -3,7 +3,7 @@ ghost use mathlib.Core.Path.{_≡_};
 ghost use mathlib.Core.List.{List};
 ghost use Prim.Native.Nat.{ℕ};
 ghost use Rattle.between.specs.Between.{stateWith};
-ghost use Rattle.lags.specs.Lagged.{sooner, lagsAt, lagsOf, renewed, stateAt};
+ghost use Rattle.lags.specs.Lagged.{sooner, lagsAt, lagsOf, renewed, soundsRenewed, voicesRenewed, stateAt};
 use chip::State;
 use dmcleap::lag::DmcLag;
 use noiseleap::lag::NoiseLag;
@@ -80,6 +80,30 @@ pub fn renew(l: Lags, memory: &[u8], e: u32) -> Lags
     let t = l.triangle.renewed(e);
     let n = l.noise.renewed(e);
     let d = l.dmc.renewed(memory, e);
+    lags_at(a, b, t, n, d, e)
+}
+
+// The same with the DMC left as it is, for an event at which it isn't due.
+pub fn renew_sounds(l: Lags, e: u32) -> Lags
+    ensures { λ r. ⌜ r ≡ soundsRenewed l e ⌝ }
+{
+    let a = l.square1.renewed(e);
+    let b = l.square2.renewed(e);
+    let t = l.triangle.renewed(e);
+    let n = l.noise.renewed(e);
+    let d = l.dmc;
+    lags_at(a, b, t, n, d, e)
+}
+
+// The same with noise and DMC left as they are, for an event at which neither is due.
+pub fn renew_voices(l: Lags, e: u32) -> Lags
+    ensures { λ r. ⌜ r ≡ voicesRenewed l e ⌝ }
+{
+    let a = l.square1.renewed(e);
+    let b = l.square2.renewed(e);
+    let t = l.triangle.renewed(e);
+    let n = l.noise;
+    let d = l.dmc;
     lags_at(a, b, t, n, d, e)
 }
 

@@ -22,7 +22,7 @@ fn weight_of(t: u64, n: u64, d: u64) -> u64
     requires { ⌜ (t ≤ 15) × (n ≤ 15) × (d ≤ 127) ⌝ }
     ensures { λ r. ⌜ r ≡ weight t n d ⌝ }
 {
-    t * (12241 * 22638) + n * (8227 * 22638) + d * (8227 * 12241)
+    t * (12241 * 22638) + (n * (8227 * 22638) + d * (8227 * 12241))
 }
 
 // B: the share of triangle, noise and DMC.

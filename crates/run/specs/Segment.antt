@@ -1,22 +1,43 @@
 -- What working a stretch of clocks that bring no frame step promises: where it stops for want of room is fixed by the plain reading it is part of.
 use Prim.Native.Nat.{ℕ, _+_, _/_, _≤_}
 use mathlib.Core.Path.{_≡_}
-use mathlib.Core.Bool.{true, false}
+use mathlib.Core.Bool.{true}
 use mathlib.Core.List.{List}
 use lib.ListN.{length}
+use Rattle.arith.specs.Iterate.{iterate}
+use Rattle.frame.specs.Leap.{frameBefore}
 use Rattle.chip.specs.Clock.{chipClock}
 use Rattle.chip.specs.Level.{stateLevel}
 use Rattle.chip.specs.Range.{inRange}
+use Rattle.lags.proofs.Laggings.{Lagging}
 use Rattle.ran.specs.Held.{Held}
 use Rattle.chip.specs.declared.State.{State}
+use Rattle.lags.specs.declared.Lags.{Lags}
 use Rattle.run.specs.declared.Segment.{Segment}
 
--- A stretch of at most `end` clocks, entered with `base` clocks done and n records: whatever run it is part of goes on being held, and where
--- it is full the next clock needs a record and there is no room.
+-- At clock `l .now` of a stretch of at most `end` clocks that began in s with `base` clocks done; n records are written.
+pub record Standing (memory : List ℕ) (s : State) (end base : ℕ) (words : List ℕ) (l : Lags) (n : ℕ) : Type 0 where
+  pub ranged : inRange s ≡ true
+  pub short : end ≤ frameBefore (s .frame)
+  pub far : base + end ≤ 1000000
+  pub lagging : Lagging memory s l
+  pub now : l .now ≤ end
+  pub most : n ≤ length words / 2
+  pub few : n ≤ base + l .now
+
+-- Worked on to there from clock `from`, where n was `records` and the words were `before`: whatever run it is part of goes on being held.
+pub record Worked (memory : List ℕ) (s : State) (end base from records : ℕ) (before words : List ℕ) (l : Lags) (n : ℕ) : Type 0 where
+  pub standing : Standing memory s end base words l n
+  pub on : from ≤ l .now
+  pub same-length : length words ≡ length before
+  pub held :
+      (s₀ : State) (words₀ : List ℕ)
+      → Held memory s₀ words₀ before (iterate (chipClock memory) from s) (base + from) records
+      → Held memory s₀ words₀ words (iterate (chipClock memory) (l .now) s) (base + l .now) n
+
+-- A stretch of at most `end` clocks, entered with `base` clocks done and n records: whatever run it is part of goes on being held.
 pub record Segmented (memory : List ℕ) (s : State) (end base n : ℕ) (before after : List ℕ) (r : Segment) : Type 0 where
   pub most : r .clocks ≤ end
-  pub whole : r .full ≡ false → r .clocks ≡ end
-  pub full : r .full ≡ true → (length before / 2 ≤ r .records) × (stateLevel (chipClock memory (r .state)) ≡ stateLevel (r .state) → ⊥)
   pub level : r .level ≡ stateLevel (r .state)
   pub ranged : inRange (r .state) ≡ true
   pub held :

@@ -2,22 +2,145 @@
 ghost use mathlib.Core.Path.{_≡_};
 ghost use mathlib.Core.Bool.{Bool, true};
 ghost use mathlib.Core.List.{List};
-ghost use Prim.Native.Nat.{ℕ, _+_, _/_, _≤_};
+ghost use Prim.Native.Nat.{ℕ, _+_, _/_, _≤_, _<_};
+ghost use lib.Dec.{eqb};
 ghost use lib.ListN.{length};
+ghost use Rattle.arith.specs.Pick.{pick};
 ghost use Rattle.frame.specs.Leap.{frameBefore};
 ghost use Rattle.chip.specs.Range.{inRange};
-ghost use Rattle.ran.specs.Run.{answer, answered, lent, readBy, over, flat};
-ghost use Rattle.run.specs.Segment.{Segmented};
+ghost use Rattle.ran.specs.Run.{answer, answered, lent, readBy, over, flat, stored};
+ghost use Rattle.run.specs.Segment.{Standing, Worked, Segmented};
 use chip::State;
+use lags::Lags;
 use ran::Ran;
 
-// What working a stretch came to; `full` says that the next clock needs a record and there is no room.
+// What working a stretch came to: its clocks, or those before an event for whose record there is no room.
 pub struct Segment {
     pub state: State,
     pub clocks: u32,
     pub records: u32,
     pub level: u16,
-    pub full: bool,
+}
+
+// The channels after some events, and the records written so far.
+pub struct Part {
+    pub lags: Lags,
+    pub records: u32,
+}
+
+fn soonest(x: u64, y: u64) -> u64
+    ensures { λ r. ⌜ (r ≤ x) × (r ≤ y) ⌝ }
+{
+    if x < y { x } else { y }
+}
+
+// Up to where only squares and triangle are due.
+fn voices_until(l: Lags, end: u32) -> u64
+    ensures { λ r. ⌜ (r ≤ l .noise .next) × (r ≤ l .dmc .next) × (r ≤ end + 1) ⌝ }
+{
+    let slow = soonest(l.noise.next, l.dmc.next);
+    soonest(slow, end as u64 + 1)
+}
+
+// Up to where the DMC is not due.
+fn sounds_until(l: Lags, end: u32) -> u64
+    ensures { λ r. ⌜ (r ≤ l .dmc .next) × (r ≤ end + 1) ⌝ }
+{
+    soonest(l.dmc.next, end as u64 + 1)
+}
+
+// Whether the next event is before `until` and there is room for its record.
+fn goes(next: u64, until: u64, n: u32, room: usize) -> bool
+    ensures { λ r. ⌜ (r ≡ true → (next < until) × (n < room)) ⌝ }
+{
+    if next < until {
+        (n as usize) < room
+    } else {
+        false
+    }
+}
+
+// Record n, where the level is another than it was; the records then.
+fn mark(words: &mut [u32], n: u32, clock: u32, level: u16, was: u16) -> u32
+    requires { ⌜ n ≤ 1000000 ⌝ }
+    ensures { λ r. ⌜ r ≡ pick (eqb level was) n (n + 1) ⌝ }
+    ensures { λ r. ⌜ now (words .exit) ≡ pick (eqb level was) (now (words .entry)) (stored (now (words .entry)) n clock level) ⌝ }
+{
+    if level == was {
+        return n;
+    }
+    ran::put(words, n as usize, clock, level as u32);
+    n + 1
+}
+
+// Events of squares and triangle alone: in this loop nothing else moves, so all that it keeps stands in registers.
+fn voices_on(
+    s: State,
+    memory: &[u8],
+    first: Lags,
+    end: u32,
+    base: u32,
+    words: &mut [u32],
+    records: u32,
+) -> Part
+    requires { ⌜ Standing (now memory) s end base (now words) first records ⌝ }
+    ensures { λ r. ⌜ Worked (now (memory .entry)) s end base (first .now) records (now (words .entry)) (now (words .exit)) (r .lags) (r .records) ⌝ }
+{
+    let room = words.len() / 2;
+    let mut l = first;
+    let mut n = records;
+    while goes(l.next, voices_until(l, end), n, room) {
+        let e = l.next as u32;
+        let r = lags::renew_voices(l, e);
+        n = mark(words, n, base + e, r.level, l.level);
+        l = r;
+    }
+    Part {
+        lags: l,
+        records: n,
+    }
+}
+
+// Events at which the DMC is not due.
+fn sounds_on(
+    s: State,
+    memory: &[u8],
+    first: Lags,
+    end: u32,
+    base: u32,
+    words: &mut [u32],
+    records: u32,
+) -> Part
+    requires { ⌜ Standing (now memory) s end base (now words) first records ⌝ }
+    ensures { λ r. ⌜ Worked (now (memory .entry)) s end base (first .now) records (now (words .entry)) (now (words .exit)) (r .lags) (r .records) ⌝ }
+{
+    let room = words.len() / 2;
+    let mut l = first;
+    let mut n = records;
+    while goes(l.next, sounds_until(l, end), n, room) {
+        let e = l.next as u32;
+        let r = lags::renew_sounds(l, e);
+        let m = mark(words, n, base + e, r.level, l.level);
+        let p = voices_on(s, memory, r, end, base, words, m);
+        l = p.lags;
+        n = p.records;
+    }
+    Part {
+        lags: l,
+        records: n,
+    }
+}
+
+// The last clock up to `end` that is before `next`.
+fn brink(end: u32, next: u64) -> u32
+    requires { ⌜ 1 ≤ next ⌝ }
+    ensures { λ r. ⌜ (r ≤ end) × (r < next) ⌝ }
+    ensures { λ r. ⌜ ((k : ℕ) → k ≤ end → k < next → k ≤ r) ⌝ }
+{
+    if next <= end as u64 {
+        return (next - 1) as u32;
+    }
+    end
 }
 
 // The clocks up to `end`, none of which brings a frame step, event by event.
@@ -38,35 +161,21 @@ fn segment_on(
     let room = words.len() / 2;
     let mut l = lags::lags_of(s);
     let mut n = records;
-    while l.next <= end as u64 {
+    while goes(l.next, end as u64 + 1, n, room) {
         let e = l.next as u32;
         let r = lags::renew(l, memory, e);
-        if r.level == l.level {
-            l = r;
-        } else {
-            let at = n as usize;
-            if room <= at {
-                let from = lags::state_at(s, l, e - 1);
-                return Segment {
-                    state: from,
-                    clocks: e - 1,
-                    records: n,
-                    level: l.level,
-                    full: true,
-                };
-            }
-            ran::put(words, at, base + e, r.level as u32);
-            n += 1;
-            l = r;
-        }
+        let m = mark(words, n, base + e, r.level, l.level);
+        let p = sounds_on(s, memory, r, end, base, words, m);
+        l = p.lags;
+        n = p.records;
     }
-    let last = lags::state_at(s, l, end);
+    let stop = brink(end, l.next);
+    let last = lags::state_at(s, l, stop);
     Segment {
         state: last,
-        clocks: end,
+        clocks: stop,
         records: n,
         level: l.level,
-        full: false,
     }
 }
 
@@ -93,14 +202,6 @@ fn run_on(s: State, memory: &[u8], count: u32, words: &mut [u32]) -> Ran
         let from = g.state;
         let at = done + g.clocks;
         let m = g.records;
-        if g.full {
-            return Ran {
-                number: 0,
-                state: from,
-                done: at,
-                records: m,
-            };
-        }
         let next = from.clocked(memory);
         let after = next.level();
         if after == g.level {

@@ -59,30 +59,6 @@ add-at c =
     let sg = c .before .before .before .before .segment-on .ensures in
     omega (arith, sg .most, le .0, i .inv .1, p .1, c .before .before .before .before .before .before .before .before .loop-test .taken)
 
-same-length : tie.Need-same-length Inv-loop μ-loop
-same-length c =
-    let a = c .before .before .before .before .before .before .before .before .before .before .before .before .before .args in
-    let p = c .before .before .before .before .before .before .before .before .before .before .before .before .before .pre in
-    let i = c .before .before .before .before .before .before .before .before .before .before .loop in
-    let h = i .inv .0 in
-    let le = c .before .before .before .before .before .before .before .least .ensures in
-    let sg = c .before .before .before .before .before .segment-on .ensures in
-    let x = sg .held (a .s) (a .words .now) h in
-    held-length (a .memory .now) (a .s) (a .words .now) _ _ _ _ x
-
-returns : tie.Need-returns Inv-loop μ-loop
-returns c =
-    let a = c .before .before .before .before .before .before .before .before .before .before .before .before .before .args in
-    let p = c .before .before .before .before .before .before .before .before .before .before .before .before .before .pre in
-    let i = c .before .before .before .before .before .before .before .before .before .before .loop in
-    let h = i .inv .0 in
-    let le = c .before .before .before .before .before .before .before .least .ensures in
-    let sg = c .before .before .before .before .before .segment-on .ensures in
-    let x = sg .held (a .s) (a .words .now) h in
-    let full = sg .full (c .if1 .taken) in
-    let same = held-length (a .memory .now) (a .s) (a .words .now) (i .words) (i .state) (i .done) (i .n) h in
-    held-early (a .memory .now) (a .s) (a .words .now) _ _ _ _ x (a .count) (full .1) (omega (arith, full .0)) (omega (arith, sg .most, le .0, i .inv .1, c .before .before .before .before .before .before .before .before .before .loop-test .taken))
-
 clocked-requires : tie.Need-clocked-requires Inv-loop μ-loop
 clocked-requires c κs = tt
 
@@ -91,40 +67,52 @@ level-requires c κs = tt
 
 add-done : tie.Need-add-done Inv-loop μ-loop
 add-done c =
-    let a = c .before .before .before .before .before .before .before .before .before .before .before .before .before .before .before .before .before .args in
-    let p = c .before .before .before .before .before .before .before .before .before .before .before .before .before .before .before .before .before .pre in
-    let i = c .before .before .before .before .before .before .before .before .before .before .before .before .before .before .loop in
+    let a = c .before .before .before .before .before .before .before .before .before .before .before .before .before .before .before .before .args in
+    let p = c .before .before .before .before .before .before .before .before .before .before .before .before .before .before .before .before .pre in
+    let i = c .before .before .before .before .before .before .before .before .before .before .before .before .before .loop in
     let h = i .inv .0 in
-    let le = c .before .before .before .before .before .before .before .before .before .before .before .least .ensures in
-    let sg = c .before .before .before .before .before .before .before .before .before .segment-on .ensures in
-    omega (arith, sg .most, le .0, i .inv .1, p .1, c .before .before .before .before .before .before .before .before .before .before .before .before .before .loop-test .taken)
+    let le = c .before .before .before .before .before .before .before .before .before .before .least .ensures in
+    let sg = c .before .before .before .before .before .before .before .before .segment-on .ensures in
+    omega (arith, sg .most, le .0, i .inv .1, p .1, c .before .before .before .before .before .before .before .before .before .before .before .before .loop-test .taken)
 
 loop-less : tie.Need-loop-less Inv-loop μ-loop
 loop-less c =
-    let a = c .before .before .before .before .before .before .before .before .before .before .before .before .before .before .before .before .before .args in
-    let p = c .before .before .before .before .before .before .before .before .before .before .before .before .before .before .before .before .before .pre in
-    let i = c .before .before .before .before .before .before .before .before .before .before .before .before .before .before .loop in
+    let a = c .before .before .before .before .before .before .before .before .before .before .before .before .before .before .before .before .args in
+    let p = c .before .before .before .before .before .before .before .before .before .before .before .before .before .before .before .before .pre in
+    let i = c .before .before .before .before .before .before .before .before .before .before .before .before .before .loop in
     let h = i .inv .0 in
-    let le = c .before .before .before .before .before .before .before .before .before .before .before .least .ensures in
-    let sg = c .before .before .before .before .before .before .before .before .before .segment-on .ensures in
-    omega (arith, sg .most, le .0, i .inv .1, p .1, c .before .before .before .before .before .before .before .before .before .before .before .before .before .loop-test .taken)
+    let le = c .before .before .before .before .before .before .before .before .before .before .least .ensures in
+    let sg = c .before .before .before .before .before .before .before .before .segment-on .ensures in
+    omega (arith, sg .most, le .0, i .inv .1, p .1, c .before .before .before .before .before .before .before .before .before .before .before .before .loop-test .taken)
 
 loop-again : tie.Need-loop-again Inv-loop μ-loop
 loop-again c =
-    let a = c .before .before .before .before .before .before .before .before .before .before .before .before .before .before .before .before .before .args in
-    let p = c .before .before .before .before .before .before .before .before .before .before .before .before .before .before .before .before .before .pre in
-    let i = c .before .before .before .before .before .before .before .before .before .before .before .before .before .before .loop in
+    let a = c .before .before .before .before .before .before .before .before .before .before .before .before .before .before .before .before .args in
+    let p = c .before .before .before .before .before .before .before .before .before .before .before .before .before .before .before .before .pre in
+    let i = c .before .before .before .before .before .before .before .before .before .before .before .before .before .loop in
     let h = i .inv .0 in
-    let le = c .before .before .before .before .before .before .before .before .before .before .before .least .ensures in
-    let sg = c .before .before .before .before .before .before .before .before .before .segment-on .ensures in
+    let le = c .before .before .before .before .before .before .before .before .before .before .least .ensures in
+    let sg = c .before .before .before .before .before .before .before .before .segment-on .ensures in
     let x = sg .held (a .s) (a .words .now) h in (
-      rw (c .before .before .before .clocked .ensures) (held-same (a .memory .now) (a .s) (a .words .now) _ _ _ _ x (sym (c .before .before .level .ensures ∙ ap stateLevel (c .before .before .before .clocked .ensures)) ∙ c .if2 .taken ∙ sg .level)),
-      omega (arith, sg .most, le .0, i .inv .1, c .before .before .before .before .before .before .before .before .before .before .before .before .before .loop-test .taken),
+      rw (c .before .before .before .clocked .ensures) (held-same (a .memory .now) (a .s) (a .words .now) _ _ _ _ x (sym (c .before .before .level .ensures ∙ ap stateLevel (c .before .before .before .clocked .ensures)) ∙ c .if1 .taken ∙ sg .level)),
+      omega (arith, sg .most, le .0, i .inv .1, c .before .before .before .before .before .before .before .before .before .before .before .before .loop-test .taken),
       i .inv .2,
     )
 
 cast-place : tie.Need-cast-place Inv-loop μ-loop
 cast-place c =
+    let a = c .before .before .before .before .before .before .before .before .before .before .before .before .before .before .before .before .args in
+    let p = c .before .before .before .before .before .before .before .before .before .before .before .before .before .before .before .before .pre in
+    let i = c .before .before .before .before .before .before .before .before .before .before .before .before .before .loop in
+    let h = i .inv .0 in
+    let le = c .before .before .before .before .before .before .before .before .before .before .least .ensures in
+    let sg = c .before .before .before .before .before .before .before .before .segment-on .ensures in
+    let x = sg .held (a .s) (a .words .now) h in
+    let few = held-few (a .memory .now) (a .s) (a .words .now) _ _ _ _ x in
+    omega (arith, sg .most, le .0, i .inv .1, p .1, c .before .before .before .before .before .before .before .before .before .before .before .before .loop-test .taken)
+
+same-length : tie.Need-same-length Inv-loop μ-loop
+same-length c =
     let a = c .before .before .before .before .before .before .before .before .before .before .before .before .before .before .before .before .before .args in
     let p = c .before .before .before .before .before .before .before .before .before .before .before .before .before .before .before .before .before .pre in
     let i = c .before .before .before .before .before .before .before .before .before .before .before .before .before .before .loop in
@@ -132,42 +120,30 @@ cast-place c =
     let le = c .before .before .before .before .before .before .before .before .before .before .before .least .ensures in
     let sg = c .before .before .before .before .before .before .before .before .before .segment-on .ensures in
     let x = sg .held (a .s) (a .words .now) h in
-    let few = held-few (a .memory .now) (a .s) (a .words .now) _ _ _ _ x in
-    omega (arith, sg .most, le .0, i .inv .1, p .1, c .before .before .before .before .before .before .before .before .before .before .before .before .before .loop-test .taken)
-
-same-length-2 : tie.Need-same-length-2 Inv-loop μ-loop
-same-length-2 c =
-    let a = c .before .before .before .before .before .before .before .before .before .before .before .before .before .before .before .before .before .before .args in
-    let p = c .before .before .before .before .before .before .before .before .before .before .before .before .before .before .before .before .before .before .pre in
-    let i = c .before .before .before .before .before .before .before .before .before .before .before .before .before .before .before .loop in
-    let h = i .inv .0 in
-    let le = c .before .before .before .before .before .before .before .before .before .before .before .before .least .ensures in
-    let sg = c .before .before .before .before .before .before .before .before .before .before .segment-on .ensures in
-    let x = sg .held (a .s) (a .words .now) h in
     held-length (a .memory .now) (a .s) (a .words .now) _ _ _ _ x
 
-returns-2 : tie.Need-returns-2 Inv-loop μ-loop
-returns-2 c =
-    let a = c .before .before .before .before .before .before .before .before .before .before .before .before .before .before .before .before .before .before .args in
-    let p = c .before .before .before .before .before .before .before .before .before .before .before .before .before .before .before .before .before .before .pre in
-    let i = c .before .before .before .before .before .before .before .before .before .before .before .before .before .before .before .loop in
+returns : tie.Need-returns Inv-loop μ-loop
+returns c =
+    let a = c .before .before .before .before .before .before .before .before .before .before .before .before .before .before .before .before .before .args in
+    let p = c .before .before .before .before .before .before .before .before .before .before .before .before .before .before .before .before .before .pre in
+    let i = c .before .before .before .before .before .before .before .before .before .before .before .before .before .before .loop in
     let h = i .inv .0 in
-    let le = c .before .before .before .before .before .before .before .before .before .before .before .before .least .ensures in
-    let sg = c .before .before .before .before .before .before .before .before .before .before .segment-on .ensures in
+    let le = c .before .before .before .before .before .before .before .before .before .before .before .least .ensures in
+    let sg = c .before .before .before .before .before .before .before .before .before .segment-on .ensures in
     let x = sg .held (a .s) (a .words .now) h in
     held-early (a .memory .now) (a .s) (a .words .now) _ _ _ _ x (a .count)
-    (λ q. c .before .if2 .left ((c .before .before .before .level .ensures ∙ ap stateLevel (c .before .before .before .before .clocked .ensures)) ∙ q ∙ sym (sg .level)))
-    (omega (arith, i .inv .2, c .if3 .taken)) (omega (arith, sg .most, le .0, i .inv .1, c .before .before .before .before .before .before .before .before .before .before .before .before .before .before .loop-test .taken))
+    (λ q. c .before .if1 .left ((c .before .before .before .level .ensures ∙ ap stateLevel (c .before .before .before .before .clocked .ensures)) ∙ q ∙ sym (sg .level)))
+    (omega (arith, i .inv .2, c .if2 .taken)) (omega (arith, sg .most, le .0, i .inv .1, c .before .before .before .before .before .before .before .before .before .before .before .before .before .loop-test .taken))
 
 add-put : tie.Need-add-put Inv-loop μ-loop
 add-put c =
-    let a = c .before .before .before .before .before .before .before .before .before .before .before .before .before .before .before .before .before .before .before .args in
-    let p = c .before .before .before .before .before .before .before .before .before .before .before .before .before .before .before .before .before .before .before .pre in
-    let i = c .before .before .before .before .before .before .before .before .before .before .before .before .before .before .before .before .loop in
+    let a = c .before .before .before .before .before .before .before .before .before .before .before .before .before .before .before .before .before .before .args in
+    let p = c .before .before .before .before .before .before .before .before .before .before .before .before .before .before .before .before .before .before .pre in
+    let i = c .before .before .before .before .before .before .before .before .before .before .before .before .before .before .before .loop in
     let h = i .inv .0 in
-    let le = c .before .before .before .before .before .before .before .before .before .before .before .before .before .least .ensures in
-    let sg = c .before .before .before .before .before .before .before .before .before .before .before .segment-on .ensures in
-    omega (arith, sg .most, le .0, i .inv .1, p .1, c .before .before .before .before .before .before .before .before .before .before .before .before .before .before .before .loop-test .taken)
+    let le = c .before .before .before .before .before .before .before .before .before .before .before .before .least .ensures in
+    let sg = c .before .before .before .before .before .before .before .before .before .before .segment-on .ensures in
+    omega (arith, sg .most, le .0, i .inv .1, p .1, c .before .before .before .before .before .before .before .before .before .before .before .before .before .before .loop-test .taken)
 
 cast-put : tie.Need-cast-put Inv-loop μ-loop
 cast-put c = search needs
@@ -177,61 +153,61 @@ put-requires c κs = tt
 
 add-done-2 : tie.Need-add-done-2 Inv-loop μ-loop
 add-done-2 c =
-    let a = c .before .before .before .before .before .before .before .before .before .before .before .before .before .before .before .before .before .before .before .before .before .before .args in
-    let p = c .before .before .before .before .before .before .before .before .before .before .before .before .before .before .before .before .before .before .before .before .before .before .pre in
-    let i = c .before .before .before .before .before .before .before .before .before .before .before .before .before .before .before .before .before .before .before .loop in
+    let a = c .before .before .before .before .before .before .before .before .before .before .before .before .before .before .before .before .before .before .before .before .before .args in
+    let p = c .before .before .before .before .before .before .before .before .before .before .before .before .before .before .before .before .before .before .before .before .before .pre in
+    let i = c .before .before .before .before .before .before .before .before .before .before .before .before .before .before .before .before .before .before .loop in
     let h = i .inv .0 in
-    let le = c .before .before .before .before .before .before .before .before .before .before .before .before .before .before .before .before .least .ensures in
-    let sg = c .before .before .before .before .before .before .before .before .before .before .before .before .before .before .segment-on .ensures in
-    omega (arith, sg .most, le .0, i .inv .1, p .1, c .before .before .before .before .before .before .before .before .before .before .before .before .before .before .before .before .before .before .loop-test .taken)
+    let le = c .before .before .before .before .before .before .before .before .before .before .before .before .before .before .before .least .ensures in
+    let sg = c .before .before .before .before .before .before .before .before .before .before .before .before .before .segment-on .ensures in
+    omega (arith, sg .most, le .0, i .inv .1, p .1, c .before .before .before .before .before .before .before .before .before .before .before .before .before .before .before .before .before .loop-test .taken)
 
 add-n : tie.Need-add-n Inv-loop μ-loop
 add-n c =
-    let a = c .before .before .before .before .before .before .before .before .before .before .before .before .before .before .before .before .before .before .before .before .before .before .args in
-    let p = c .before .before .before .before .before .before .before .before .before .before .before .before .before .before .before .before .before .before .before .before .before .before .pre in
-    let i = c .before .before .before .before .before .before .before .before .before .before .before .before .before .before .before .before .before .before .before .loop in
+    let a = c .before .before .before .before .before .before .before .before .before .before .before .before .before .before .before .before .before .before .before .before .before .args in
+    let p = c .before .before .before .before .before .before .before .before .before .before .before .before .before .before .before .before .before .before .before .before .before .pre in
+    let i = c .before .before .before .before .before .before .before .before .before .before .before .before .before .before .before .before .before .before .loop in
     let h = i .inv .0 in
-    let le = c .before .before .before .before .before .before .before .before .before .before .before .before .before .before .before .before .least .ensures in
-    let sg = c .before .before .before .before .before .before .before .before .before .before .before .before .before .before .segment-on .ensures in
+    let le = c .before .before .before .before .before .before .before .before .before .before .before .before .before .before .before .least .ensures in
+    let sg = c .before .before .before .before .before .before .before .before .before .before .before .before .before .segment-on .ensures in
     let x = sg .held (a .s) (a .words .now) h in
     let few = held-few (a .memory .now) (a .s) (a .words .now) _ _ _ _ x in
-    omega (arith, sg .most, le .0, i .inv .1, p .1, c .before .before .before .before .before .before .before .before .before .before .before .before .before .before .before .before .before .before .loop-test .taken)
+    omega (arith, sg .most, le .0, i .inv .1, p .1, c .before .before .before .before .before .before .before .before .before .before .before .before .before .before .before .before .before .loop-test .taken)
 
 loop-less-2 : tie.Need-loop-less-2 Inv-loop μ-loop
 loop-less-2 c =
-    let a = c .before .before .before .before .before .before .before .before .before .before .before .before .before .before .before .before .before .before .before .before .before .before .args in
-    let p = c .before .before .before .before .before .before .before .before .before .before .before .before .before .before .before .before .before .before .before .before .before .before .pre in
-    let i = c .before .before .before .before .before .before .before .before .before .before .before .before .before .before .before .before .before .before .before .loop in
+    let a = c .before .before .before .before .before .before .before .before .before .before .before .before .before .before .before .before .before .before .before .before .before .args in
+    let p = c .before .before .before .before .before .before .before .before .before .before .before .before .before .before .before .before .before .before .before .before .before .pre in
+    let i = c .before .before .before .before .before .before .before .before .before .before .before .before .before .before .before .before .before .before .loop in
     let h = i .inv .0 in
-    let le = c .before .before .before .before .before .before .before .before .before .before .before .before .before .before .before .before .least .ensures in
-    let sg = c .before .before .before .before .before .before .before .before .before .before .before .before .before .before .segment-on .ensures in
-    omega (arith, sg .most, le .0, i .inv .1, p .1, c .before .before .before .before .before .before .before .before .before .before .before .before .before .before .before .before .before .before .loop-test .taken)
+    let le = c .before .before .before .before .before .before .before .before .before .before .before .before .before .before .before .least .ensures in
+    let sg = c .before .before .before .before .before .before .before .before .before .before .before .before .before .segment-on .ensures in
+    omega (arith, sg .most, le .0, i .inv .1, p .1, c .before .before .before .before .before .before .before .before .before .before .before .before .before .before .before .before .before .loop-test .taken)
 
 loop-again-2 : tie.Need-loop-again-2 Inv-loop μ-loop
 loop-again-2 c =
-    let a = c .before .before .before .before .before .before .before .before .before .before .before .before .before .before .before .before .before .before .before .before .before .before .args in
-    let p = c .before .before .before .before .before .before .before .before .before .before .before .before .before .before .before .before .before .before .before .before .before .before .pre in
-    let i = c .before .before .before .before .before .before .before .before .before .before .before .before .before .before .before .before .before .before .before .loop in
+    let a = c .before .before .before .before .before .before .before .before .before .before .before .before .before .before .before .before .before .before .before .before .before .args in
+    let p = c .before .before .before .before .before .before .before .before .before .before .before .before .before .before .before .before .before .before .before .before .before .pre in
+    let i = c .before .before .before .before .before .before .before .before .before .before .before .before .before .before .before .before .before .before .loop in
     let h = i .inv .0 in
-    let le = c .before .before .before .before .before .before .before .before .before .before .before .before .before .before .before .before .least .ensures in
-    let sg = c .before .before .before .before .before .before .before .before .before .before .before .before .before .before .segment-on .ensures in
+    let le = c .before .before .before .before .before .before .before .before .before .before .before .before .before .before .before .least .ensures in
+    let sg = c .before .before .before .before .before .before .before .before .before .before .before .before .before .segment-on .ensures in
     let x = sg .held (a .s) (a .words .now) h in (
       rw (c .before .before .put .ensures, c .before .before .before .before .before .before .before .level .ensures, c .before .before .before .before .before .before .before .before .clocked .ensures)
-          (held-mark (a .memory .now) (a .s) (a .words .now) _ _ _ _ x (λ q. c .before .before .before .before .before .if2 .left ((c .before .before .before .before .before .before .before .level .ensures ∙ ap stateLevel (c .before .before .before .before .before .before .before .before .clocked .ensures)) ∙ q ∙ sym (sg .level))) (omega (arith, i .inv .2, c .before .before .before .before .if3 .left))),
-      omega (arith, sg .most, le .0, i .inv .1, c .before .before .before .before .before .before .before .before .before .before .before .before .before .before .before .before .before .before .loop-test .taken),
+          (held-mark (a .memory .now) (a .s) (a .words .now) _ _ _ _ x (λ q. c .before .before .before .before .before .if1 .left ((c .before .before .before .before .before .before .before .level .ensures ∙ ap stateLevel (c .before .before .before .before .before .before .before .before .clocked .ensures)) ∙ q ∙ sym (sg .level))) (omega (arith, i .inv .2, c .before .before .before .before .if2 .left))),
+      omega (arith, sg .most, le .0, i .inv .1, c .before .before .before .before .before .before .before .before .before .before .before .before .before .before .before .before .before .loop-test .taken),
       i .inv .2,
     )
 
-same-length-3 : tie.Need-same-length-3 Inv-loop μ-loop
-same-length-3 c =
+same-length-2 : tie.Need-same-length-2 Inv-loop μ-loop
+same-length-2 c =
     let a = c .before .before .before .before .args in
     let p = c .before .before .before .before .pre in
     let i = c .before .loop in
     let h = i .inv .0 in
     held-length (a .memory .now) (a .s) (a .words .now) (i .words) (i .state) (i .done) (i .n) h
 
-returns-3 : tie.Need-returns-3 Inv-loop μ-loop
-returns-3 c =
+returns-2 : tie.Need-returns-2 Inv-loop μ-loop
+returns-2 c =
     let a = c .before .before .before .before .args in
     let p = c .before .before .before .before .pre in
     let i = c .before .loop in
@@ -251,16 +227,14 @@ run-on-spec =
     least-requires
     segment-on-requires
     add-at
-    same-length
-    returns
     clocked-requires
     level-requires
     add-done
     loop-less
     loop-again
     cast-place
-    same-length-2
-    returns-2
+    same-length
+    returns
     add-put
     cast-put
     put-requires
@@ -268,5 +242,5 @@ run-on-spec =
     add-n
     loop-less-2
     loop-again-2
-    same-length-3
-    returns-3)
+    same-length-2
+    returns-2)

@@ -1,20 +1,20 @@
-use Prim.Native.Nat.{ℕ, _+_, _-_, _/_, _≤_}
-use mathlib.Core.Path.{_≡_, refl}
+use Prim.Native.Nat.{ℕ, _+_, _-_, _/_, _≤_, _<_}
+use mathlib.Core.Path.{_≡_, refl, ap, _∙_}
 use native.Mathlib.Omega.{arith}
 use Rattle.chip.specs.Range.{Bytes}
-use Rattle.chip.proofs.Ranges.{state-in}
-use Rattle.lags.specs.Lagged.{renewed, lagsAt}
-use Rattle.lags.proofs.Laggings.{next-past}
+use Rattle.lags.specs.declared.Lags.{Lags}
 use Rattle.ran.specs.Run.{roomOf}
-use Rattle.run.proofs.Events.{Within, within-start, within-same, within-mark, within-full, within-end}
+use Rattle.run.specs.Segment.{Worked}
+use Rattle.run.proofs.Events.{worked-start, worked-on, worked-event, worked-stop, past, event-now}
 use Rattle.run.proofs.segment_on.Statement.{statement}
 use Rattle.run.proofs.segment_on.Tie as tie
 
 abbrev Inv-loop : tie.InvT-loop
-Inv-loop s memory end base words₀ records room l₀ n₀ words l n = Within memory s end base records words₀ words l n × (room ≡ roomOf words₀)
+Inv-loop s memory end base words₀ records room l₀ n₀ words l n =
+    Worked memory s end base 0 records words₀ words l n × (room ≡ roomOf words₀)
 
 abbrev μ-loop : tie.MeasureT-loop
-μ-loop s memory end base words₀ records room l₀ n₀ words l n = end + 1 - l .now
+μ-loop s memory end base words₀ records room l₀ n₀ words l n = end + 1 - l .next
 
 lags-of-requires : tie.Need-lags-of-requires Inv-loop μ-loop
 lags-of-requires c κs = tt
@@ -22,140 +22,113 @@ lags-of-requires c κs = tt
 loop-holds : tie.Need-loop-holds Inv-loop μ-loop
 loop-holds c =
     let a = c .before .before .before .args in
-    let p = c .before .before .before .pre in
-    let r = state-in (a .s) (p .0) in
-    let bytes : Bytes (a .memory .now) = λ i. omega (arith, c .before .before .shared-slice-known .given i) in (
-      rw (c .lags-of .ensures) (within-start (a .memory .now) bytes (a .s) r (a .end) (a .base) (a .records) (a .words .now) (p .1 .0) (p .1 .1 .1 .0) (p .1 .1 .1 .1)),
+    let p = c .before .before .before .pre in (
+      rw (c .lags-of .ensures) (worked-start (a .memory .now) (a .s) (a .end) (a .base) (a .words .now) (a .records) (p .0) (p .1 .0) (p .1 .1 .0) (p .1 .1 .1 .0) (p .1 .1 .1 .1)),
       refl,
     )
 
+add-goes : tie.Need-add-goes Inv-loop μ-loop
+add-goes c = omega (arith, c .loop .inv .0 .standing .far)
+
+goes-requires : tie.Need-goes-requires Inv-loop μ-loop
+goes-requires c κs = tt
+
 cast-e : tie.Need-cast-e Inv-loop μ-loop
-cast-e c = omega (arith, c .before .if1 .taken, c .before .before .before .before .before .before .before .pre .1 .1 .0)
+cast-e c =
+    let a = c .before .before .before .before .before .before .before .args in
+    let p = c .before .before .before .before .before .before .before .pre in
+    let i = c .before .before .before .loop in
+    let w = i .inv .0 in
+    let t = c .before .before .goes .ensures (c .before .if1 .taken) in
+    omega (arith, t .0, w .standing .far)
 
 renew-requires : tie.Need-renew-requires Inv-loop μ-loop
 renew-requires c κs = tt
 
-loop-less : tie.Need-loop-less Inv-loop μ-loop
-unfolding renewed lagsAt
-loop-less c =
-    let a = c .before .before .before .before .before .before .before .before .before .before .before .args in
-    let p = c .before .before .before .before .before .before .before .before .before .before .before .pre in
-    let i = c .before .before .before .before .before .before .before .loop in
+add-mark : tie.Need-add-mark Inv-loop μ-loop
+add-mark c =
+    let a = c .before .before .before .before .before .before .before .before .before .args in
+    let p = c .before .before .before .before .before .before .before .before .before .pre in
+    let i = c .before .before .before .before .before .loop in
     let w = i .inv .0 in
-    let past = next-past (a .memory .now) (a .s) (i .l) (w .lagging) in
-    rw (c .before .before .before .renew .ensures) (omega (arith, c .before .before .before .before .before .if1 .taken))
+    let t = c .before .before .before .before .goes .ensures (c .before .before .before .if1 .taken) in
+    omega (arith, t .0, w .standing .far)
+
+mark-requires : tie.Need-mark-requires Inv-loop μ-loop
+mark-requires c κs =
+    let a = c .before .before .before .before .before .before .before .before .before .args in
+    let p = c .before .before .before .before .before .before .before .before .before .pre in
+    let i = c .before .before .before .before .before .loop in
+    let w = i .inv .0 in
+    let t = c .before .before .before .before .goes .ensures (c .before .before .before .if1 .taken) in
+    omega (arith, w .standing .few, w .standing .now, w .standing .far)
+
+sounds-on-requires : tie.Need-sounds-on-requires Inv-loop μ-loop
+sounds-on-requires c κs =
+    let a = c .before .before .before .before .before .before .before .before .before .before .before .before .before .args in
+    let p = c .before .before .before .before .before .before .before .before .before .before .before .before .before .pre in
+    let i = c .before .before .before .before .before .before .before .before .before .loop in
+    let w = i .inv .0 in
+    let t = c .before .before .before .before .before .before .before .before .goes .ensures (c .before .before .before .before .before .before .before .if1 .taken) in
+    let bytes : Bytes (a .memory .now) = λ k. omega (arith, c .before .before .before .before .before .before .before .before .before .before .before .before .shared-slice-known .given k) in
+    let v = worked-event (a .memory .now) bytes (a .s) (a .end) (a .base) 0 (a .records) (a .words .now) (i .words) (i .l) (i .n) w (omega (arith, t .0)) (omega (arith, t .1, i .inv .1, w .same-length)) _ (c .before .before .before .before .before .renew .ensures) _ _ (c .before .before .before .mark .ensures .0) (c .before .before .before .mark .ensures .1) in
+    v .standing
+
+loop-less : tie.Need-loop-less Inv-loop μ-loop
+loop-less c =
+    let a = c .before .before .before .before .before .before .before .before .before .before .before .before .before .before .before .before .before .args in
+    let p = c .before .before .before .before .before .before .before .before .before .before .before .before .before .before .before .before .before .pre in
+    let i = c .before .before .before .before .before .before .before .before .before .before .before .before .before .loop in
+    let w = i .inv .0 in
+    let t = c .before .before .before .before .before .before .before .before .before .before .before .before .goes .ensures (c .before .before .before .before .before .before .before .before .before .before .before .if1 .taken) in
+    let bytes : Bytes (a .memory .now) = λ k. omega (arith, c .before .before .before .before .before .before .before .before .before .before .before .before .before .before .before .before .shared-slice-known .given k) in
+    let v = worked-event (a .memory .now) bytes (a .s) (a .end) (a .base) 0 (a .records) (a .words .now) (i .words) (i .l) (i .n) w (omega (arith, t .0)) (omega (arith, t .1, i .inv .1, w .same-length)) _ (c .before .before .before .before .before .before .before .before .before .renew .ensures) _ _ (c .before .before .before .before .before .before .before .mark .ensures .0) (c .before .before .before .before .before .before .before .mark .ensures .1) in
+    let x = worked-on (a .memory .now) (a .s) (a .end) (a .base) 0 (a .records) (a .words .now) _ _ _ _ _ _ v (c .before .before .before .sounds-on .ensures) in
+    let q = past (a .memory .now) bytes (a .s) (a .end) (a .base) 0 (a .records) (a .words .now) _ _ _ x in
+    let z : c .before .before .before .before .before .before .before .before .before .renew .result .now ≡ i .l .next =
+    ap (λ (x : Lags). x .now) (c .before .before .before .before .before .before .before .before .before .renew .ensures) ∙ event-now (a .memory .now) (i .l) (i .l .next)
+    in
+    omega (arith, t .0, z, q, c .before .before .before .sounds-on .ensures .on)
 
 loop-again : tie.Need-loop-again Inv-loop μ-loop
 loop-again c =
-    let a = c .before .before .before .before .before .before .before .before .before .before .before .args in
-    let p = c .before .before .before .before .before .before .before .before .before .before .before .pre in
-    let r = state-in (a .s) (p .0) in
-    let bytes : Bytes (a .memory .now) = λ i. omega (arith, c .before .before .before .before .before .before .before .before .before .before .shared-slice-known .given i) in
-    let i = c .before .before .before .before .before .before .before .loop in
-    let w = i .inv .0 in (
-      rw (c .before .before .before .renew .ensures)
-          (within-same (a .memory .now) bytes (a .s) r (a .end) (a .base) (a .records) (a .words .now) (p .1 .0) (i .words) (i .l) (i .n) w (omega (arith, c .before .before .before .before .before .if1 .taken)) (rw (← c .before .before .before .renew .ensures) (c .if2 .taken))),
-      i .inv .1,
-    )
-
-cast-at : tie.Need-cast-at Inv-loop μ-loop
-cast-at c =
-    let p = c .before .before .before .before .before .before .before .before .before .before .before .pre in
-    let w = c .before .before .before .before .before .before .before .loop .inv .0 in
-    omega (arith, w .few, w .now, p .1 .1 .0)
-
-sub-state-at : tie.Need-sub-state-at Inv-loop μ-loop
-sub-state-at c =
-    let a = c .before .before .before .before .before .before .before .before .before .before .before .before .args in
-    let p = c .before .before .before .before .before .before .before .before .before .before .before .before .pre in
-    let i = c .before .before .before .before .before .before .before .before .loop in
+    let a = c .before .before .before .before .before .before .before .before .before .before .before .before .before .before .before .before .before .args in
+    let p = c .before .before .before .before .before .before .before .before .before .before .before .before .before .before .before .before .before .pre in
+    let i = c .before .before .before .before .before .before .before .before .before .before .before .before .before .loop in
     let w = i .inv .0 in
-    let past = next-past (a .memory .now) (a .s) (i .l) (w .lagging) in
-    omega arith
+    let t = c .before .before .before .before .before .before .before .before .before .before .before .before .goes .ensures (c .before .before .before .before .before .before .before .before .before .before .before .if1 .taken) in
+    let bytes : Bytes (a .memory .now) = λ k. omega (arith, c .before .before .before .before .before .before .before .before .before .before .before .before .before .before .before .before .shared-slice-known .given k) in
+    let v = worked-event (a .memory .now) bytes (a .s) (a .end) (a .base) 0 (a .records) (a .words .now) (i .words) (i .l) (i .n) w (omega (arith, t .0)) (omega (arith, t .1, i .inv .1, w .same-length)) _ (c .before .before .before .before .before .before .before .before .before .renew .ensures) _ _ (c .before .before .before .before .before .before .before .mark .ensures .0) (c .before .before .before .before .before .before .before .mark .ensures .1) in
+    (worked-on (a .memory .now) (a .s) (a .end) (a .base) 0 (a .records) (a .words .now) _ _ _ _ _ _ v (c .before .before .before .sounds-on .ensures), i .inv .1)
+
+brink-requires : tie.Need-brink-requires Inv-loop μ-loop
+brink-requires c κs =
+    let a = c .before .before .before .before .before .before .args in
+    let p = c .before .before .before .before .before .before .pre in
+    let i = c .before .before .loop in
+    let w = i .inv .0 in
+    let bytes : Bytes (a .memory .now) = λ k. omega (arith, c .before .before .before .before .before .shared-slice-known .given k) in
+    let q = past (a .memory .now) bytes (a .s) (a .end) (a .base) 0 (a .records) (a .words .now) _ _ _ w in
+    omega (arith, q)
 
 state-at-requires : tie.Need-state-at-requires Inv-loop μ-loop
 state-at-requires c κs = tt
 
-sub-t19 : tie.Need-sub-t19 Inv-loop μ-loop
-sub-t19 c =
-    let a = c .before .before .before .before .before .before .before .before .before .before .before .before .before .args in
-    let p = c .before .before .before .before .before .before .before .before .before .before .before .before .before .pre in
-    let i = c .before .before .before .before .before .before .before .before .before .loop in
-    let w = i .inv .0 in
-    let past = next-past (a .memory .now) (a .s) (i .l) (w .lagging) in
-    omega arith
-
 same-length : tie.Need-same-length Inv-loop μ-loop
-same-length c = c .before .before .before .before .before .before .before .before .before .loop .inv .0 .same-length
+same-length c = c .before .before .before .before .loop .inv .0 .same-length
 
 returns : tie.Need-returns Inv-loop μ-loop
 returns c =
-    let a = c .before .before .before .before .before .before .before .before .before .before .before .before .before .args in
-    let p = c .before .before .before .before .before .before .before .before .before .before .before .before .before .pre in
-    let r = state-in (a .s) (p .0) in
-    let bytes : Bytes (a .memory .now) = λ i. omega (arith, c .before .before .before .before .before .before .before .before .before .before .before .before .shared-slice-known .given i) in
-    let i = c .before .before .before .before .before .before .before .before .before .loop in
+    let a = c .before .before .before .before .before .before .before .before .args in
+    let p = c .before .before .before .before .before .before .before .before .pre in
+    let i = c .before .before .before .before .loop in
     let w = i .inv .0 in
+    let bytes : Bytes (a .memory .now) = λ k. omega (arith, c .before .before .before .before .before .before .before .shared-slice-known .given k) in
+    let q = past (a .memory .now) bytes (a .s) (a .end) (a .base) 0 (a .records) (a .words .now) _ _ _ w in
+    let k = c .before .brink .ensures in
     rw (c .state-at .ensures)
-    (within-full (a .memory .now) bytes (a .s) r (a .end) (a .base) (a .records) (a .words .now) (p .1 .0) (i .words) (i .l) (i .n) w (omega (arith, c .before .before .before .before .before .before .before .if1 .taken))
-    (λ q. c .before .before .if2 .left (rw (c .before .before .before .before .before .renew .ensures) q))
-    (omega (arith, i .inv .1, c .before .if3 .taken)))
-
-add-put : tie.Need-add-put Inv-loop μ-loop
-add-put c = omega (arith, c .before .before .before .before .before .before .before .if1 .taken, c .before .before .before .before .before .before .before .before .before .before .before .before .before .pre .1 .1 .0)
-
-cast-put : tie.Need-cast-put Inv-loop μ-loop
-cast-put c = omega (arith, c .struct-known5 .given)
-
-put-requires : tie.Need-put-requires Inv-loop μ-loop
-put-requires c κs = tt
-
-add-n : tie.Need-add-n Inv-loop μ-loop
-add-n c =
-    let p = c .before .before .before .before .before .before .before .before .before .before .before .before .before .before .before .before .before .pre in
-    let w = c .before .before .before .before .before .before .before .before .before .before .before .before .before .loop .inv .0 in
-    omega (arith, w .few, w .now, p .1 .1 .0)
-
-loop-less-2 : tie.Need-loop-less-2 Inv-loop μ-loop
-unfolding renewed lagsAt
-loop-less-2 c =
-    let a = c .before .before .before .before .before .before .before .before .before .before .before .before .before .before .before .before .before .args in
-    let p = c .before .before .before .before .before .before .before .before .before .before .before .before .before .before .before .before .before .pre in
-    let i = c .before .before .before .before .before .before .before .before .before .before .before .before .before .loop in
-    let w = i .inv .0 in
-    let past = next-past (a .memory .now) (a .s) (i .l) (w .lagging) in
-    rw (c .before .before .before .before .before .before .before .before .before .renew .ensures) (omega (arith, c .before .before .before .before .before .before .before .before .before .before .before .if1 .taken))
-
-loop-again-2 : tie.Need-loop-again-2 Inv-loop μ-loop
-loop-again-2 c =
-    let a = c .before .before .before .before .before .before .before .before .before .before .before .before .before .before .before .before .before .args in
-    let p = c .before .before .before .before .before .before .before .before .before .before .before .before .before .before .before .before .before .pre in
-    let r = state-in (a .s) (p .0) in
-    let bytes : Bytes (a .memory .now) = λ i. omega (arith, c .before .before .before .before .before .before .before .before .before .before .before .before .before .before .before .before .shared-slice-known .given i) in
-    let i = c .before .before .before .before .before .before .before .before .before .before .before .before .before .loop in
-    let w = i .inv .0 in (
-      rw (c .before .before .put .ensures, c .before .before .before .before .before .before .before .before .before .renew .ensures)
-          (within-mark (a .memory .now) bytes (a .s) r (a .end) (a .base) (a .records) (a .words .now) (p .1 .0) (i .words) (i .l) (i .n) w (omega (arith, c .before .before .before .before .before .before .before .before .before .before .before .if1 .taken))
-          (λ q. c .before .before .before .before .before .before .if2 .left (rw (c .before .before .before .before .before .before .before .before .before .renew .ensures) q))
-          (omega (arith, i .inv .1, c .before .before .before .before .before .if3 .left))),
-      i .inv .1,
-    )
-
-state-at-requires-2 : tie.Need-state-at-requires-2 Inv-loop μ-loop
-state-at-requires-2 c κs = tt
-
-same-length-2 : tie.Need-same-length-2 Inv-loop μ-loop
-same-length-2 c = c .before .before .before .loop .inv .0 .same-length
-
-returns-2 : tie.Need-returns-2 Inv-loop μ-loop
-returns-2 c =
-    let a = c .before .before .before .before .before .before .before .args in
-    let p = c .before .before .before .before .before .before .before .pre in
-    let r = state-in (a .s) (p .0) in
-    let bytes : Bytes (a .memory .now) = λ i. omega (arith, c .before .before .before .before .before .before .shared-slice-known .given i) in
-    let i = c .before .before .before .loop in
-    let w = i .inv .0 in
-    rw (c .state-at2 .ensures) (within-end (a .memory .now) bytes (a .s) r (a .end) (a .base) (a .records) (a .words .now) (p .1 .0) (i .words) (i .l) (i .n) w (omega (arith, c .before .if1 .left)))
+    (worked-stop (a .memory .now) bytes (a .s) (a .end) (a .base) 0 (a .records) (a .words .now) (i .words) (i .l) (i .n) w (c .before .brink .result)
+    (k .1 (i .l .now) (w .standing .now) q) (k .0 .1) (k .0 .0) refl)
 
 pub segment-on-spec : {M : Type 1} → statement M
 segment-on-spec =
@@ -165,22 +138,16 @@ segment-on-spec =
     μ-loop
     lags-of-requires
     loop-holds
+    add-goes
+    goes-requires
     cast-e
     renew-requires
+    add-mark
+    mark-requires
+    sounds-on-requires
     loop-less
     loop-again
-    cast-at
-    sub-state-at
+    brink-requires
     state-at-requires
-    sub-t19
     same-length
-    returns
-    add-put
-    cast-put
-    put-requires
-    add-n
-    loop-less-2
-    loop-again-2
-    state-at-requires-2
-    same-length-2
-    returns-2)
+    returns)
