@@ -7,8 +7,8 @@
  *
  * An answer is one 64-bit number: its low 8 bits are the answer's number, PERCH_DONE or a refusal, and the bits above
  * are its value. A refused call answers its number, about a log its place too, with value 0, and leaves all that was
- * lent to it as it was. Where several refusals hold the lowest is given; in a log 5 comes before 4, and of 4, 6, 7 and 8
- * the first line at fault wins.
+ * lent to it as it was. Where several refusals hold the lowest is given; in a log 5 comes before 4, and of 4, 7, 8 and
+ * 14 to 19 the first line at fault wins, before 9 to 12.
  *
  * A state is PERCH_STATE_SIZE bytes: the fields in the order in which document 01, "State, ranges and power-on", names
  * them. Period, timer, shift register, address, remaining and phase take two bytes, low first, every other field one;
@@ -48,13 +48,18 @@ extern "C" {
 #define PERCH_REFUSED_CLOCKS 3    /* a run of more than PERCH_MOST_CLOCKS */
 #define PERCH_REFUSED_REGISTER 4  /* register not among $4000..$4013, $4015, $4017 */
 #define PERCH_REFUSED_LONG 5      /* log longer than 60,000 bytes */
-#define PERCH_REFUSED_FORM 6      /* a line not of the log's form, or `stop` missing */
 #define PERCH_REFUSED_DEPTH 7     /* a ninth loop opened inside eight */
 #define PERCH_REFUSED_UNMATCHED 8 /* `done` with no loop open, or `stop` with one open */
 #define PERCH_REFUSED_TOTALS 9    /* over 2,000,000,000 clocks or 1,000,000 turns in all */
 #define PERCH_REFUSED_STOP 10     /* `stop` differs from the clocks in all */
 #define PERCH_REFUSED_ITEM 11     /* item k asked for and the log has k or fewer */
 #define PERCH_REFUSED_LOOP 12     /* no loop line begins at the offset asked for */
+#define PERCH_REFUSED_KEY 14      /* a line's key is unknown, or not allowed where it stands */
+#define PERCH_REFUSED_SHAPE 15    /* a line's value is not of its shape */
+#define PERCH_REFUSED_RANGE 16    /* a line's value is outside its range */
+#define PERCH_REFUSED_FEED 17     /* the log ends in a line that could go on: its line feed is missing */
+#define PERCH_REFUSED_NO_STOP 18  /* the log ends without `stop` */
+#define PERCH_REFUSED_BEHIND 19   /* something stands behind `stop` */
 
 /* The number of an answer, and its value. */
 #define PERCH_NUMBER(answer) ((unsigned)((answer) & 0xff))
@@ -102,11 +107,13 @@ uint64_t perch_run_plain(uint8_t *state, size_t n, const uint8_t *memory, size_t
                          size_t w);
 
 /* LOGS. An answer about a log is number + 2^8 x place + 2^32 x value. The place is 0 where the number is 0; else the start
- * of the faulty line, the log's length if `stop` is missing, the `stop` line for 9 and 10, and 0 otherwise. */
+ * of the faulty line for 4, 7 and 8; for 14 and 15 the first byte that can't belong to any right line allowed there with
+ * that beginning; for 16 the value's first digit; for 17 and 18 the log's length; for 19 the first byte behind `stop`; the
+ * `stop` line for 9 and 10; and 0 otherwise. docs/LOG.md has an example of each. */
 #define PERCH_PLACE(answer) ((uint32_t)((answer) >> 8 & 0xffffff))
 #define PERCH_LOG_VALUE(answer) ((uint32_t)((uint64_t)(answer) >> 32))
 
-/* Checks a log of n bytes. The value is the clocks in all. Refused: 4 to 10. */
+/* Checks a log of n bytes. The value is the clocks in all. Refused: 4, 5, 7 to 10, 14 to 19. */
 uint64_t perch_check(const uint8_t *log, size_t n);
 
 /* Item k, from 0, of the waits, writes and reads that the log stands for, its loops unrolled. The value is

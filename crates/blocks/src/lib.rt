@@ -9,7 +9,7 @@ use line::Act;
 use line::Line;
 use lines::number;
 use lines::place;
-use lines::read;
+use lines::read_inside;
 ghost use mathlib.Core.Path.{_≡_};
 ghost use Prim.Native.Nat.{_<_, _≤_, min};
 ghost use Rattle.judge.specs.Tree.{actClocks};
@@ -79,47 +79,29 @@ fn scaled(n: u64, a: Totals) -> Totals
     }
 }
 
-// What a line says where `depth` loops are open.
-fn opened(l: Line, at: usize, next: usize, depth: u64) -> Step
-    ensures { λ r. ⌜ r ≡ stepAnswer (begun at next depth l) ⌝ }
+// What a line says that is right where it stands.
+fn opened(l: Line, at: usize, next: usize) -> Step
+    ensures { λ r. ⌜ r ≡ stepAnswer (begun at next l) ⌝ }
 {
     match l {
-        Line::Header => Step::Plain(Part::Refused(6, at)),
+        Line::Header => Step::Plain(Part::Refused(14, at)),
         Line::One(a) => Step::Plain(Part::Acts(next, single(a))),
-        Line::Loop(n) => {
-            if depth < 8 {
-                Step::Open(n, next)
-            } else {
-                Step::Plain(Part::Refused(7, at))
-            }
-        }
-        Line::Done => {
-            if depth == 0 {
-                Step::Plain(Part::Refused(8, at))
-            } else {
-                Step::Plain(Part::Close(at, next))
-            }
-        }
-        Line::Stop(n) => {
-            if depth == 0 {
-                Step::Plain(Part::Halt(at, next, n))
-            } else {
-                Step::Plain(Part::Refused(8, at))
-            }
-        }
+        Line::Loop(n) => Step::Open(n, next),
+        Line::Done => Step::Plain(Part::Close(at, next)),
+        Line::Stop(n) => Step::Plain(Part::Halt(at, next, n)),
         Line::Bad(k) => Step::Plain(Part::Refused(k, at)),
     }
 }
 
-// The line at a place, taken apart.
+// The line at a place, taken apart, where `depth` loops are open.
 fn begin(log: &[u8], at: usize, depth: u64) -> Step
     ensures { λ r. ⌜ r ≡ stepAnswer (readBegun (now (log .entry)) at depth) ⌝ }
 {
-    let r = read(log, at);
+    let r = read_inside(log, at, depth);
     let Reading::Item(l, next) = r else {
         return Step::Plain(Part::Refused(number(r), place(r)));
     };
-    opened(l, at, next, depth)
+    opened(l, at, next)
 }
 
 // The loop whose body is the block that was read.

@@ -10,7 +10,7 @@ use Rattle.line.specs.declared.Line.{Line}
 use Rattle.judge.specs.declared.Reading.the-variants.{Item}
 use Rattle.judge.specs.Lines.{nextLine}
 use Rattle.judge.specs.Reading.{readAt}
-use Rattle.judge.proofs.Places.{had}
+use Rattle.judge.proofs.Places.{had-at}
 use Rattle.log.specs.Bodies.{bodyCheckOf, bodyOf}
 use Rattle.log.proofs.Limits.{body-answer, body-start, body-length, body-is-part}
 use Rattle.bytelog.specs.Logs.{logPacked, bodyValue, bodyPacked}
@@ -26,7 +26,7 @@ module _ (log : List ℕ) (o : ℕ) where
       → (start + 65536 * length part ≡ bodyValue log o) × (start + 65536 * length part < 2 ^ 32)
   unfolding bodyValue
   body-value-is h l start e part f =
-      let s = had log o l start e .on in
+      let s = had-at log o l start e .on in
       let a = body-start log o h in
       let b = body-length log o in
       rw (f, s) (rw (eq-eqb (bodyCheckOf log o .number) 0 h), omega arith)

@@ -60,10 +60,10 @@ fn closed(length: usize, b: Block) -> Checked
     ensures { λ r. ⌜ r ≡ closing length b ⌝ }
 {
     match b {
-        Block::Closed(_, next, _) => refusal(6, next),
+        Block::Closed(_, next, _) => refusal(18, next),
         Block::Stopped(place, next, n, t) => {
             if next < length {
-                refusal(6, next)
+                refusal(19, next)
             } else {
                 weighed(t, place, n as u64)
             }

@@ -1,5 +1,5 @@
 -- From the beginning of a log that was read as a tree, the cursor gives the acts of the tree, one after the other, and then the end. Assumes nothing.
-use mathlib.Core.Path.{_≡_, refl, ap, sym, _∙_}
+use mathlib.Core.Path.{_≡_, refl, ap, sym, _∙_, ap₂}
 use mathlib.Core.List.{List, [], _∷_, _++_, append-assoc, append-nil}
 use Prim.Native.Nat.{ℕ, zero, suc, _+_, _-_, _*_, _≤_, _<_}
 use native.Mathlib.Numerals.{add-one, sub-one}
@@ -14,12 +14,13 @@ use Rattle.line.specs.declared.Act.{Act}
 use Rattle.line.specs.declared.Line.{Line}
 use Rattle.line.specs.declared.Line.the-variants.{Header, One, Loop, Done, Stop, Bad}
 use Rattle.judge.specs.declared.Reading.the-variants.{Item}
-use Rattle.judge.specs.Judge.{fault}
-use Rattle.judge.specs.Reading.{readAt}
+use Rattle.spot.proofs.Standing.{Goes, act as acts-on, opens as opened-on, closes as closes-on, ends as ends-on}
+use Rattle.judge.proofs.Places.{to-depth}
+use Rattle.judge.specs.Reading.{standing, readIn, readAt}
 use Rattle.judge.specs.Tree.{Tree, end, act, loop, acts, times, turns}
 use Rattle.judge.proofs.Derived.{Ending, closes, stops, Reads, an-act, a-loop, a-done, a-stop}
 use Rattle.cursor.specs.declared.Cursor.{Cursor}
-use Rattle.cursor.specs.Stepping.{go, beginning, loopsOpen, passed, entered, again, turned, unlessFault, followed, readStep, stepOf}
+use Rattle.cursor.specs.Stepping.{go, beginning, loopsOpen, passed, entered, again, turned, followed, readStep, stepOf}
 
 -- lines passed on the way through a tree
 unfoldable pub lines : Tree → ℕ
@@ -48,20 +49,25 @@ module _ (log : List ℕ) (c : Cursor) (at d : ℕ) (s l : List ℕ) (h : At c a
   unfolding loopsOpen
   open-is = rw (h .depth, le-leb d 8 (h .low))
 
-  step-by : (x : Line) (p : ℕ) → readAt log at ≡ Item x p → stepOf log c ≡ followed c d p x
+  step-in : (x : Line) (p : ℕ) → readIn (standing at d) log at ≡ Item x p → stepOf log c ≡ followed c d p x
   unfolding stepOf readStep
-  step-by x p e = ap (λ (i : ℕ). readStep c (readAt log i)) (h .place) ∙ (ap (readStep c) e ∙ ap (λ (k : ℕ). followed c k p x) open-is)
+  step-in x p e =
+      ap₂ (λ (i k : ℕ). readStep c (readIn (standing i k) log i)) (h .place) open-is
+      ∙ (ap (readStep c) e ∙ ap (λ (k : ℕ). followed c k p x) open-is)
+
+  step-by : (x : Line) (p : ℕ) → Goes d x → readAt log at ≡ Item x p → stepOf log c ≡ followed c d p x
+  step-by x p g e = step-in x p (to-depth log at d x p g e)
 
   pass-at : (p : ℕ) → At (passed c d p) p d s l
   pass-at p = record { place = refl; depth = refl; low = h .low; starts = h .starts; left = h .left; room = h .room; space = h .space }
 
   act-said : (a : Act) (p : ℕ) → readAt log at ≡ Item (One a) p → stepOf log c ≡ go (says a) (passed c d p)
   unfolding followed
-  act-said a p e = step-by (One a) p e
+  act-said a p e = step-by (One a) p acts-on e
 
   loop-said : (n p : ℕ) → readAt log at ≡ Item (Loop n) p → d < 8 → stepOf log c ≡ go on (entered c d p n)
-  unfolding followed unlessFault fault
-  loop-said n p e k = step-by (Loop n) p e ∙ rw (lt-ltb d 8 k) refl
+  unfolding followed
+  loop-said n p e k = step-by (Loop n) p (opened-on k) e ∙ rw (lt-ltb d 8 k) refl
 
   enter-at : (p m : ℕ) → d < 8 → At (entered c d p (suc m)) p (d + 1) (s ++ (p ∷ [])) (l ++ (m ∷ []))
   enter-at p m k =
@@ -76,8 +82,8 @@ module _ (log : List ℕ) (c : Cursor) (at d : ℕ) (s l : List ℕ) (h : At c a
       }
 
 stop-said : (log : List ℕ) (c : Cursor) (at n p : ℕ) (s l : List ℕ) → At c at 0 s l → readAt log at ≡ Item (Stop n) p → stepOf log c ≡ go over c
-unfolding followed unlessFault fault
-stop-said log c at n p s l h e = step-by log c at 0 s l h (Stop n) p e
+unfolding followed
+stop-said log c at n p s l h e = step-by log c at 0 s l h (Stop n) p (ends-on refl) e
 
 -- at the `done` of a loop whose body began at e, with m turns left
 module _ (log : List ℕ) (c : Cursor) (at d e m p : ℕ) (s l : List ℕ) (hs : length s ≡ d) (hl : length l ≡ d)
@@ -98,9 +104,9 @@ module _ (log : List ℕ) (c : Cursor) (at d e m p : ℕ) (s l : List ℕ) (hs :
   below-left = sym (take-take d (d + 1) (c .left) (omega arith)) ∙ (ap (take d) (h .left) ∙ take-at l (m ∷ []) d hl)
 
   done-said : stepOf log c ≡ turned c (d + 1) p m
-  unfolding followed unlessFault fault
+  unfolding followed
   done-said =
-      step-by log c at (d + 1) (s ++ (e ∷ [])) (l ++ (m ∷ [])) h Done p done
+      step-by log c at (d + 1) (s ++ (e ∷ [])) (l ++ (m ∷ [])) h Done p (closes-on (omega arith)) done
       ∙ rw (ne-eqb (d + 1) 0 (λ z. omega arith), down, left-is) refl
 
   last-said : m ≡ 0 → stepOf log c ≡ go on (passed c d p)
@@ -212,8 +218,8 @@ begin-at : At beginning 0 0 [] []
 begin-at = record { place = refl; depth = refl; low = omega arith; starts = refl; left = refl; room = refl; space = refl }
 
 header-said : (log : List ℕ) (p : ℕ) → readAt log 0 ≡ Item Header p → stepOf log beginning ≡ go on (passed beginning 0 p)
-unfolding followed
-header-said log p e = step-by log beginning 0 0 [] [] begin-at Header p e
+unfolding followed readAt standing
+header-said log p e = step-in log beginning 0 0 [] [] begin-at Header p e
 
 -- the beginning gives the whole list and then the end: at most two steps a turn, and one each for the first line and for `stop`
 pub begin-gives : (log : List ℕ) (t : Tree) (p q r n : ℕ) → readAt log 0 ≡ Item Header p → Reads log p 0 t (stops q r n)

@@ -2,15 +2,14 @@
 use mathlib.Core.List.{List, [], _∷_}
 use Prim.Native.Nat.{ℕ, _+_, _-_}
 use lib.ListN.{getD, set}
-use lib.Dec.{eqb, leb}
+use lib.Dec.{eqb, leb, ltb}
 use Rattle.arith.specs.Pick.{pick}
 use Rattle.line.specs.declared.Act.{Act}
 use Rattle.line.specs.declared.Line.{Line}
 use Rattle.line.specs.declared.Line.the-variants.{Header, One, Loop, Done, Stop, Bad}
 use Rattle.judge.specs.declared.Reading.{Reading}
 use Rattle.judge.specs.declared.Reading.the-variants.{Item, Refused}
-use Rattle.judge.specs.Judge.{Verdict, right, wrong, fault}
-use Rattle.judge.specs.Reading.{readAt}
+use Rattle.judge.specs.Reading.{standing, readIn}
 use Rattle.emit.specs.Machine.{Said, over, on, says, refused, Turn}
 use Rattle.cursor.specs.declared.Cursor.{Cursor}
 use Rattle.cursor.specs.declared.Found.{Found}
@@ -76,19 +75,15 @@ again c d n = record { at = getD (c .starts) (d - 1) 0; depth = d; starts = c .s
 unfoldable pub turned : Cursor → ℕ → ℕ → ℕ → Go
 turned c d p n = pick (eqb n 0) (go on (passed c (d - 1) p)) (go on (again c d n))
 
--- a line at fault is refused, and the cursor stays
-unfoldable pub unlessFault : Verdict → Cursor → Go → Go
-unlessFault right c g = g
-unlessFault (wrong k p) c g = go (refused k p) c
-
--- with d loops open, the line at the cursor says l and the next one begins at p
+-- with d loops open, the line at the cursor says l and the next one begins at p; a line that is right there opens no ninth loop, closes one
+-- that is open, and stops where none is
 unfoldable pub followed : Cursor → ℕ → ℕ → Line → Go
 followed c d p Header = go on (passed c d p)
 followed c d p (One a) = go (says a) (passed c d p)
-followed c d p (Loop n) = unlessFault (fault (c .at) d (Loop n)) c (go on (entered c d p n))
-followed c d p Done = unlessFault (fault (c .at) d Done) c (turned c d p (getD (c .left) (d - 1) 0))
-followed c d p (Stop n) = unlessFault (fault (c .at) d (Stop n)) c (go over c)
-followed c d p (Bad k) = unlessFault (fault (c .at) d (Bad k)) c (go over c)
+followed c d p (Loop n) = pick (ltb d 8) (go on (entered c d p n)) (go (refused 7 (c .at)) c)
+followed c d p Done = pick (eqb d 0) (go (refused 8 (c .at)) c) (turned c d p (getD (c .left) (d - 1) 0))
+followed c d p (Stop n) = pick (eqb d 0) (go over c) (go (refused 8 (c .at)) c)
+followed c d p (Bad k) = go (refused k (c .at)) c
 
 -- what was read at the cursor
 unfoldable pub readStep : Cursor → Reading → Go
@@ -97,7 +92,7 @@ readStep c (Refused k p) = go (refused k p) c
 
 -- one step: at most one line
 unfoldable pub stepOf : List ℕ → Cursor → Go
-stepOf log c = readStep c (readAt log (c .at))
+stepOf log c = readStep c (readIn (standing (c .at) (loopsOpen c)) log (c .at))
 
 -- the refusal of a line that was not read; an item is none
 abbrev pub refusedBy : Cursor → Reading → Go

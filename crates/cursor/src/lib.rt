@@ -223,9 +223,10 @@ fn refusal(c: Cursor, r: Reading) -> Stepped
 pub fn step(log: &[u8], c: Cursor) -> Stepped
     ensures { λ r. ⌜ r ≡ stepped (stepOf (now (log .entry)) c) ⌝ }
 {
-    let r = lines::read(log, c.at);
+    let d = open_loops(c);
+    let r = lines::read_inside(log, c.at, d as u64);
     let Reading::Item(l, next) = r else {
         return refusal(c, r);
     };
-    follow(c, open_loops(c), next, l)
+    follow(c, d, next, l)
 }

@@ -16,13 +16,19 @@ use Rattle.judge.specs.declared.Checked.{Checked}
 use Rattle.judge.specs.declared.Reading.{Reading}
 use Rattle.judge.specs.declared.Reading.the-variants.{Item, Refused}
 use Rattle.judge.specs.Lines.{linesOf, bytesAt, nextLine, startOf}
-use Rattle.judge.specs.Reading.{firstRead, readAt}
-use Rattle.judge.specs.Judge.{right, wrong, first, among, over, headFault, verdict, behind, ending, unless, judge, judged}
+use Rattle.judge.specs.Reading.{taken, readIn, readAt}
+use Rattle.judge.specs.Judge.{right, wrong, first, among, over, placed, verdict, behind, ending, unless, judge, judged}
 use Rattle.judge.specs.Tree.{Tree, end, act, loop, acts, clocks, turns}
 use Rattle.judge.specs.Whole.{grow, blocks, innermost, treeOf, Stopping, stopHere, stopFrom, stopOf, refusal, passed, heavy, weighed, unlessWrong, checkOf}
 use Rattle.judge.specs.Block.{Got, closed, stopped, refused, readBlock, totals, answer}
 use Rattle.judge.specs.Closing.{totalled, limited, closing}
-use Rattle.judge.proofs.Places.{Had, had, bytes-long, next-le, next-pos, read-first, read-long}
+use Rattle.judge.proofs.Places.{Had, had-at, had-says, bytes-long, next-le, next-pos, read-some, read-long}
+use Rattle.spot.specs.declared.Stand.{Stand as Standing}
+use Rattle.spot.specs.declared.Stand.the-variants.{First, Among}
+use Rattle.spot.specs.declared.Found.{Found}
+use Rattle.spot.specs.declared.Found.the-variants.{Right, Wrong}
+use Rattle.spot.specs.Fault.{spotOf}
+use Rattle.spot.proofs.Standing.{first-header}
 use Rattle.judge.proofs.Totalling.{length-times}
 use Rattle.judge.proofs.Derived.{Ending, closes, stops, Reads, an-act, a-loop, a-done, a-stop, Derived, derived, inside-loop}
 use Rattle.judge.proofs.Judged.{linesFrom, judgeAt, lines-at, judge-at, judge-none, after, bridge}
@@ -37,28 +43,28 @@ abbrev pub stopBehind : List ℕ → Ending → Stopping
 stopBehind log (closes p q) = stopFrom q (linesFrom log q)
 stopBehind log (stops p q n) = record { place = p; number = n }
 
-module _ {log : List ℕ} {at : ℕ} {l : Line} {next : ℕ} (h : Had log at l next) where
+module _ {st : Standing} {log : List ℕ} {at : ℕ} {l : Line} {next : ℕ} (h : Had st log at l next) where
   pub blocks-at : blocks (linesFrom log at) ≡ grow l (blocks (linesFrom log next))
   unfolding blocks
-  blocks-at = rw (lines-at log at (h .inside), h .says, h .on)
+  blocks-at = rw (lines-at log at (h .inside), had-says h, h .on)
 
   pub stop-at : stopFrom at (linesFrom log at) ≡ stopHere at l (stopFrom next (linesFrom log next))
   unfolding stopFrom
-  stop-at = rw (lines-at log at (h .inside), h .says, h .on, bytes-long log at)
+  stop-at = rw (lines-at log at (h .inside), had-says h, h .on, bytes-long log at)
 
 pub blocks-of : {log : List ℕ} {at d : ℕ} {t : Tree} {e : Ending} → Reads log at d t e → blocks (linesFrom log at) ≡ t ∷ blocksBehind log e
 unfolding grow
-blocks-of {log} {at} (an-act {a = a} l r) = blocks-at (had log at _ _ l) ∙ ap (grow (One a)) (blocks-of r)
-blocks-of {log} {at} (a-loop {n = n} {b = b} l i k r r′) = blocks-at (had log at _ _ l) ∙ ap (grow (Loop n)) (blocks-of r ∙ ap (λ (ts : List Tree). b ∷ ts) (blocks-of r′))
-blocks-of {log} {at} (a-done l h) = blocks-at (had log at _ _ l)
-blocks-of {log} {at} (a-stop l) = blocks-at (had log at _ _ l)
+blocks-of {log} {at} {d} (an-act {a = a} l r) = blocks-at (had-at log at _ _ l) ∙ ap (grow (One a)) (blocks-of r)
+blocks-of {log} {at} {d} (a-loop {n = n} {b = b} l i k r r′) = blocks-at (had-at log at _ _ l) ∙ ap (grow (Loop n)) (blocks-of r ∙ ap (λ (ts : List Tree). b ∷ ts) (blocks-of r′))
+blocks-of {log} {at} {d} (a-done l h) = blocks-at (had-at log at _ _ l)
+blocks-of {log} {at} (a-stop l) = blocks-at (had-at log at _ _ l)
 
 pub stop-of : {log : List ℕ} {at d : ℕ} {t : Tree} {e : Ending} → Reads log at d t e → stopFrom at (linesFrom log at) ≡ stopBehind log e
 unfolding stopHere
-stop-of {log} {at} (an-act l r) = stop-at (had log at _ _ l) ∙ stop-of r
-stop-of {log} {at} (a-loop l i k r r′) = stop-at (had log at _ _ l) ∙ (stop-of r ∙ stop-of r′)
-stop-of {log} {at} (a-done l h) = stop-at (had log at _ _ l)
-stop-of {log} {at} (a-stop l) = stop-at (had log at _ _ l)
+stop-of {log} {at} {d} (an-act l r) = stop-at (had-at log at _ _ l) ∙ stop-of r
+stop-of {log} {at} {d} (a-loop l i k r r′) = stop-at (had-at log at _ _ l) ∙ (stop-of r ∙ stop-of r′)
+stop-of {log} {at} {d} (a-done l h) = stop-at (had-at log at _ _ l)
+stop-of {log} {at} (a-stop l) = stop-at (had-at log at _ _ l)
 
 -- totals that were cut off are weighed as those of the tree
 
@@ -99,11 +105,11 @@ limited-is t p n = go (ltb 2000000000 (clocks t)) refl (ltb 1000000 (turns t)) r
         (rw m (ap (λ (x : Checked). pick (eqb n (clocks t)) x (refusal 10 p)) (rw m at done)))
 
 -- behind `stop` nothing may stand
-pub over-at : (log : List ℕ) (q : ℕ) → judgeAt log over q ≡ pick (ltb q (length log)) (wrong 6 q) right
+pub over-at : (log : List ℕ) (q : ℕ) → judgeAt log over q ≡ pick (ltb q (length log)) (wrong 19 q) right
 unfolding verdict behind ending unless
 over-at log q = go (ltb q (length log)) refl
   where
-    go : (b : Bool) → ltb q (length log) ≡ b → judgeAt log over q ≡ pick b (wrong 6 q) right
+    go : (b : Bool) → ltb q (length log) ≡ b → judgeAt log over q ≡ pick b (wrong 19 q) right
     go true e = judge-at log q over (ltb-true q (length log) e)
     go false e = judge-none log q over (ltb-false q (length log) e)
 
@@ -113,7 +119,7 @@ unfolding after answer unlessWrong innermost
 closing-is log at (closed t p q) r = absurd (let z = inside-loop r in omega arith)
 closing-is log at (stopped t p q n) r = rw (over-at log q, blocks-of r, stop-of r) (go (ltb q (length log)))
   where
-    go : (b : Bool) → pick b (refusal 6 q) (limited (totals t) p n) ≡ unlessWrong (pick b (wrong 6 q) right) (weighed t (record { place = p; number = n }))
+    go : (b : Bool) → pick b (refusal 19 q) (limited (totals t) p n) ≡ unlessWrong (pick b (wrong 19 q) right) (weighed t (record { place = p; number = n }))
     go true = refl
     go false = limited-is t p n
 closing-is log at (refused k p) r = refl
@@ -128,40 +134,34 @@ module _ (log : List ℕ) (short : length log ≤ 60000) (some : 0 < length log)
   unfolding checkOf
   check-short = rw (le-ltb 60000 (length log) short)
 
-  pub judged-first : (l : Line) → lineOf (bytesAt log 0) ≡ l → judged log ≡ unless (headFault 0 l) (judgeAt log (among 0) (nextLine log 0))
+  pub judged-first : judged log ≡ unless (placed 0 (spotOf First (bytesAt log 0))) (judgeAt log (among 0) (nextLine log 0))
   unfolding judged verdict behind
-  judged-first l e = judge-at log 0 first some ∙ rw e refl
+  judged-first = judge-at log 0 first some
 
-  headed : readAt log 0 ≡ Item Header (nextLine log 0) → lineOf (bytesAt log 0) ≡ Header → closing (length log) (answer (readBlock log (startOf log) 0)) ≡ checkOf log
-  unfolding treeOf stopOf grow stopHere startOf headFault unless
-  headed r e =
-      let h = had log 0 Header (nextLine log 0) r in
+  headed : spotOf First (bytesAt log 0) ≡ Right Header → closing (length log) (answer (readBlock log (startOf log) 0)) ≡ checkOf log
+  unfolding treeOf stopOf grow stopHere startOf placed unless
+  headed e =
+      let h : Had First log 0 Header (nextLine log 0) = record { short = short; inside = some; found = e; on = refl } in
       let next = nextLine log 0 in
       let z : 0 < next = next-pos log 0 some in
-      let f : judged log ≡ after log 0 (readBlock log next 0) = judged-first Header e ∙ bridge log next 0 short z (next-le log 0 (omega arith)) in
+      let f : judged log ≡ after log 0 (readBlock log next 0) = judged-first ∙ rw e (bridge log next 0 short z (next-le log 0 (omega arith))) in
       closing-is log next (readBlock log next 0) (derived log next 0) ∙ sym (check-short ∙ rw (f, blocks-at h, stop-at h) refl)
 
-  faulty : (l : Line) → lineOf (bytesAt log 0) ≡ l → headFault 0 l ≡ wrong 6 0 → refusal 6 0 ≡ checkOf log
-  unfolding unless unlessWrong
-  faulty l e f = sym (check-short ∙ rw (judged-first l e, f) refl)
-
-  first-by : (l : Line) → lineOf (bytesAt log 0) ≡ l → CheckedBy log (firstRead (nextLine log 0) l)
-  unfolding firstRead headFault
-  first-by Header e = headed (read-first log Header short some e) e
-  first-by (One a) e = faulty (One a) e refl
-  first-by (Loop n) e = faulty (Loop n) e refl
-  first-by Done e = faulty Done e refl
-  first-by (Stop n) e = faulty (Stop n) e refl
-  first-by (Bad k) e = faulty (Bad k) e refl
+  first-by : (f : Found) → spotOf First (bytesAt log 0) ≡ f → CheckedBy log (taken 0 (nextLine log 0) f)
+  unfolding placed unless unlessWrong
+  first-by (Right l) e = headed (e ∙ ap Right (first-header (bytesAt log 0) l e))
+  first-by (Wrong k i) e = sym (check-short ∙ rw (judged-first, e) refl)
 
 short-by : (log : List ℕ) → length log ≤ 60000 → CheckedBy log (readAt log 0)
-unfolding readAt checkOf judged judge linesOf ending unlessWrong
+unfolding readAt readIn checkOf judged judge linesOf ending unlessWrong
 short-by [] h = refl
-short-by (c ∷ s) h = let z : 0 < length (c ∷ s) = omega arith in rw (read-first (c ∷ s) (lineOf (bytesAt (c ∷ s) 0)) h z refl) (first-by (c ∷ s) h z (lineOf (bytesAt (c ∷ s) 0)) refl)
+short-by (c ∷ s) h =
+    let z : 0 < length (c ∷ s) = omega arith in
+    rw (read-some First (c ∷ s) 0 h z) (first-by (c ∷ s) h z (spotOf First (bytesAt (c ∷ s) 0)) refl)
 
 long-by : (log : List ℕ) → 60000 < length log → CheckedBy log (readAt log 0)
-unfolding checkOf
-long-by log h = rw (read-long log 0 h, lt-ltb 60000 (length log) h) refl
+unfolding checkOf readAt
+long-by log h = rw (read-long First log 0 h, lt-ltb 60000 (length log) h) refl
 
 pub checked-by : (log : List ℕ) → CheckedBy log (readAt log 0)
 checked-by log = go (ltb 60000 (length log)) refl

@@ -9,14 +9,17 @@ use lib.ListN.{length}
 use lib.Dec.{eqb, ltb}
 use Rattle.arith.specs.Pick.{pick}
 use Rattle.line.specs.declared.Act.{Act}
+use Rattle.line.specs.declared.Line.{Line}
 use Rattle.line.specs.declared.Line.the-variants.{Header, One, Loop, Done, Stop, Bad}
 use Rattle.judge.specs.declared.Reading.{Reading}
 use Rattle.judge.specs.declared.Reading.the-variants.{Item}
-use Rattle.judge.specs.Reading.{readAt}
-use Rattle.judge.specs.Judge.{right, wrong, fault}
+use Rattle.judge.specs.Reading.{standing, readIn, readAt}
+use Rattle.spot.specs.declared.Stand.the-variants.{Among}
+use Rattle.spot.proofs.Standing.{Goes, act as acts-on, opens as opened-on, closes as closes-on, ends as ends-on, goes}
+use Rattle.judge.specs.Lines.{bytesAt}
 use Rattle.judge.specs.Tree.{Tree, end, act, loop}
-use Rattle.judge.specs.Block.{Got, closed, stopped, refused, admitted, begun, begunBy, readBegun, looped, piece, before, onward, readBlock, readPart}
-use Rattle.judge.proofs.Places.{had, had-text}
+use Rattle.judge.specs.Block.{Got, closed, stopped, refused, begun, begunBy, readBegun, looped, piece, before, onward, readBlock, readPart}
+use Rattle.judge.proofs.Places.{had, had-at, had-text, from-depth, to-depth, Stands, head, inner, stands}
 use Rattle.judge.proofs.Descent.{unrolled, begun-on, got-behind, BegunBehind, Behind}
 
 -- how a block ends: the place of its `done` and the place behind it; or the place of its `stop`, the place behind it and its number
@@ -38,7 +41,7 @@ Derived log at d (refused k p) = Unit {0}
 
 -- a loop has turns
 pub turned : (log : List ℕ) (at n p : ℕ) → readAt log at ≡ Item (Loop n) p → 0 < n
-turned log at n p e = let h = had-text (had log at (Loop n) p e) .1 in omega arith
+turned log at n p e = let h = had-text (had-at log at (Loop n) p e) .1 in omega arith
 
 module _ (log : List ℕ) (at d : ℕ) where
   act-on : (a : Act) (p : ℕ) (g : Got) → readAt log at ≡ Item (One a) p → Derived log p d g → Derived log at d (before (act a) g)
@@ -60,34 +63,28 @@ module _ (log : List ℕ) (at d : ℕ) where
   body-on n p (stopped b q r m) l k a h i rec = tt
   body-on n p (refused m q) l k a h i rec = tt
 
-  read-on : (s : Reading) → readAt log at ≡ s → BegunBehind at (length log) d (begunBy at d s)
+  line-on : (l : Line) (p : ℕ) → readAt log at ≡ Item l p → Stands at d l → BegunBehind at (length log) d (begun at p l)
       → ((p e : ℕ) → at < p → p ≤ length log → Derived log p e (readBlock log p e))
-      → Derived log at d (onward (λ p. readBlock log p d) (piece (readBlock log) d (begunBy at d s)))
-  unfolding begunBy begun admitted fault piece onward
+      → Derived log at d (onward (λ p. readBlock log p d) (piece (readBlock log) d (begun at p l)))
+  unfolding begun piece onward
+  line-on Header p l (head z) b rec = tt
+  line-on (One a) p l (inner z acts-on) b rec = act-on a p (readBlock log p d) l (rec p d (b .0) (b .1))
+  line-on (Loop n) p l (inner z (opened-on k)) b rec =
+      body-on n p (readBlock log p (d + 1)) l k (b .0) (rec p (d + 1) (b .0) (b .1)) (got-behind log p (d + 1)) (λ p i j. rec p d i j)
+  line-on Done p l (inner z (closes-on k)) b rec = a-done l k
+  line-on (Stop n) p l (inner z (ends-on k)) b rec = rw k (a-stop l)
+  line-on (Bad k) p l w b rec = tt
+
+  read-on : (s : Reading) → readIn (standing at d) log at ≡ s → BegunBehind at (length log) d (begunBy at s)
+      → ((p e : ℕ) → at < p → p ≤ length log → Derived log p e (readBlock log p e))
+      → Derived log at d (onward (λ p. readBlock log p d) (piece (readBlock log) d (begunBy at s)))
+  unfolding begunBy piece onward
   read-on (Reading.Refused k p) l b rec = tt
-  read-on (Item Header p) l b rec = tt
-  read-on (Item (One a) p) l b rec = act-on a p (readBlock log p d) l (rec p d (b .0) (b .1))
-  read-on (Item (Loop n) p) l b rec = go (ltb d 8) refl b
-    where
-      go : (z : Bool) → ltb d 8 ≡ z → BegunBehind at (length log) d (admitted at p (Loop n) (pick z right (wrong 7 at)))
-          → Derived log at d (onward (λ p. readBlock log p d) (piece (readBlock log) d (admitted at p (Loop n) (pick z right (wrong 7 at)))))
-      go true q b = body-on n p (readBlock log p (d + 1)) l (b .2) (b .0) (rec p (d + 1) (b .0) (b .1)) (got-behind log p (d + 1)) (λ p i j. rec p d i j)
-      go false q b = tt
-  read-on (Item Done p) l b rec = go (eqb d 0) refl
-    where
-      go : (z : Bool) → eqb d 0 ≡ z → Derived log at d (onward (λ p. readBlock log p d) (piece (readBlock log) d (admitted at p Done (pick z (wrong 8 at) right))))
-      go true q = tt
-      go false q = let z = eqb-false d 0 q in (let y : 0 < d = omega arith in a-done l y)
-  read-on (Item (Stop n) p) l b rec = go (eqb d 0) refl
-    where
-      go : (z : Bool) → eqb d 0 ≡ z → Derived log at d (onward (λ p. readBlock log p d) (piece (readBlock log) d (admitted at p (Stop n) (pick z right (wrong 8 at)))))
-      go true q = rw (eqb-true d 0 q) (a-stop l)
-      go false q = tt
-  read-on (Item (Bad k) p) l b rec = tt
+  read-on (Item m p) l b rec = line-on m p (from-depth log at d m p l) (stands at d (bytesAt log at) m (had (standing at d) log at m p l .found)) b rec
 
   step-on : ((p e : ℕ) → at < p → p ≤ length log → Derived log p e (readBlock log p e)) → Derived log at d (readBlock log at d)
   unfolding readPart readBegun
-  step-on rec = rw (unrolled log at d) (read-on (readAt log at) refl (begun-on log at d) rec)
+  step-on rec = rw (unrolled log at d) (read-on (readIn (standing at d) log at) refl (begun-on log at d) rec)
 
 derived-in : (f : ℕ) (log : List ℕ) (at d : ℕ) → length log ≤ at + f → Derived log at d (readBlock log at d)
 derived-in zero log at d h = step-on log at d (λ p e i j. absurd (omega arith))
@@ -109,13 +106,13 @@ before-got f t (closes p q) = refl
 before-got f t (stops p q n) = refl
 
 pub block-of : {log : List ℕ} {at d : ℕ} {t : Tree} {e : Ending} → Reads log at d t e → readBlock log at d ≡ got t e
-unfolding readPart readBegun begunBy begun admitted fault piece looped onward
+unfolding readPart readBegun begunBy begun piece looped onward
 block-of {log} {at} {d} {t} {e} (an-act {p = p} {a = a} {t = u} l r) =
-    unrolled log at d ∙ rw l (ap (before (act a)) (block-of r) ∙ before-got (act a) u e)
-block-of {log} {at} {d} {t} {e} (a-loop {n = n} {b = b} {t = u} l i k r r′) =
-    unrolled log at d ∙ rw (l, lt-ltb d 8 k, block-of r) (ap (before (loop n b)) (block-of r′) ∙ before-got (loop n b) u e)
-block-of {log} {at} {d} (a-done l h) = unrolled log at d ∙ rw (l, ne-eqb d 0 (λ z. omega arith)) refl
-block-of {log} {at} (a-stop l) = unrolled log at 0 ∙ rw l refl
+    unrolled log at d ∙ rw (to-depth log at d (One a) p acts-on l) (ap (before (act a)) (block-of r) ∙ before-got (act a) u e)
+block-of {log} {at} {d} {t} {e} (a-loop {n = n} {p = p} {b = b} {t = u} l i k r r′) =
+    unrolled log at d ∙ rw (to-depth log at d (Loop n) p (opened-on k) l, block-of r) (ap (before (loop n b)) (block-of r′) ∙ before-got (loop n b) u e)
+block-of {log} {at} {d} (a-done {p = p} l h) = unrolled log at d ∙ rw (to-depth log at d Done p (closes-on h) l) refl
+block-of {log} {at} (a-stop {p = p} {n = n} l) = unrolled log at 0 ∙ rw (to-depth log at 0 (Stop n) p (ends-on refl) l) refl
 
 -- a block that a `done` closes is inside a loop
 pub inside-loop : {log : List ℕ} {at d p q : ℕ} {t : Tree} → Reads log at d t (closes p q) → 0 < d

@@ -21,11 +21,13 @@ use Rattle.judge.specs.declared.Part.{Part}
 use Rattle.judge.specs.declared.Part.the-variants.{Acts, Close, Halt}
 use Rattle.judge.specs.declared.Block.{Block}
 use Rattle.judge.specs.declared.Block.the-variants.{Closed, Stopped}
-use Rattle.judge.specs.Reading.{readAt}
-use Rattle.judge.specs.Judge.{right, wrong, fault}
+use Rattle.judge.specs.Lines.{bytesAt}
+use Rattle.judge.specs.Reading.{standing, readIn}
+use Rattle.spot.specs.declared.Stand.the-variants.{Among}
+use Rattle.spot.proofs.Standing.{Goes, act as acts-on, opens as opened-on, closes as closes-on, ends as ends-on, goes}
 use Rattle.judge.specs.Tree.{Tree, act, loop, acts, actClocks, clocks, turns}
-use Rattle.judge.specs.Block.{Got, closed, stopped, refused, Piece, one, many, shut, halt, bad, Begun, whole, opens, admitted, begun, begunBy, readBegun, looped, piece, before, onward, blockIn, readBlock, readPart, cut, noTotals, sumOf, Small, totals, answer, partAnswer, stepAnswer, partEnd, SmallBlock, loopPart}
-use Rattle.judge.proofs.Places.{HadIn, had-in, next-pos, next-le}
+use Rattle.judge.specs.Block.{Got, closed, stopped, refused, Piece, one, many, shut, halt, bad, Begun, whole, opens, begun, begunBy, readBegun, looped, piece, before, onward, blockIn, readBlock, readPart, cut, noTotals, sumOf, Small, totals, answer, partAnswer, stepAnswer, partEnd, SmallBlock, loopPart}
+use Rattle.judge.proofs.Places.{HadIn, had-in, Stands, head, inner, stands, next-pos, next-le}
 use Rattle.judge.proofs.Totalling.{sum-sum, none-sum, small-sum, small-cut, act-sum, loop-sum, times-totals}
 
 -- where a block ends, and that the count of lines does not matter
@@ -54,26 +56,13 @@ looped-behind at next most n (closed b p q) h r = (omega arith, r .2)
 looped-behind at next most n (stopped b p q m) h r = tt
 looped-behind at next most n (refused k p) h r = tt
 
-begun-behind : (at next d most : ℕ) (l : Line) → at < next → next ≤ most → BegunBehind at most d (begun at next d l)
-unfolding begun admitted fault
-begun-behind at next d most Header h k = tt
-begun-behind at next d most (One a) h k = (h, k)
-begun-behind at next d most (Loop n) h k = go (ltb d 8) refl
-  where
-    go : (b : Bool) → ltb d 8 ≡ b → BegunBehind at most d (admitted at next (Loop n) (pick b right (wrong 7 at)))
-    go true e = (h, k, ltb-true d 8 e)
-    go false e = tt
-begun-behind at next d most Done h k = go (eqb d 0)
-  where
-    go : (b : Bool) → BegunBehind at most d (admitted at next Done (pick b (wrong 8 at) right))
-    go true = tt
-    go false = (omega arith, h, k)
-begun-behind at next d most (Stop n) h k = go (eqb d 0)
-  where
-    go : (b : Bool) → BegunBehind at most d (admitted at next (Stop n) (pick b right (wrong 8 at)))
-    go true = tt
-    go false = tt
-begun-behind at next d most (Bad m) h k = tt
+begun-behind : (at next d most : ℕ) (l : Line) → at < next → next ≤ most → Stands at d l → BegunBehind at most d (begun at next l)
+unfolding begun
+begun-behind at next d most l h k (head z) = tt
+begun-behind at next d most l h k (inner z acts-on) = (h, k)
+begun-behind at next d most l h k (inner z (opened-on e)) = (h, k, e)
+begun-behind at next d most l h k (inner z (closes-on e)) = (omega arith, h, k)
+begun-behind at next d most l h k (inner z (ends-on e)) = tt
 
 piece-behind : (rec : ℕ → ℕ → Got) (at d most : ℕ) (s : Begun) → BegunBehind at most d s → ((p : ℕ) → Behind p most (rec p (d + 1))) → PieceBehind at most (piece rec d s)
 unfolding piece
@@ -94,16 +83,17 @@ onward-behind rec at most (shut p q) h r = h
 onward-behind rec at most (halt p q n) h r = tt
 onward-behind rec at most (bad k p) h r = tt
 
-begun-by-behind : (log : List ℕ) (at d : ℕ) (r : Reading) → HadIn log at r → BegunBehind at (length log) d (begunBy at d r)
+begun-by-behind : (log : List ℕ) (at d : ℕ) (r : Reading) → HadIn (standing at d) log at r → BegunBehind at (length log) d (begunBy at r)
 unfolding begunBy
 begun-by-behind log at d (Item l next) h =
     begun-behind at next d (length log) l (rw (h .on) (next-pos log at (h .inside))) (rw (h .on) (let z : at ≤ length log = omega (arith, h .inside) in next-le log at z))
+    (stands at d (bytesAt log at) l (h .found))
 begun-by-behind log at d (Reading.Refused k p) h = tt
 
 -- every line that is read leads on
 pub begun-on : (log : List ℕ) (at d : ℕ) → BegunBehind at (length log) d (readBegun log at d)
 unfolding readBegun
-begun-on log at d = begun-by-behind log at d (readAt log at) (had-in log at)
+begun-on log at d = begun-by-behind log at d (readIn (standing at d) log at) (had-in (standing at d) log at)
 
 in-behind : (f : ℕ) (log : List ℕ) (at d : ℕ) → Behind at (length log) (blockIn f log at d)
 unfolding blockIn

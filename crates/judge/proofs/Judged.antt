@@ -4,7 +4,7 @@ use mathlib.Core.List.{List, [], _∷_}
 use mathlib.Core.Bool.{Bool, true, false}
 use Prim.Native.Nat.{ℕ, zero, suc, _+_, _-_, _≤_, _<_}
 use native.Mathlib.Omega.{arith}
-use borrow.Author.Tests.{ltb-true, ltb-false, ne-eqb}
+use borrow.Author.Tests.{eq-eqb, ltb-true, ltb-false, ne-eqb}
 use lib.ListN.{length, take, drop, length-drop, drop-of-length-le}
 use lib.Seq.{drop-drop}
 use lib.Dec.{eqb, ltb}
@@ -13,11 +13,17 @@ use Rattle.line.specs.declared.Line.{Line}
 use Rattle.line.specs.declared.Line.the-variants.{Header, One, Loop, Done, Stop, Bad}
 use Rattle.line.specs.Said.{lineOf}
 use Rattle.judge.specs.Lines.{onto, linesOf, lineLen, bytesAt, nextLine}
-use Rattle.judge.specs.Reading.{laterRead}
-use Rattle.judge.specs.Judge.{Verdict, right, wrong, Stand, among, over, fault, verdict, leaves, behind, ending, unless, judge}
+use Rattle.judge.specs.Reading.{standing, readIn, taken}
+use Rattle.judge.specs.Judge.{Verdict, right, wrong, Stand, among, over, placed, verdict, leaves, behind, ending, unless, judge}
 use Rattle.judge.specs.Tree.{Tree, act, loop}
-use Rattle.judge.specs.Block.{Got, closed, stopped, refused, Begun, admitted, begun, begunBy, readBegun, looped, piece, before, onward, readBlock, readPart}
-use Rattle.judge.proofs.Places.{bytes-long, read-later, read-none}
+use Rattle.judge.specs.Block.{whole, bad, Got, closed, stopped, refused, Begun, begun, begunBy, readBegun, looped, piece, before, onward, readBlock, readPart}
+use Rattle.judge.proofs.Places.{bytes-long, read-some, read-none, standing-on}
+use Rattle.spot.specs.declared.Stand.{Stand as Standing}
+use Rattle.spot.specs.declared.Stand.the-variants.{Among}
+use Rattle.spot.specs.declared.Found.{Found}
+use Rattle.spot.specs.declared.Found.the-variants.{Right, Wrong}
+use Rattle.spot.specs.Fault.{spotOf}
+use Rattle.spot.proofs.Standing.{Goes, act as acts-on, opens as opened-on, closes as closes-on, ends as ends-on, goes, told}
 use Rattle.judge.proofs.Descent.{unrolled, begun-on, got-behind, BegunBehind, Behind}
 
 -- the first line of a text, and the lines behind it
@@ -76,21 +82,7 @@ after-before log d f (closed t p q) = refl
 after-before log d f (stopped t p q n) = refl
 after-before log d f (refused k p) = refl
 
--- a line behind the first is begun as it says
-later-begun : (at next d : ℕ) (l : Line) → begunBy at d (laterRead at next l) ≡ begun at next d l
-unfolding begunBy laterRead begun admitted fault
-later-begun at next d Header = refl
-later-begun at next d (One a) = refl
-later-begun at next d (Loop n) = refl
-later-begun at next d Done = refl
-later-begun at next d (Stop n) = refl
-later-begun at next d (Bad k) = refl
-
 module _ (log : List ℕ) (short : length log ≤ 60000) (at d : ℕ) where
-  -- the line at `at` says l
-  told : Line → Verdict
-  told l = unless (fault at d l) (judgeAt log (leaves d l) (nextLine log at))
-
   Onward : Begun → Verdict
   Onward s = after log d (onward (λ p. readBlock log p d) (piece (readBlock log) d s))
 
@@ -105,46 +97,44 @@ module _ (log : List ℕ) (short : length log ≤ 60000) (at d : ℕ) where
       rw (ne-eqb (d + 1) 0 (λ z. omega arith))
   body-told n (refused k p) a h rec = refl
 
-  line-told : (l : Line) → BegunBehind at (length log) d (begun at (nextLine log at) d l)
+  line-told : (l : Line) → Goes d l → BegunBehind at (length log) d (begun at (nextLine log at) l)
       → ((p e : ℕ) → at < p → p ≤ length log → judgeAt log (among e) p ≡ after log e (readBlock log p e))
-      → told l ≡ Onward (begun at (nextLine log at) d l)
-  unfolding told Onward fault leaves begun admitted piece onward after unless
-  line-told Header b rec = refl
-  line-told (One a) b rec = rec (nextLine log at) d (b .0) (b .1) ∙ after-before log d (act a) (readBlock log (nextLine log at) d)
-  line-told (Loop n) b rec = go (ltb d 8) b
-    where
-      go : (z : Bool) → BegunBehind at (length log) d (admitted at (nextLine log at) (Loop n) (pick z right (wrong 7 at)))
-          → unless (pick z right (wrong 7 at)) (judgeAt log (among (d + 1)) (nextLine log at)) ≡ Onward (admitted at (nextLine log at) (Loop n) (pick z right (wrong 7 at)))
-      go true b = rec (nextLine log at) (d + 1) (b .0) (b .1) ∙ body-told n (readBlock log (nextLine log at) (d + 1)) (b .0) (got-behind log (nextLine log at) (d + 1)) (λ p i j. rec p d i j)
-      go false b = refl
-  line-told Done b rec = go (eqb d 0)
-    where
-      go : (z : Bool) → unless (pick z (wrong 8 at) right) (judgeAt log (among (d - 1)) (nextLine log at)) ≡ Onward (admitted at (nextLine log at) Done (pick z (wrong 8 at) right))
-      go true = refl
-      go false = refl
-  line-told (Stop n) b rec = go (eqb d 0) refl
-    where
-      go : (z : Bool) → eqb d 0 ≡ z → unless (pick z right (wrong 8 at)) (judgeAt log over (nextLine log at)) ≡ Onward (admitted at (nextLine log at) (Stop n) (pick z right (wrong 8 at)))
-      go true e = rw e
-      go false e = refl
-  line-told (Bad k) b rec = refl
+      → judgeAt log (leaves d l) (nextLine log at) ≡ Onward (begun at (nextLine log at) l)
+  unfolding Onward leaves begun piece onward after
+  line-told (One a) acts-on b rec = rec (nextLine log at) d (b .0) (b .1) ∙ after-before log d (act a) (readBlock log (nextLine log at) d)
+  line-told (Loop n) (opened-on k) b rec =
+      rec (nextLine log at) (d + 1) (b .0) (b .1) ∙ body-told n (readBlock log (nextLine log at) (d + 1)) (b .0) (got-behind log (nextLine log at) (d + 1)) (λ p i j. rec p d i j)
+  line-told Done (closes-on k) b rec = refl
+  line-told (Stop n) (ends-on k) b rec = rw (eq-eqb d 0 k)
 
-  -- reading at `at` begins what the line there says
-  begun-at : 0 < at → at < length log → readBegun log at d ≡ begun at (nextLine log at) d (lineOf (bytesAt log at))
+  -- what is found of the line at `at`
+  found-told : (f : Found) → spotOf (Among d) (bytesAt log at) ≡ f → BegunBehind at (length log) d (begunBy at (taken at (nextLine log at) f))
+      → ((p e : ℕ) → at < p → p ≤ length log → judgeAt log (among e) p ≡ after log e (readBlock log p e))
+      → unless (placed at f) (judgeAt log (leaves d (lineOf (bytesAt log at))) (nextLine log at)) ≡ Onward (begunBy at (taken at (nextLine log at) f))
+  unfolding placed unless begunBy Onward piece onward after
+  found-told (Right l) e b rec =
+      rw (told (Among d) (bytesAt log at) l e .says) (line-told l (goes d (bytesAt log at) l e) b rec)
+  found-told (Wrong k i) e b rec = wrong-told k (at + i)
+    where
+      wrong-told : (k p : ℕ) → wrong k p ≡ Onward (whole (bad k p))
+      wrong-told k p = refl
+
+  -- reading at `at` begins what is found of the line there
+  begun-at : 0 < at → at < length log → readBegun log at d ≡ begunBy at (taken at (nextLine log at) (spotOf (Among d) (bytesAt log at)))
   unfolding readBegun
-  begun-at z h = ap (begunBy at d) (read-later log at (lineOf (bytesAt log at)) short z h refl) ∙ later-begun at (nextLine log at) d (lineOf (bytesAt log at))
+  begun-at z h = ap (λ (st : Standing). begunBy at (readIn st log at)) (standing-on at d z) ∙ ap (begunBy at) (read-some (Among d) log at short h)
 
   -- at the log's end there is none
   none-told : at ≤ length log → length log ≤ at → judgeAt log (among d) at ≡ Onward (readBegun log at d)
   unfolding Onward readBegun begunBy piece onward after ending
-  none-told h w = rw (read-none log at short w) (judge-none log at (among d) w ∙ ap (wrong 6) (omega arith))
+  none-told h w = rw (read-none (standing at d) log at short w) (judge-none log at (among d) w ∙ ap (wrong 18) (omega arith))
 
   some-told : 0 < at → at < length log → ((p e : ℕ) → at < p → p ≤ length log → judgeAt log (among e) p ≡ after log e (readBlock log p e))
       → judgeAt log (among d) at ≡ Onward (readBegun log at d)
-  unfolding verdict behind told
+  unfolding verdict behind
   some-told z w rec =
       let s = begun-at z w in
-      rw s (judge-at log at (among d) w ∙ line-told (lineOf (bytesAt log at)) (rw s at (begun-on log at d)) rec)
+      rw s (judge-at log at (among d) w ∙ found-told (spotOf (Among d) (bytesAt log at)) refl (rw s at (begun-on log at d)) rec)
 
   at-told : 0 < at → at ≤ length log → ((p e : ℕ) → at < p → p ≤ length log → judgeAt log (among e) p ≡ after log e (readBlock log p e))
       → judgeAt log (among d) at ≡ Onward (readBegun log at d)

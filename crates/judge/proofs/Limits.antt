@@ -17,7 +17,13 @@ use Rattle.line.specs.Said.{lineOf}
 use Rattle.line.proofs.Lines.{bad-number}
 use Rattle.judge.specs.declared.Checked.{Checked}
 use Rattle.judge.specs.Lines.{onto, linesOf}
-use Rattle.judge.specs.Judge.{Verdict, right, wrong, Stand, first, among, over, headFault, fault, verdict, behind, ending, unless, judge, judged}
+use Rattle.spot.specs.declared.Stand.{Stand as Standing}
+use Rattle.spot.specs.declared.Stand.the-variants.{First, Among}
+use Rattle.spot.specs.declared.Found.{Found}
+use Rattle.spot.specs.declared.Found.the-variants.{Right, Wrong}
+use Rattle.spot.specs.Fault.{spotOf}
+use Rattle.spot.proofs.Standing.{bounded}
+use Rattle.judge.specs.Judge.{Verdict, right, wrong, Stand, first, among, over, placed, verdict, behind, ending, unless, judge, judged}
 use Rattle.judge.specs.Tree.{Tree, clocks, turns}
 use Rattle.judge.specs.Whole.{treeOf, Stopping, stopHere, stopFrom, stopOf, refusal, passed, heavy, weighed, unlessWrong, checkOf}
 
@@ -44,41 +50,28 @@ total-lines (c ∷ s) = go (eqb c 10) (total-lines s)
 -- a fault's number is in the table, and its place is at most n
 abbrev UpTo : ℕ → Verdict → Type 0
 UpTo n right = Unit {0}
-UpTo n (wrong k p) = (k ≤ 10) × (p ≤ n)
+UpTo n (wrong k p) = (k ≤ 19) × (p ≤ n)
 
-module _ (n at : ℕ) (h : at ≤ n) where
-  six : (6 ≤ 10) × (at ≤ n)
-  six = (omega arith, h)
+placed-to : (n at : ℕ) (st : Standing) (l : List ℕ) → at + length l ≤ n → (f : Found) → spotOf st l ≡ f → UpTo n (placed at f)
+unfolding placed
+placed-to n at st l h (Right m) e = tt
+placed-to n at st l h (Wrong k i) e =
+    let b = bounded st l k i e in
+    let u = b .high in
+    let p = b .place in
+    (omega arith, omega arith)
 
-  head-to : (l : Line) → UpTo n (headFault at l)
-  unfolding headFault
-  head-to Header = tt
-  head-to (One a) = six
-  head-to (Loop m) = six
-  head-to Done = six
-  head-to (Stop m) = six
-  head-to (Bad k) = six
+verdict-to : (n at : ℕ) (s : Stand) (l : List ℕ) → at + length l ≤ n → UpTo n (verdict s at l)
+unfolding verdict
+verdict-to n at first l h = placed-to n at First l h (spotOf First l) refl
+verdict-to n at (among d) l h = placed-to n at (Among d) l h (spotOf (Among d) l) refl
+verdict-to n at over l h = (omega arith, omega arith)
 
-  fault-to : (d : ℕ) (s : List ℕ) (l : Line) → lineOf s ≡ l → UpTo n (fault at d l)
-  unfolding fault
-  fault-to d s Header e = six
-  fault-to d s (One a) e = tt
-  fault-to d s (Loop m) e = pick-both (UpTo n) (ltb d 8) tt (omega arith, h)
-  fault-to d s Done e = pick-both (UpTo n) (eqb d 0) (omega arith, h) tt
-  fault-to d s (Stop m) e = pick-both (UpTo n) (eqb d 0) tt (omega arith, h)
-  fault-to d s (Bad k) e = (⊎-elim (λ h. omega arith) (λ h. omega arith) (bad-number s k e), h)
-
-  verdict-to : (s : Stand) (l : List ℕ) → UpTo n (verdict s at l)
-  unfolding verdict
-  verdict-to first l = head-to (lineOf l)
-  verdict-to (among d) l = fault-to d l (lineOf l) refl
-  verdict-to over l = six
-
-  ending-to : (s : Stand) → UpTo n (ending s at)
-  unfolding ending
-  ending-to first = six
-  ending-to (among d) = six
-  ending-to over = tt
+ending-to : (n at : ℕ) → at ≤ n → (s : Stand) → UpTo n (ending s at)
+unfolding ending
+ending-to n at h first = (omega arith, h)
+ending-to n at h (among d) = (omega arith, h)
+ending-to n at h over = tt
 
 unless-to : (n : ℕ) (v w : Verdict) → UpTo n v → UpTo n w → UpTo n (unless v w)
 unfolding unless
@@ -89,7 +82,7 @@ judge-to : (n : ℕ) (ls : List (List ℕ)) (s : Stand) (at : ℕ) → at + tota
 unfolding judge
 judge-to n [] s at h = ending-to n at (omega arith) s
 judge-to n (l ∷ ls) s at h =
-    unless-to n (verdict s at l) (judge (behind s l) (at + length l) ls) (verdict-to n at (omega arith) s l)
+    unless-to n (verdict s at l) (judge (behind s l) (at + length l) ls) (verdict-to n at s l (omega arith))
     (judge-to n ls (behind s l) (at + length l) (omega arith))
 
 -- the place of the `stop` line is, too
@@ -111,11 +104,11 @@ stop-to n (l ∷ ls) at h =
 
 -- an answer within the limits
 pub record Limited (c : Checked) : Type 0 where
-  pub number : c .number ≤ 10
+  pub number : c .number ≤ 19
   pub place : c .place ≤ 60000
   pub clocks : c .clocks ≤ 2000000000
 
-refusal-in : (k p : ℕ) → k ≤ 10 → p ≤ 60000 → Limited (refusal k p)
+refusal-in : (k p : ℕ) → k ≤ 19 → p ≤ 60000 → Limited (refusal k p)
 refusal-in k p n h = record { number = n; place = h; clocks = omega arith }
 
 light : (t : Tree) → heavy t ≡ false → clocks t ≤ 2000000000

@@ -1,11 +1,11 @@
 -- Laws of places: where a line ends, and what reading one there knows. Assumes nothing.
-use mathlib.Core.Path.{_≡_, refl, ap, sym, _∙_}
+use mathlib.Core.Path.{_≡_, refl, ap, sym, _∙_, subst}
 use mathlib.Core.List.{List, [], _∷_, _++_}
 use mathlib.Core.Bool.{Bool, true, false}
 use Prim.Native.Nat.{ℕ, suc, _+_, _-_, _≤_, _<_}
 use native.Mathlib.Numerals.{add-one}
 use native.Mathlib.Omega.{arith}
-use borrow.Author.Tests.{eq-eqb, ne-eqb, lt-ltb, le-ltb, ltb-true, ltb-false}
+use borrow.Author.Tests.{eq-eqb, ne-eqb, eqb-true, eqb-false, lt-ltb, le-ltb, ltb-true, ltb-false}
 use lib.ListN.{length, getD, take, drop, length-drop, length-take, take-append-drop, drop-of-length-le}
 use lib.Seq.{drop-cons, drop-drop}
 use lib.Dec.{ltb, eqb}
@@ -18,8 +18,15 @@ use Rattle.line.proofs.Lines.{read-printed}
 use Rattle.judge.specs.declared.Reading.{Reading}
 use Rattle.judge.specs.declared.Reading.the-variants.{Item, Refused}
 use Rattle.judge.specs.Lines.{lineLen, bytesAt, nextLine}
-use Rattle.judge.specs.Judge.{headFault}
-use Rattle.judge.specs.Reading.{firstRead, laterRead, lineRead, readAt}
+use Rattle.judge.specs.Reading.{taken, Reaches, standing, readIn, readAt}
+use Rattle.arith.proofs.Picks.{pick-each}
+use Rattle.spot.specs.declared.Stand.{Stand}
+use Rattle.spot.specs.declared.Found.{Found}
+use Rattle.spot.specs.declared.Found.the-variants.{Right, Wrong}
+use Rattle.spot.specs.Fault.{spotOf}
+use Rattle.spot.proofs.Laws.{right-line}
+use Rattle.spot.specs.declared.Stand.the-variants.{First, Among, Alone}
+use Rattle.spot.proofs.Standing.{told, tell, bounded, Goes, act as acts-on, opens as opened-on, closes as closes-on, ends as ends-on, goes, goes-may, first-header, alone}
 
 -- the length of a line
 
@@ -69,82 +76,121 @@ module _ (log : List ℕ) (i : ℕ) where
 
 -- reading
 
--- what `read` answers behind its two tests, from the code's line
-pub read-is : (log : List ℕ) (at e : ℕ) (l : Line) → length log ≤ 60000 → at < length log → e ≡ at + lineLen (drop at log)
-    → l ≡ lineOf (take (e - at) (drop at log)) → lineRead at e l ≡ readAt log at
-unfolding readAt nextLine bytesAt
-read-is log at e l h k he hl =
+-- what `read` answers behind its two tests, from what the code finds of the line
+pub read-is : (st : Stand) (log : List ℕ) (at e : ℕ) (f : Found) → length log ≤ 60000 → at < length log → e ≡ at + lineLen (drop at log)
+    → f ≡ spotOf st (take (e - at) (drop at log)) → taken at e f ≡ readIn st log at
+unfolding readIn nextLine bytesAt
+read-is st log at e f h k he hf =
     let q : e - at ≡ lineLen (drop at log) = omega arith in
-    rw (le-ltb 60000 (length log) h, lt-ltb at (length log) k, hl, q, he)
+    rw (le-ltb 60000 (length log) h, lt-ltb at (length log) k, hf, q, he)
+
+-- and its place is in the log
+pub read-reaches : (st : Stand) (log : List ℕ) (at e : ℕ) (f : Found) → length log ≤ 60000 → at < length log → e ≡ at + lineLen (drop at log)
+    → f ≡ spotOf st (take (e - at) (drop at log)) → Reaches at 60000 f
+read-reaches st log at e (Right l) h k he hf = tt
+read-reaches st log at e (Wrong n i) h k he hf =
+    let b = bounded st (take (e - at) (drop at log)) n i (sym hf) .place in
+    let u = len-le (drop at log) in
+    omega (arith, length-take (e - at) (drop at log), length-drop at log)
 
 -- what is known of an item that was read at a place
-pub record Had (log : List ℕ) (at : ℕ) (l : Line) (next : ℕ) : Type 0 where
+pub record Had (st : Stand) (log : List ℕ) (at : ℕ) (l : Line) (next : ℕ) : Type 0 where
   pub short : length log ≤ 60000
   pub inside : at < length log
-  pub says : lineOf (bytesAt log at) ≡ l
+  pub found : spotOf st (bytesAt log at) ≡ Right l
   pub on : next ≡ nextLine log at
-  pub fair : (k : ℕ) → l ≡ Bad k → ⊥
 
-abbrev pub HadIn : List ℕ → ℕ → Reading → Type 0
-HadIn log at (Item l next) = Had log at l next
-HadIn log at (Refused k p) = Unit {0}
+abbrev pub HadIn : Stand → List ℕ → ℕ → Reading → Type 0
+HadIn st log at (Item l next) = Had st log at l next
+HadIn st log at (Refused k p) = Unit {0}
 
-had-first : (log : List ℕ) (at : ℕ) (l : Line) → length log ≤ 60000 → at < length log → lineOf (bytesAt log at) ≡ l → HadIn log at (firstRead (nextLine log at) l)
-unfolding firstRead headFault
-had-first log at Header s h e = record { short = s; inside = h; says = e; on = refl; fair = λ k q. let z : _≡_ {A = ℕ} 0 1 = cc in omega arith }
-had-first log at (One a) s h e = tt
-had-first log at (Loop n) s h e = tt
-had-first log at Done s h e = tt
-had-first log at (Stop n) s h e = tt
-had-first log at (Bad k) s h e = tt
+had-taken : (st : Stand) (log : List ℕ) (at : ℕ) (f : Found) → length log ≤ 60000 → at < length log → spotOf st (bytesAt log at) ≡ f
+    → HadIn st log at (taken at (nextLine log at) f)
+had-taken st log at (Right l) s h e = record { short = s; inside = h; found = e; on = refl }
+had-taken st log at (Wrong k i) s h e = tt
 
-had-later : (log : List ℕ) (at : ℕ) (l : Line) → length log ≤ 60000 → at < length log → lineOf (bytesAt log at) ≡ l → HadIn log at (laterRead at (nextLine log at) l)
-unfolding laterRead
-had-later log at Header s h e = tt
-had-later log at (One a) s h e = record { short = s; inside = h; says = e; on = refl; fair = λ k q. let z : _≡_ {A = ℕ} 0 1 = cc in omega arith }
-had-later log at (Loop n) s h e = record { short = s; inside = h; says = e; on = refl; fair = λ k q. let z : _≡_ {A = ℕ} 0 1 = cc in omega arith }
-had-later log at Done s h e = record { short = s; inside = h; says = e; on = refl; fair = λ k q. let z : _≡_ {A = ℕ} 0 1 = cc in omega arith }
-had-later log at (Stop n) s h e = record { short = s; inside = h; says = e; on = refl; fair = λ k q. let z : _≡_ {A = ℕ} 0 1 = cc in omega arith }
-had-later log at (Bad k) s h e = tt
+pub had-in : (st : Stand) (log : List ℕ) (at : ℕ) → HadIn st log at (readIn st log at)
+unfolding readIn
+had-in st log at =
+    pick-each (HadIn st log at) (ltb 60000 (length log)) (λ e. tt) λ e.
+    pick-each (HadIn st log at) (ltb at (length log))
+    (λ h. had-taken st log at (spotOf st (bytesAt log at)) (ltb-false 60000 (length log) e) (ltb-true at (length log) h) refl) (λ h. tt)
 
-pub had-in : (log : List ℕ) (at : ℕ) → HadIn log at (readAt log at)
-unfolding readAt lineRead
-had-in log at = long (ltb 60000 (length log)) refl
+pub had : (st : Stand) (log : List ℕ) (at : ℕ) (l : Line) (next : ℕ) → readIn st log at ≡ Item l next → Had st log at l next
+had st log at l next e = rw e at (had-in st log at)
+
+module _ {st : Stand} {log : List ℕ} {at : ℕ} {l : Line} {next : ℕ} (h : Had st log at l next) where
+  pub had-says : lineOf (bytesAt log at) ≡ l
+  had-says = told st (bytesAt log at) l (h .found) .says
+
+  -- the bytes of an item are its text
+  pub had-text : (bytesAt log at ≡ lineText l) × Printable l
+  had-text =
+      let r = right-line st (bytesAt log at) l (h .found) in
+      (r .is, r .within)
+
+-- reading
+module _ (st : Stand) (log : List ℕ) (at : ℕ) (s : length log ≤ 60000) where
+  pub read-some : at < length log → readIn st log at ≡ taken at (nextLine log at) (spotOf st (bytesAt log at))
+  unfolding readIn
+  read-some h = rw (le-ltb 60000 (length log) s, lt-ltb at (length log) h)
+
+  pub read-none : length log ≤ at → readIn st log at ≡ Refused 18 (length log)
+  unfolding readIn
+  read-none h = rw (le-ltb 60000 (length log) s, le-ltb at (length log) h)
+
+pub read-long : (st : Stand) (log : List ℕ) (at : ℕ) → 60000 < length log → readIn st log at ≡ Refused 5 0
+unfolding readIn
+read-long st log at h = rw (lt-ltb 60000 (length log) h)
+
+-- an item at some depth is one where no depth is known, and the other way round where it may stand
+
+item-in : (st : Stand) (log : List ℕ) (at : ℕ) (l : Line) (next : ℕ) → length log ≤ 60000 → at < length log → next ≡ nextLine log at
+    → spotOf st (bytesAt log at) ≡ Right l → readIn st log at ≡ Item l next
+item-in st log at l next s h n e = read-some st log at s h ∙ (ap (taken at (nextLine log at)) e ∙ ap (λ (x : ℕ). Item l x) (sym n))
+
+pub standing-on : (at d : ℕ) → 0 < at → standing at d ≡ Among d
+unfolding standing
+standing-on at d z = rw (ne-eqb at 0 (λ q. omega arith))
+
+-- a line that is right where it stands: `log=1` at the start of the log, or one that may stand at that depth
+pub data Stands (at d : ℕ) : Line → Type 0 where
+  head : at ≡ 0 → Stands at d Header
+  inner : {l : Line} → 0 < at → Goes d l → Stands at d l
+
+pub stands : (at d : ℕ) (s : List ℕ) (l : Line) → spotOf (standing at d) s ≡ Right l → Stands at d l
+unfolding standing
+stands at d s l e = go (eqb at 0) refl e
   where
-    there : (b : Bool) → length log ≤ 60000 → at < length log → HadIn log at (pick b (firstRead (nextLine log at) (lineOf (bytesAt log at))) (laterRead at (nextLine log at) (lineOf (bytesAt log at))))
-    there true s h = had-first log at (lineOf (bytesAt log at)) s h refl
-    there false s h = had-later log at (lineOf (bytesAt log at)) s h refl
+    go : (b : Bool) → eqb at 0 ≡ b → spotOf (pick b First (Among d)) s ≡ Right l → Stands at d l
+    go true q e = subst (Stands at d) (sym (first-header s l e)) (head (eqb-true at 0 q))
+    go false q e = inner (omega (arith, eqb-false at 0 q)) (goes d s l e)
 
-    left : (b : Bool) → ltb at (length log) ≡ b → length log ≤ 60000
-        → HadIn log at (pick b (pick (eqb at 0) (firstRead (nextLine log at) (lineOf (bytesAt log at))) (laterRead at (nextLine log at) (lineOf (bytesAt log at)))) (Refused 6 (length log)))
-    left true e s = there (eqb at 0) s (ltb-true at (length log) e)
-    left false e s = tt
+pub from-depth : (log : List ℕ) (at d : ℕ) (l : Line) (next : ℕ) → readIn (standing at d) log at ≡ Item l next → readAt log at ≡ Item l next
+unfolding readAt standing
+from-depth log at d l next e = go (eqb at 0) refl (had (pick (eqb at 0) First (Among d)) log at l next e)
+  where
+    go : (b : Bool) → eqb at 0 ≡ b → Had (pick b First (Among d)) log at l next → readIn (pick b First Alone) log at ≡ Item l next
+    go true q h = item-in First log at l next (h .short) (h .inside) (h .on) (h .found)
+    go false q h = item-in Alone log at l next (h .short) (h .inside) (h .on) (alone d (bytesAt log at) l (h .found))
 
-    long : (b : Bool) → ltb 60000 (length log) ≡ b
-        → HadIn log at (pick b (Refused 5 0) (pick (ltb at (length log)) (pick (eqb at 0) (firstRead (nextLine log at) (lineOf (bytesAt log at))) (laterRead at (nextLine log at) (lineOf (bytesAt log at)))) (Refused 6 (length log))))
-    long true e = tt
-    long false e = left (ltb at (length log)) refl (ltb-false 60000 (length log) e)
+goes-inner : {d : ℕ} → Goes d Header → ⊥
+goes-inner g = go Header g refl
+  where
+    go : {d : ℕ} (l : Line) → Goes d l → l ≡ Header → ⊥
+    go l acts-on e = let z : _≡_ {A = ℕ} 0 1 = cc in omega arith
+    go l (opened-on h) e = let z : _≡_ {A = ℕ} 0 1 = cc in omega arith
+    go l (closes-on h) e = let z : _≡_ {A = ℕ} 0 1 = cc in omega arith
+    go l (ends-on h) e = let z : _≡_ {A = ℕ} 0 1 = cc in omega arith
 
-pub had : (log : List ℕ) (at : ℕ) (l : Line) (next : ℕ) → readAt log at ≡ Item l next → Had log at l next
-had log at l next e = rw e at (had-in log at)
+pub to-depth : (log : List ℕ) (at d : ℕ) (l : Line) (next : ℕ) → Goes d l → readAt log at ≡ Item l next → readIn (standing at d) log at ≡ Item l next
+unfolding readAt standing
+to-depth log at d l next g e = go (eqb at 0) (had (pick (eqb at 0) First Alone) log at l next e)
+  where
+    go : (b : Bool) → Had (pick b First Alone) log at l next → readIn (pick b First (Among d)) log at ≡ Item l next
+    go true h = absurd (goes-inner (subst (Goes d) (first-header (bytesAt log at) l (h .found)) g))
+    go false h = item-in (Among d) log at l next (h .short) (h .inside) (h .on) (tell (Among d) (bytesAt log at) l (had-says h) (goes-may g))
 
--- the bytes of an item are its text
-pub had-text : {log : List ℕ} {at : ℕ} {l : Line} {next : ℕ} → Had log at l next → (bytesAt log at ≡ lineText l) × Printable l
-had-text {log} {at} {l} h = read-printed (bytesAt log at) l (h .says) (h .fair)
-
--- reading behind the first line
-pub read-later : (log : List ℕ) (at : ℕ) (l : Line) → length log ≤ 60000 → 0 < at → at < length log → lineOf (bytesAt log at) ≡ l → readAt log at ≡ laterRead at (nextLine log at) l
-unfolding readAt lineRead
-read-later log at l s z h e = rw (le-ltb 60000 (length log) s, lt-ltb at (length log) h, ne-eqb at 0 (λ q. omega arith), e)
-
-pub read-first : (log : List ℕ) (l : Line) → length log ≤ 60000 → 0 < length log → lineOf (bytesAt log 0) ≡ l → readAt log 0 ≡ firstRead (nextLine log 0) l
-unfolding readAt lineRead
-read-first log l s h e = rw (le-ltb 60000 (length log) s, lt-ltb 0 (length log) h, e)
-
-pub read-none : (log : List ℕ) (at : ℕ) → length log ≤ 60000 → length log ≤ at → readAt log at ≡ Refused 6 (length log)
+pub had-at : (log : List ℕ) (at : ℕ) (l : Line) (next : ℕ) → readAt log at ≡ Item l next → Had (pick (eqb at 0) First Alone) log at l next
 unfolding readAt
-read-none log at s h = rw (le-ltb 60000 (length log) s, le-ltb at (length log) h)
-
-pub read-long : (log : List ℕ) (at : ℕ) → 60000 < length log → readAt log at ≡ Refused 5 0
-unfolding readAt
-read-long log at h = rw (lt-ltb 60000 (length log) h)
+had-at log at l next e = had (pick (eqb at 0) First Alone) log at l next e

@@ -15,8 +15,7 @@ use Rattle.judge.specs.declared.Step.{Step}
 use Rattle.judge.specs.declared.Step.the-variants.{Plain, Open}
 use Rattle.judge.specs.declared.Block.{Block}
 use Rattle.judge.specs.declared.Block.the-variants.{Closed, Stopped}
-use Rattle.judge.specs.Reading.{readAt}
-use Rattle.judge.specs.Judge.{Verdict, right, wrong, fault}
+use Rattle.judge.specs.Reading.{standing, readIn}
 use Rattle.judge.specs.Tree.{Tree, end, act, loop, acts, actClocks, clocks, turns}
 
 -- what the lines from a place on come to: a block, the place of its `done` and the place behind it; a block, the place of its `stop`, the place
@@ -39,26 +38,22 @@ pub data Begun : Type 0 where
   whole : Piece → Begun
   opens : ℕ → ℕ → Begun
 
--- the line at `at` says l, and the next one begins at `next`
-unfoldable pub admitted : ℕ → ℕ → Line → Verdict → Begun
-admitted at next l (wrong k p) = whole (bad k p)
-admitted at next Header right = whole (bad 6 at)
-admitted at next (One a) right = whole (one a next)
-admitted at next (Loop n) right = opens n next
-admitted at next Done right = whole (shut at next)
-admitted at next (Stop n) right = whole (halt at next n)
-admitted at next (Bad k) right = whole (bad k at)
+-- the line at `at` says l and is right there, and the next one begins at `next`; no line that is right there says `log=1`, or is at fault
+unfoldable pub begun : ℕ → ℕ → Line → Begun
+begun at next Header = whole (bad 14 at)
+begun at next (One a) = whole (one a next)
+begun at next (Loop n) = opens n next
+begun at next Done = whole (shut at next)
+begun at next (Stop n) = whole (halt at next n)
+begun at next (Bad k) = whole (bad k at)
 
--- the same, where d loops are open
-unfoldable pub begun : ℕ → ℕ → ℕ → Line → Begun
-begun at next d l = admitted at next l (fault at d l)
+unfoldable pub begunBy : ℕ → Reading → Begun
+begunBy at (Item l next) = begun at next l
+begunBy at (Reading.Refused k p) = whole (bad k p)
 
-unfoldable pub begunBy : ℕ → ℕ → Reading → Begun
-begunBy at d (Item l next) = begun at next d l
-begunBy at d (Reading.Refused k p) = whole (bad k p)
-
+-- where d loops are open
 unfoldable pub readBegun : List ℕ → ℕ → ℕ → Begun
-readBegun log at d = begunBy at d (readAt log at)
+readBegun log at d = begunBy at (readIn (standing at d) log at)
 
 -- the loop line's piece, from its body
 unfoldable pub looped : ℕ → Got → Piece
@@ -86,7 +81,7 @@ onward rec (bad k p) = refused k p
 
 -- a block, read in at most f lines
 unfoldable pub blockIn : ℕ → List ℕ → ℕ → ℕ → Got
-blockIn zero log at d = refused 6 at
+blockIn zero log at d = refused 18 at
 blockIn (suc f) log at d = onward (λ p. blockIn f log p d) (piece (blockIn f log) d (readBegun log at d))
 
 -- a log has no more lines than bytes

@@ -18,6 +18,6 @@ limited t p n =
     (pick (eqb n (t .clocks)) (totalled t) (refusal 10 p)))
 
 abbrev pub closing : ℕ → Block → Checked
-closing length (Closed p q t) = refusal 6 q
-closing length (Stopped p q n t) = pick (ltb q length) (refusal 6 q) (limited t p n)
+closing length (Closed p q t) = refusal 18 q
+closing length (Stopped p q n t) = pick (ltb q length) (refusal 19 q) (limited t p n)
 closing length (Block.Refused k p) = refusal k p

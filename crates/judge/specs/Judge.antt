@@ -7,6 +7,10 @@ use Rattle.arith.specs.Pick.{pick}
 use Rattle.line.specs.declared.Line.{Line}
 use Rattle.line.specs.declared.Line.the-variants.{Header, One, Loop, Done, Stop, Bad}
 use Rattle.line.specs.Said.{lineOf}
+use Rattle.spot.specs.declared.Stand.the-variants.{First, Among}
+use Rattle.spot.specs.declared.Found.{Found}
+use Rattle.spot.specs.declared.Found.the-variants.{Right, Wrong}
+use Rattle.spot.specs.Fault.{spotOf}
 use Rattle.judge.specs.Lines.{linesOf}
 
 -- nothing is at fault, or a refusal's number and place
@@ -20,39 +24,16 @@ pub data Stand : Type 0 where
   among : ℕ → Stand
   over : Stand
 
--- "First `log=1`": 6 at the start of the log for any other line
-unfoldable pub headFault : ℕ → Line → Verdict
-headFault at Header = right
-headFault at (One a) = wrong 6 at
-headFault at (Loop n) = wrong 6 at
-headFault at Done = wrong 6 at
-headFault at (Stop n) = wrong 6 at
-headFault at (Bad k) = wrong 6 at
-
--- the fault of a line by itself, behind the first: `log=1` again is 6, and a line not of the form, or to no register, has its own number, 6 or 4;
--- "the start of the faulty line" is the place
-abbrev pub ownFault : ℕ → Line → Verdict
-ownFault at Header = wrong 6 at
-ownFault at (One a) = right
-ownFault at (Loop n) = right
-ownFault at Done = right
-ownFault at (Stop n) = right
-ownFault at (Bad k) = wrong k at
-
--- the same where d loops are open. 7: "a ninth loop opened inside eight"; 8: "`done` with no loop open, or `stop` with one open"
-unfoldable pub fault : ℕ → ℕ → Line → Verdict
-fault at d Header = ownFault at Header
-fault at d (One a) = ownFault at (One a)
-fault at d (Loop n) = pick (ltb d 8) right (wrong 7 at)
-fault at d Done = pick (eqb d 0) (wrong 8 at) right
-fault at d (Stop n) = pick (eqb d 0) right (wrong 8 at)
-fault at d (Bad k) = ownFault at (Bad k)
+-- what is found of the line that begins at `at`
+unfoldable pub placed : ℕ → Found → Verdict
+placed at (Right l) = right
+placed at (Wrong k i) = wrong k (at + i)
 
 -- the verdict on one line; "Last `stop=N` .., then nothing"
 unfoldable pub verdict : Stand → ℕ → List ℕ → Verdict
-verdict first at l = headFault at (lineOf l)
-verdict (among d) at l = fault at d (lineOf l)
-verdict over at l = wrong 6 at
+verdict first at l = placed at (spotOf First l)
+verdict (among d) at l = placed at (spotOf (Among d) l)
+verdict over at l = wrong 19 at
 
 -- how the next line stands behind a line that is right
 unfoldable pub leaves : ℕ → Line → Stand
@@ -70,8 +51,8 @@ behind over l = over
 
 -- at the log's end: "the log's length if `stop` is missing"
 unfoldable pub ending : Stand → ℕ → Verdict
-ending first at = wrong 6 at
-ending (among d) at = wrong 6 at
+ending first at = wrong 18 at
+ending (among d) at = wrong 18 at
 ending over at = right
 
 -- the first fault wins

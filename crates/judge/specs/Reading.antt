@@ -1,15 +1,18 @@
 -- Reading one line at any place. Document 01: "Reading a line yields an item or a refusal with its place".
-use Prim.Native.Nat.{ℕ}
+use Prim.Native.Nat.{ℕ, _+_, _≤_}
 use mathlib.Core.List.{List}
 use lib.ListN.{length}
 use lib.Dec.{eqb, ltb}
 use Rattle.arith.specs.Pick.{pick}
 use Rattle.line.specs.declared.Line.{Line}
-use Rattle.line.specs.Said.{lineOf}
 use Rattle.judge.specs.declared.Reading.{Reading}
 use Rattle.judge.specs.declared.Reading.the-variants.{Item, Refused}
 use Rattle.judge.specs.Lines.{bytesAt, nextLine}
-use Rattle.judge.specs.Judge.{Verdict, right, wrong, headFault, ownFault}
+use Rattle.spot.specs.declared.Stand.{Stand}
+use Rattle.spot.specs.declared.Stand.the-variants.{First, Among, Alone}
+use Rattle.spot.specs.declared.Found.{Found}
+use Rattle.spot.specs.declared.Found.the-variants.{Right, Wrong}
+use Rattle.spot.specs.Fault.{spotOf}
 
 -- document 01's number and place for each answer: 0 at 0 for an item
 abbrev pub numberOf : Reading → ℕ
@@ -21,24 +24,26 @@ placeOf (Item l next) = 0
 placeOf (Refused k p) = p
 
 -- a line that is right is an item
-abbrev pub taken : Line → ℕ → Verdict → Reading
-taken l next right = Item l next
-taken l next (wrong k p) = Refused k p
+abbrev pub taken : ℕ → ℕ → Found → Reading
+taken at next (Right l) = Item l next
+taken at next (Wrong k i) = Refused k (at + i)
+
+-- the place of a fault is at most n
+abbrev pub Reaches : ℕ → ℕ → Found → Type 0
+Reaches at n (Right l) = Unit {0}
+Reaches at n (Wrong k i) = at + i ≤ n
+
+-- the line at a place, by how it stands. 5 at 0: "log longer than 60,000 bytes"; 18 at the log's length, where no line is left: "`stop` missing"
+unfoldable pub readIn : Stand → List ℕ → ℕ → Reading
+readIn st log at =
+    pick (ltb 60000 (length log)) (Refused 5 0)
+    (pick (ltb at (length log)) (taken at (nextLine log at) (spotOf st (bytesAt log at)))
+    (Refused 18 (length log)))
+
+-- how a line stands that begins at a place, with d loops open: first at place 0
+unfoldable pub standing : ℕ → ℕ → Stand
+standing at d = pick (eqb at 0) First (Among d)
 
 -- at place 0 only `log=1` is an item; further on any line that is right by itself, since no depth is known
-unfoldable pub firstRead : ℕ → Line → Reading
-firstRead next l = taken l next (headFault 0 l)
-
-unfoldable pub laterRead : ℕ → ℕ → Line → Reading
-laterRead at next l = taken l next (ownFault at l)
-
--- the line at a place says l
-unfoldable pub lineRead : ℕ → ℕ → Line → Reading
-lineRead at next l = pick (eqb at 0) (firstRead next l) (laterRead at next l)
-
--- 5 at 0: "log longer than 60,000 bytes"; 6 at the log's length, where no line is left: "`stop` missing"
 unfoldable pub readAt : List ℕ → ℕ → Reading
-readAt log at =
-    pick (ltb 60000 (length log)) (Refused 5 0)
-    (pick (ltb at (length log)) (lineRead at (nextLine log at) (lineOf (bytesAt log at)))
-    (Refused 6 (length log)))
+readAt log at = readIn (pick (eqb at 0) First Alone) log at

@@ -17,15 +17,15 @@ pub counted-is : (f : ℕ → Line) (d : Number) (n : ℕ) → d ≡ Is n → co
 unfolding counted
 counted-is f d n e = rw e
 
-pub counted-none : (f : ℕ → Line) (d : Number) → d ≡ None → counted f d ≡ Bad 6
+pub counted-none : (f : ℕ → Line) (d : Number) → d ≡ None → counted f d ≡ Bad 0
 unfolding counted
 counted-none f d e = rw e
 
-pub written-none : (r v : Number) → r ≡ None → written r v ≡ Bad 6
+pub written-none : (r v : Number) → r ≡ None → written r v ≡ Bad 0
 unfolding written
 written-none r v e = rw e
 
-pub written-half : (r v : Number) (n : ℕ) → r ≡ Is n → v ≡ None → written r v ≡ Bad 6
+pub written-half : (r v : Number) (n : ℕ) → r ≡ Is n → v ≡ None → written r v ≡ Bad 0
 unfolding written
 written-half r v n e f = rw (e, f)
 
@@ -34,11 +34,11 @@ pub take-length : (k : ℕ) (s : List ℕ) → k ≤ length s → k ≡ length (
 take-length k s h = omega (arith, length-take k s)
 
 module _ (s : List ℕ) where
-  pub write-length : (length s ≡ 7 → ⊥) → writeOf s ≡ Bad 6
+  pub write-length : (length s ≡ 7 → ⊥) → writeOf s ≡ Bad 0
   unfolding writeOf
   write-length h = rw (ne-eqb _ _ h)
 
-  pub write-colon : length s ≡ 7 → (getD s 4 0 ≡ 58 → ⊥) → writeOf s ≡ Bad 6
+  pub write-colon : length s ≡ 7 → (getD s 4 0 ≡ 58 → ⊥) → writeOf s ≡ Bad 0
   unfolding writeOf
   write-colon h e = rw (eq-eqb _ _ h, ne-eqb _ _ e)
 
@@ -46,7 +46,7 @@ module _ (s : List ℕ) where
   unfolding writeOf
   write-fields h e = rw (eq-eqb _ _ h, eq-eqb _ _ e)
 
-  pub line-empty : length s ≡ 0 → lineOf s ≡ Bad 6
+  pub line-empty : length s ≡ 0 → lineOf s ≡ Bad 0
   unfolding lineOf
   line-empty h = rw (List·getD-eq-default s 0 {n = length s - 1} (omega arith))
 
@@ -54,6 +54,6 @@ module _ (s : List ℕ) where
   unfolding lineOf
   line-feed e = rw (eq-eqb _ _ e)
 
-  pub line-other : (getD s (length s - 1) 0 ≡ 10 → ⊥) → lineOf s ≡ Bad 6
+  pub line-other : (getD s (length s - 1) 0 ≡ 10 → ⊥) → lineOf s ≡ Bad 0
   unfolding lineOf
   line-other e = rw (ne-eqb _ _ e)

@@ -1,4 +1,4 @@
--- What a line is read as, it is the text of; or it is at fault, with 4 or 6. Assumes nothing.
+-- What a line is read as, it is the text of; or it is a write to no register (4) or not of the form (0). Assumes nothing.
 use mathlib.Core.Path.{_≡_, refl, ap, ap₂, sym, _∙_, subst}
 use mathlib.Core.List.{List, [], _∷_, _++_}
 use mathlib.Core.Bool.{Bool, true, false}
@@ -32,10 +32,10 @@ use Rattle.line.specs.Printed.{actText, ended, lineText, Printable}
 
 pub data Found (s : List ℕ) (l : Line) : Type 0 where
   right : s ≡ lineText l → Printable l → Found s l
-  fault : (k : ℕ) → (k ≡ 4) ⊎ (k ≡ 6) → l ≡ Bad k → Found s l
+  fault : (k : ℕ) → (k ≡ 4) ⊎ (k ≡ 0) → l ≡ Bad k → Found s l
 
-six : (s : List ℕ) → Found s (Bad 6)
-six s = fault 6 (inr refl) refl
+formless : (s : List ℕ) → Found s (Bad 0)
+formless s = fault 0 (inr refl) refl
 
 four : (s : List ℕ) → Found s (Bad 4)
 four s = fault 4 (inl refl) refl
@@ -49,7 +49,7 @@ number-found s v lo hi f h g (Is n) e =
     let a = w .low in
     let b = w .high in
     g n a b (decimal-sound v n (w .is) (omega arith))
-number-found s v lo hi f h g None e = six s
+number-found s v lo hi f h g None e = formless s
 
 module _ (s : List ℕ) where
   wait-found : startsWith (bytes "wait=") s ≡ true → Found (ended s) (waitOf (drop 5 s))
@@ -77,8 +77,8 @@ module _ (s : List ℕ) where
 written-found : (s v : List ℕ) → length v ≡ 7 → getD v 4 0 ≡ 58 → s ≡ ended (bytes "write=" ++ v)
     → (a b : Number) → hex 4 (take 4 v) ≡ a → hex 2 (drop 5 v) ≡ b → Found s (written a b)
 unfolding written lineText actText
-written-found s v h c q None b e f = six s
-written-found s v h c q (Is r) None e f = six s
+written-found s v h c q None b e f = formless s
+written-found s v h c q (Is r) None e f = formless s
 written-found s v h c q (Is r) (Is n) e f =
     pick-each (Found s) (isRegister r) (λ i. right (q ∙ ap (λ (x : List ℕ). ended (bytes "write=" ++ x)) text) (i, value)) (λ i. four s)
   where
@@ -100,7 +100,7 @@ write-found s v q =
     (eqb-true (length v) 7 (both-left (eqb (length v) 7) (eqb (getD v 4 0) 58) e))
     (eqb-true (getD v 4 0) 58 (both-right (eqb (length v) 7) (eqb (getD v 4 0) 58) e))
     q (hex 4 (take 4 v)) (hex 2 (drop 5 v)) refl refl)
-    (λ e. six s)
+    (λ e. formless s)
 
 exact-found : (t s : List ℕ) (l : Line) → ended t ≡ lineText l → Printable l → exactly t s ≡ true → Found (ended s) l
 exact-found t s l q p e = right (ap ended (exactly-is t s e) ∙ q) p
@@ -115,7 +115,7 @@ body-found s =
     pick-each (Found (ended s)) (exactly (bytes "read=4015") s) (exact-found (bytes "read=4015") s (One (Access Read)) refl tt) λ e.
     pick-each (Found (ended s)) (startsWith (bytes "loop=") s) (loop-found s) λ e.
     pick-each (Found (ended s)) (exactly (bytes "done=loop") s) (exact-found (bytes "done=loop") s Done refl tt) λ e.
-    pick-each (Found (ended s)) (startsWith (bytes "stop=") s) (stop-found s) λ e. six (ended s)
+    pick-each (Found (ended s)) (startsWith (bytes "stop=") s) (stop-found s) λ e. formless (ended s)
 
 -- a text whose last byte is a line feed
 feed-split : (s : List ℕ) → getD s (length s - 1) 0 ≡ 10 → s ≡ ended (take (length s - 1) s)
@@ -134,4 +134,4 @@ line-found s =
     subst (λ (t : List ℕ). Found t (bodyOf (take (length s - 1) s)))
     (sym (feed-split s (eqb-true (getD s (length s - 1) 0) 10 e)))
     (body-found (take (length s - 1) s)))
-    (λ e. six s)
+    (λ e. formless s)

@@ -27,12 +27,12 @@ read-printed s l e not-bad = go (lineOf s) e (line-found s)
 pub one-line : (l : Line) → Printable l → OneLine (lineText l)
 one-line = text-line
 
--- a line at fault by itself has number 4 or 6
-pub bad-number : (s : List ℕ) (k : ℕ) → lineOf s ≡ Bad k → (k ≡ 4) ⊎ (k ≡ 6)
+-- a line that is not right by itself is `Bad 4`, a write to no register, or `Bad 0`, not of the form
+pub bad-number : (s : List ℕ) (k : ℕ) → lineOf s ≡ Bad k → (k ≡ 4) ⊎ (k ≡ 0)
 bad-number s k e = go (lineOf s) e (line-found s)
   where
-    go : (m : Line) → m ≡ Bad k → Found s m → (k ≡ 4) ⊎ (k ≡ 6)
+    go : (m : Line) → m ≡ Bad k → Found s m → (k ≡ 4) ⊎ (k ≡ 0)
     go m q (right t p) = absurd (subst Printable q p)
     go m q (fault j h b) =
         let same : j ≡ k = cc in
-        subst (λ (x : ℕ). (x ≡ 4) ⊎ (x ≡ 6)) same h
+        subst (λ (x : ℕ). (x ≡ 4) ⊎ (x ≡ 0)) same h

@@ -22,12 +22,12 @@ use Rattle.line.specs.declared.Line.the-variants.{Header, One, Loop, Don
 -- a number that was read as what it stands for; with none the line is not of the form
 unfoldable pub counted : (ℕ → Line) → Number → Line
 counted f (Is n) = f n
-counted f None = Bad 6
+counted f None = Bad 0
 
 -- refusal 4: "register not among $4000..$4013, $4015, $4017"
 unfoldable pub written : Number → Number → Line
-written None v = Bad 6
-written (Is r) None = Bad 6
+written None v = Bad 0
+written (Is r) None = Bad 0
 written (Is r) (Is v) = pick (isRegister r) (One (Access (Write r v))) (Bad 4)
 
 -- RRRR:VV of `write=RRRR:VV` (58 is the colon)
@@ -35,7 +35,7 @@ unfoldable pub writeOf : List ℕ → Line
 writeOf s =
     pick (both (eqb (length s) 7) (eqb (getD s 4 0) 58))
     (written (hex 4 (take 4 s)) (hex 2 (drop 5 s)))
-    (Bad 6)
+    (Bad 0)
 
 -- N of `wait=N` (1..1000000), of `loop=N` (2..255), of `stop=N` (0..2000000000)
 
@@ -58,11 +58,11 @@ bodyOf s =
     (pick (startsWith (bytes "loop=") s) (loopOf (drop 5 s))
     (pick (exactly (bytes "done=loop") s) Done
     (pick (startsWith (bytes "stop=") s) (stopOf (drop 5 s))
-    (Bad 6)))))))
+    (Bad 0)))))))
 
 -- "Lines end in one line feed"
 unfoldable pub lineOf : List ℕ → Line
 lineOf s =
     pick (eqb (getD s (length s - 1) 0) 10)
     (bodyOf (take (length s - 1) s))
-    (Bad 6)
+    (Bad 0)

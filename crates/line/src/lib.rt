@@ -14,7 +14,8 @@ pub enum Act {
     Access(Access),
 }
 
-// What one whole line says. A line at fault by itself holds its number: 4 (a write of right form to no register) or 6 (not of the form).
+// What one whole line says. `Bad(4)` is a write of right form to no register; `Bad(0)` a line not of the form, whose number and place go by where
+// it stands (crate spot).
 pub enum Line {
     Header,
     One(Act),
@@ -30,7 +31,7 @@ fn wait_of(s: &[u8]) -> Line
 {
     let d = text::decimal_in(s, 1, 1000000);
     let Number::Is(n) = d else {
-        return Line::Bad(6);
+        return Line::Bad(0);
     };
     Line::One(Act::Wait(n))
 }
@@ -41,7 +42,7 @@ fn loop_of(s: &[u8]) -> Line
 {
     let d = text::decimal_in(s, 2, 255);
     let Number::Is(n) = d else {
-        return Line::Bad(6);
+        return Line::Bad(0);
     };
     Line::Loop(n as u8)
 }
@@ -52,7 +53,7 @@ fn stop_of(s: &[u8]) -> Line
 {
     let d = text::decimal_in(s, 0, 2000000000);
     let Number::Is(n) = d else {
-        return Line::Bad(6);
+        return Line::Bad(0);
     };
     Line::Stop(n)
 }
@@ -74,11 +75,11 @@ fn fields(register: &[u8], value: &[u8]) -> Line
 {
     let h = text::hex4(register);
     let Number::Is(r) = h else {
-        return Line::Bad(6);
+        return Line::Bad(0);
     };
     let l = text::hex2(value);
     let Number::Is(v) = l else {
-        return Line::Bad(6);
+        return Line::Bad(0);
     };
     access(r as u16, v as u8)
 }
@@ -88,10 +89,10 @@ fn write_of(s: &[u8]) -> Line
     ensures { λ r. ⌜ r ≡ writeOf (now (s .entry)) ⌝ }
 {
     if s.len() != 7 {
-        return Line::Bad(6);
+        return Line::Bad(0);
     }
     if s[4] != b':' {
-        return Line::Bad(6);
+        return Line::Bad(0);
     }
     fields(&s[..4], &s[5..])
 }
@@ -121,7 +122,7 @@ fn body_of(s: &[u8]) -> Line
     if text::starts(s, b"stop=") {
         return stop_of(text::behind(s, 5));
     }
-    Line::Bad(6)
+    Line::Bad(0)
 }
 
 // What one line says, with its line feed; any other bytes are a line not of the form.
@@ -129,12 +130,12 @@ pub fn line_of(l: &[u8]) -> Line
     ensures { λ r. ⌜ r ≡ lineOf (now (l .entry)) ⌝ }
 {
     if l.len() == 0 {
-        return Line::Bad(6);
+        return Line::Bad(0);
     }
     let end = l.len() - 1;
     if l[end] == 10 {
         body_of(&l[..end])
     } else {
-        Line::Bad(6)
+        Line::Bad(0)
     }
 }

@@ -1,11 +1,12 @@
 // One line of a log, read at any place.
 use judge::Reading;
-use line::Line;
+use spot::Found;
+use spot::Stand;
 ghost use mathlib.Core.Path.{_≡_};
 ghost use Prim.Native.Nat.{_+_, _≤_};
 ghost use lib.ListN.{length, drop};
 ghost use Rattle.judge.specs.Lines.{lineLen, startOf};
-ghost use Rattle.judge.specs.Reading.{numberOf, placeOf, firstRead, laterRead, lineRead, readAt};
+ghost use Rattle.judge.specs.Reading.{numberOf, placeOf, taken, Reaches, standing, readIn, readAt};
 
 // The number of a reading: 0, or the refusal's.
 pub fn number(r: Reading) -> u8
@@ -49,51 +50,51 @@ pub fn start(log: &[u8]) -> usize
     line_end(log, 0)
 }
 
-fn first_read(next: usize, l: Line) -> Reading
-    ensures { λ r. ⌜ r ≡ firstRead next l ⌝ }
+// A line that is right is an item; the place of a fault is behind the line's own.
+fn item_of(at: usize, next: usize, f: Found) -> Reading
+    requires { ⌜ Reaches at 60000 f ⌝ }
+    ensures { λ r. ⌜ r ≡ taken at next f ⌝ }
 {
-    match l {
-        Line::Header => Reading::Item(Line::Header, next),
-        Line::One(_) => Reading::Refused(6, 0),
-        Line::Loop(_) => Reading::Refused(6, 0),
-        Line::Done => Reading::Refused(6, 0),
-        Line::Stop(_) => Reading::Refused(6, 0),
-        Line::Bad(_) => Reading::Refused(6, 0),
+    match f {
+        Found::Right(l) => Reading::Item(l, next),
+        Found::Wrong(k, i) => Reading::Refused(k, at + i),
     }
 }
 
-fn later_read(at: usize, next: usize, l: Line) -> Reading
-    ensures { λ r. ⌜ r ≡ laterRead at next l ⌝ }
-{
-    match l {
-        Line::Header => Reading::Refused(6, at),
-        Line::One(a) => Reading::Item(Line::One(a), next),
-        Line::Loop(n) => Reading::Item(Line::Loop(n), next),
-        Line::Done => Reading::Item(Line::Done, next),
-        Line::Stop(n) => Reading::Item(Line::Stop(n), next),
-        Line::Bad(k) => Reading::Refused(k, at),
-    }
-}
-
-fn line_read(at: usize, next: usize, l: Line) -> Reading
-    ensures { λ r. ⌜ r ≡ lineRead at next l ⌝ }
-{
-    if at == 0 {
-        return first_read(next, l);
-    }
-    later_read(at, next, l)
-}
-
-// The line that begins at a place.
-pub fn read(log: &[u8], at: usize) -> Reading
-    ensures { λ r. ⌜ r ≡ readAt (now (log .entry)) at ⌝ }
+// The line that begins at a place, by how it stands.
+pub fn read_in(log: &[u8], at: usize, stand: Stand) -> Reading
+    ensures { λ r. ⌜ r ≡ readIn stand (now (log .entry)) at ⌝ }
 {
     if 60000 < log.len() {
         return Reading::Refused(5, 0);
     }
     if log.len() <= at {
-        return Reading::Refused(6, log.len());
+        return Reading::Refused(18, log.len());
     }
     let e = line_end(log, at);
-    line_read(at, e, line::line_of(&log[at..e]))
+    item_of(at, e, spot::spot(&log[at..e], stand))
+}
+
+// The line that begins at a place, where no depth is known.
+pub fn read(log: &[u8], at: usize) -> Reading
+    ensures { λ r. ⌜ r ≡ readAt (now (log .entry)) at ⌝ }
+{
+    if at == 0 {
+        return read_in(log, at, Stand::First);
+    }
+    read_in(log, at, Stand::Alone)
+}
+
+// How a line stands that begins at a place, with so many loops open.
+fn stand_of(at: usize, depth: u64) -> Stand
+    ensures { λ r. ⌜ r ≡ standing at depth ⌝ }
+{
+    if at == 0 { Stand::First } else { Stand::Among(depth) }
+}
+
+// The line that begins at a place, with so many loops open.
+pub fn read_inside(log: &[u8], at: usize, depth: u64) -> Reading
+    ensures { λ r. ⌜ r ≡ readIn (standing at depth) (now (log .entry)) at ⌝ }
+{
+    read_in(log, at, stand_of(at, depth))
 }

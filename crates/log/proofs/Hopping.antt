@@ -22,7 +22,7 @@ use Rattle.judge.specs.declared.Block.the-variants.{Closed, Stopped}
 use Rattle.judge.specs.Reading.{readAt}
 use Rattle.judge.specs.Tree.{Tree, loop, acts, times}
 use Rattle.judge.specs.Block.{Got, closed, stopped, refused, readBlock, gotTree, totals, answer}
-use Rattle.judge.proofs.Places.{had, next-pos, next-le}
+use Rattle.judge.proofs.Places.{had-at, next-pos, next-le}
 use Rattle.judge.proofs.Totalling.{length-times}
 use Rattle.judge.proofs.Descent.{got-behind}
 use Rattle.judge.proofs.Derived.{Ending, closes, stops, Reads, an-act, a-loop, a-done, a-stop, Derived, derived, got, block-of}
@@ -56,7 +56,7 @@ whole-of log i d r (refused n p) h k = absurd (omega arith)
 -- where an item leads
 leads : (log : List ℕ) (i : ℕ) (l : Line) (p : ℕ) → readAt log i ≡ Item l p → (i < p) × (p ≤ length log)
 leads log i l p e =
-    let h = had log i l p e in
+    let h = had-at log i l p e in
     let z : i ≤ length log = omega (arith, h .inside) in
     (rw (h .on) (next-pos log i (h .inside)), rw (h .on) (next-le log i z))
 

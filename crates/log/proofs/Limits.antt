@@ -14,7 +14,7 @@ use Rattle.line.specs.Printed.{Allowed}
 use Rattle.judge.specs.Lines.{linesOf, nextLine}
 use Rattle.judge.specs.Tree.{acts, actClocks}
 use Rattle.judge.specs.Whole.{treeOf, checkOf}
-use Rattle.judge.proofs.Places.{had, next-le}
+use Rattle.judge.proofs.Places.{had-at, next-le}
 use Rattle.judge.proofs.Limits.{check-limits}
 use Rattle.log.specs.declared.Found.{Found}
 use Rattle.log.specs.declared.Found.the-variants.{Is, Refused}
@@ -33,7 +33,7 @@ every-at (a ∷ l) (suc k) h g = every-at l k (omega arith) (g .1)
 -- an item is within the limits; a refusal's number is in the table, and its place in the log
 abbrev pub FoundIn : Found → Type 0
 FoundIn (Is a) = Allowed a
-FoundIn (Refused k p) = (k ≤ 12) × (p ≤ 60000)
+FoundIn (Refused k p) = (k ≤ 19) × (p ≤ 60000)
 
 nth-in-limits : (l : List Act) (k : ℕ) → Every l → FoundIn (nth l k)
 unfolding nth
@@ -57,18 +57,18 @@ module _ (log : List ℕ) (k : ℕ) where
 
 -- the number of a body's answer is in the table and its place in the log; where it is not refused the body starts in the log, and is a part of it
 
-pub body-answer : (log : List ℕ) (o : ℕ) → (bodyCheckOf log o .number ≤ 12) × (bodyCheckOf log o .place ≤ 60000)
+pub body-answer : (log : List ℕ) (o : ℕ) → (bodyCheckOf log o .number ≤ 19) × (bodyCheckOf log o .place ≤ 60000)
 unfolding bodyCheckOf
 body-answer log o =
     let c = check-limits log in
-    let In : Answer → Type 0 = λ a. (a .number ≤ 12) × (a .place ≤ 60000) in
+    let In : Answer → Type 0 = λ a. (a .number ≤ 19) × (a .place ≤ 60000) in
     pick-both In (eqb (checkOf log .number) 0)
     (pick-both In (beginsLoop log o) (omega arith, omega arith) (omega arith, omega arith)) (omega (arith, c .number), c .place)
 
 pub body-start : (log : List ℕ) (o : ℕ) → bodyCheckOf log o .number ≡ 0 → (length log ≤ 60000) × (nextLine log o ≤ length log)
 body-start log o h =
     let w = here log o h in
-    let l = had log o (Loop (w .turns)) (w .from) (w .read) in
+    let l = had-at log o (Loop (w .turns)) (w .from) (w .read) in
     (l .short, next-le log o (omega (arith, l .inside)))
 
 retaken : (n : ℕ) (l : List ℕ) → take (length (take n l)) l ≡ take n l

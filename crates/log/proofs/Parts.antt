@@ -22,10 +22,11 @@ use Rattle.judge.specs.declared.Totals.{Totals}
 use Rattle.judge.specs.declared.Block.the-variants.{Closed}
 use Rattle.judge.specs.Lines.{lineLen, nextLine, startOf}
 use Rattle.judge.specs.Reading.{readAt}
+use Rattle.spot.specs.declared.Stand.{Stand as Standing}
 use Rattle.judge.specs.Tree.{Tree, text, Within}
 use Rattle.judge.specs.Whole.{checkOf}
 use Rattle.judge.specs.Block.{readBlock, totals, answer}
-use Rattle.judge.proofs.Places.{Had, had, had-text, bytes-long}
+use Rattle.judge.proofs.Places.{Had, had-at, had-says, had-text, bytes-long}
 use Rattle.judge.proofs.Descent.{got-behind}
 use Rattle.judge.proofs.Derived.{Ending, closes, stops, Reads, an-act, a-loop, a-done, a-stop, block-of}
 use Rattle.judge.proofs.Judged.{linesFrom, lines-at}
@@ -64,7 +65,7 @@ data Apart (o at next : ℕ) : Type 0 where
   same : o ≡ at → Apart o at next
   past : next ≤ o → Apart o at next
 
-apart : (log : List ℕ) (o at : ℕ) (l : Line) (next : ℕ) → Had log at l next → beginsLine log o ≡ true → at ≤ o → Apart o at next
+apart : {st : Standing} (log : List ℕ) (o at : ℕ) (l : Line) (next : ℕ) → Had st log at l next → beginsLine log o ≡ true → at ≤ o → Apart o at next
 apart log o at l next h b k = go (ltb at o) refl (ltb o next) refl
   where
     go : (x : Bool) → ltb at o ≡ x → (y : Bool) → ltb o next ≡ y → Apart o at next
@@ -99,13 +100,13 @@ module _ (log : List ℕ) (o n next : ℕ) (b : beginsLine log o ≡ true) (e : 
   -- every loop line of a block that was read has its body read
   inside-of : {at d : ℕ} {t : Tree} {g : Ending} → Reads log at d t g → at ≤ o → o < endOf g → Inside log next
   unfolding isLoop
-  inside-of {at} (an-act {p = p} {a = a} l r) h k = go (apart log o at (One a) p (had log at (One a) p l) b h) (λ q. inside-of r q k)
+  inside-of {at} (an-act {p = p} {a = a} l r) h k = go (apart log o at (One a) p (had-at log at (One a) p l) b h) (λ q. inside-of r q k)
     where
       go : Apart o at p → (p ≤ o → Inside log next) → Inside log next
       go (same q) rec = absurd (differs at (One a) p l q refl)
       go (past q) rec = rec q
   inside-of {at} {d} {t} {g} (a-loop {n = m} {p = p} {q = c} {r = s} {b = body} l i j r r′) h k =
-      go (apart log o at (Loop m) p (had log at (Loop m) p l) b h) (λ q z. inside-of r q z) (λ q. inside-of r′ q k)
+      go (apart log o at (Loop m) p (had-at log at (Loop m) p l) b h) (λ q z. inside-of r q z) (λ q. inside-of r′ q k)
     where
       here : o ≡ at → Inside log next
       here q =
@@ -120,12 +121,12 @@ module _ (log : List ℕ) (o n next : ℕ) (b : beginsLine log o ≡ true) (e : 
       go : Apart o at p → (p ≤ o → o < s → Inside log next) → (s ≤ o → Inside log next) → Inside log next
       go (same q) rec rec′ = here q
       go (past q) rec rec′ = split q (ltb o s) refl rec rec′
-  inside-of {at} (a-done {p = p} l z) h k = go (apart log o at Done p (had log at Done p l) b h)
+  inside-of {at} (a-done {p = p} l z) h k = go (apart log o at Done p (had-at log at Done p l) b h)
     where
       go : Apart o at p → Inside log next
       go (same q) = absurd (differs at Done p l q refl)
       go (past q) = absurd (omega arith)
-  inside-of {at} (a-stop {p = p} {n = m} l) h k = go (apart log o at (Stop m) p (had log at (Stop m) p l) b h)
+  inside-of {at} (a-stop {p = p} {n = m} l) h k = go (apart log o at (Stop m) p (had-at log at (Stop m) p l) b h)
     where
       go : Apart o at p → Inside log next
       go (same q) = absurd (differs at (Stop m) p l q refl)
@@ -133,11 +134,11 @@ module _ (log : List ℕ) (o n next : ℕ) (b : beginsLine log o ≡ true) (e : 
 
   inside-log : Passing log → Inside log next
   unfolding isLoop
-  inside-log p = go (apart log o 0 Header (startOf log) (had log 0 Header (startOf log) (p .header)) b (omega arith))
+  inside-log p = go (apart log o 0 Header (startOf log) (had-at log 0 Header (startOf log) (p .header)) b (omega arith))
     where
       go : Apart o 0 (startOf log) → Inside log next
       go (same q) = absurd (differs 0 Header (startOf log) (p .header) q refl)
-      go (past q) = let h = had log o (Loop n) next e .inside in let l = p .last in inside-of (p .reads) q (omega arith)
+      go (past q) = let h = had-at log o (Loop n) next e .inside in let l = p .last in inside-of (p .reads) q (omega arith)
 
 -- a body is read the same where fewer loops are open
 lower : {log : List ℕ} {at d p q : ℕ} {t : Tree} (c : ℕ) → 0 < c → c ≤ d → Reads log at d t (closes p q) → Reads log at c t (closes p q)
@@ -150,18 +151,18 @@ lower c z h (a-done l k) = a-done l z
 
 -- its `done` is the one that counting finds
 
-module _ {log : List ℕ} {at : ℕ} {l : Line} {next : ℕ} (h : Had log at l next) where
+module _ {st : Standing} {log : List ℕ} {at : ℕ} {l : Line} {next : ℕ} (h : Had st log at l next) where
   done-at : (k : ℕ) → doneFrom k at (linesFrom log at) ≡ pick (both (isDone l) (eqb k 0)) at (doneFrom (inner k l) next (linesFrom log next))
   unfolding doneFrom
-  done-at k = rw (lines-at log at (h .inside), h .says, h .on, bytes-long log at)
+  done-at k = rw (lines-at log at (h .inside), had-says h, h .on, bytes-long log at)
 
 done-of : {log : List ℕ} {at d p q : ℕ} {t : Tree} (k : ℕ) → Reads log at d t (closes p q) → doneFrom k at (linesFrom log at) ≡ pick (eqb k 0) p (doneFrom (k - 1) q (linesFrom log q))
 unfolding isDone inner
-done-of {log} {at} k (an-act l r) = done-at (had log at _ _ l) k ∙ done-of k r
+done-of {log} {at} k (an-act l r) = done-at (had-at log at _ _ l) k ∙ done-of k r
 done-of {log} {at} k (a-loop {p = p} {q = c} {r = s} l i j r r′) =
     let e : k + 1 - 1 ≡ k = omega arith in
-    done-at (had log at _ _ l) k ∙ (done-of (k + 1) r ∙ rw (ne-eqb (k + 1) 0 (λ z. omega arith), e) (done-of k r′))
-done-of {log} {at} k (a-done l z) = done-at (had log at _ _ l) k
+    done-at (had-at log at _ _ l) k ∙ (done-of (k + 1) r ∙ rw (ne-eqb (k + 1) 0 (λ z. omega arith), e) (done-of k r′))
+done-of {log} {at} k (a-done l z) = done-at (had-at log at _ _ l) k
 
 -- what the code finds at a loop line of a log that passes
 pub record Body (log : List ℕ) (from : ℕ) : Type 0 where
@@ -250,30 +251,30 @@ module _ (log : List ℕ) (o : ℕ) (h : bodyCheckOf log o .number ≡ 0) where
   body-part l from to next t e f =
       let b = closed-is l from e in
       let s : to ≡ b .place = closed-inj (f ∙ answer-is l from e) in
-      let m : from ≡ nextLine log o = had log o l from e .on in
+      let m : from ≡ nextLine log o = had-at log o l from e .on in
       rw s (b .ordered .0, b .ordered .1, rw (eq-eqb (bodyCheckOf log o .number) 0 h) (sym (b .is) ∙ ap (between log) m))
 
 -- the body is the part between: its text stands in the log behind the loop line and before its `done`
 
-had-long : {log : List ℕ} {at : ℕ} {l : Line} {next : ℕ} → Had log at l next → next ≡ at + length (lineText l)
-had-long {log} {at} {l} h = h .on ∙ (sym (bytes-long log at) ∙ ap (λ (s : List ℕ). at + length s) (had-text h .0))
+had-long : {st : Standing} {log : List ℕ} {at : ℕ} {l : Line} {next : ℕ} → Had st log at l next → next ≡ at + length (lineText l)
+had-long {st} {log} {at} {l} h = h .on ∙ (sym (bytes-long log at) ∙ ap (λ (s : List ℕ). at + length s) (had-text h .0))
 
 behind-is : {log : List ℕ} {at d p q : ℕ} {t : Tree} → Reads log at d t (closes p q) → q ≡ p + length (lineText Done)
 behind-is (an-act l r) = behind-is r
 behind-is (a-loop l i k r r′) = behind-is r′
-behind-is {log} {at} (a-done l h) = had-long (had log at _ _ l)
+behind-is {log} {at} (a-done l h) = had-long (had-at log at _ _ l)
 
 place-is : {log : List ℕ} {at d p q : ℕ} {t : Tree} → Reads log at d t (closes p q) → p ≡ at + length (text t)
 unfolding text
 place-is {log} {at} (an-act {a = a} {t = u} l r) =
     let m = place-is r in
-    let n = had-long (had log at _ _ l) in
+    let n = had-long (had-at log at _ _ l) in
     rw (length-append (lineText (One a)) (text u)) (omega arith)
 place-is {log} {at} (a-loop {n = n} {b = b} {t = u} l i k r r′) =
     let m = place-is r in
     let m′ = place-is r′ in
     let o = behind-is r in
-    let q = had-long (had log at _ _ l) in
+    let q = had-long (had-at log at _ _ l) in
     simp length-append (omega arith)
 place-is (a-done l h) = omega arith
 
@@ -292,7 +293,7 @@ body-between log o h =
     let b = body-here w in
     let t = b .tree in
     let from = w .from in
-    let m : nextLine log o ≡ from = sym (had log o (Loop (w .turns)) from (w .read) .on) in
+    let m : nextLine log o ≡ from = sym (had-at log o (Loop (w .turns)) from (w .read) .on) in
     let f : drop from log ≡ text t ++ (lineText Done ++ drop (b .behind) log) = text-of log (b .reads) in
     let k : b .place - from ≡ length (text t) = (let p = place-is (b .reads) in omega arith) in
     let is : bodyOf log o ≡ text t =
@@ -306,5 +307,5 @@ body-between log o h =
       stands =
           sym (take-append-drop o log)
           ∙ ap (λ (s : List ℕ). take o log ++ s)
-          (had-split log (had log o (Loop (w .turns)) from (w .read)) ∙ ap (λ (s : List ℕ). lineText (Loop (w .turns)) ++ s) (rw is f));
+          (had-split log (had-at log o (Loop (w .turns)) from (w .read)) ∙ ap (λ (s : List ℕ). lineText (Loop (w .turns)) ++ s) (rw is f));
     }

@@ -113,8 +113,8 @@ marked memory =
     -- (11) $FFFF then $8000
     ∷ number (dmcRead memory (fetching 0xFFFE) .reader .address) 0xFFFF
     ∷ number (dmcRead memory (fetching 0xFFFF) .reader .address) 0x8000
-    -- (12) empty log: refusal 6 at 0
-    ∷ number (checkOf [] .number) 6
+    -- (12) empty log: refusal 18 at 0
+    ∷ number (checkOf [] .number) 18
     ∷ number (checkOf [] .place) 0
     ∷ []
 

@@ -11,10 +11,19 @@ use Rattle.line.specs.Said.{lineOf}
 use Rattle.line.specs.Printed.{lineText, Printable}
 use Rattle.line.proofs.Lines.{printed-read, one-line}
 use Rattle.judge.specs.Lines.{bytesAt, nextLine}
-use Rattle.judge.specs.Reading.{laterRead, readAt}
+use Rattle.spot.specs.declared.Stand.the-variants.{First, Among}
+use Rattle.spot.specs.declared.Found.{Found}
+use Rattle.spot.specs.declared.Found.the-variants.{Right, Wrong}
+use Rattle.spot.specs.Fault.{spotOf}
+use Rattle.spot.specs.Fronts.{allowed}
+use Rattle.spot.specs.Begins.{keysOf}
+use Rattle.spot.proofs.Laws.{line-right}
+use Rattle.spot.proofs.Standing.{Goes, act as acts-on, opens as opened-on, closes as closes-on, ends as ends-on, goes-may}
+use Rattle.judge.specs.declared.Reading.the-variants.{Item}
+use Rattle.judge.specs.Reading.{taken, readIn, readAt}
 use Rattle.judge.specs.Tree.{Tree, end, act, loop, text, Within}
 use Rattle.judge.specs.Block.{closed, readBlock}
-use Rattle.judge.proofs.Places.{read-later}
+use Rattle.judge.proofs.Places.{read-some, from-depth, standing-on}
 use Rattle.judge.proofs.Derived.{Ending, closes, Reads, an-act, a-loop, a-done, block-of}
 use Rattle.passing.proofs.Written.{line-len, act-text, loop-text, act-long, loop-long, joined, joined-end}
 
@@ -39,8 +48,12 @@ module _ (log pre rest : List ℕ) (i : ℕ) (l : Line) (p : Printable l) (long 
   inside = let s = some-text l p in rw (is, length-append, length-append) (omega arith)
 
   -- reading there finds it
-  pub read-text : readAt log i ≡ laterRead i (i + length (lineText l)) l
-  read-text = read-later log i l short z inside (ap lineOf bytes-are ∙ printed-read l p) ∙ ap (λ (n : ℕ). laterRead i n l) next-is
+  pub read-text : (d : ℕ) → Goes d l → readAt log i ≡ Item l (i + length (lineText l))
+  read-text d g =
+      from-depth log i d l (i + length (lineText l))
+      (rw (standing-on i d z) (read-some (Among d) log i short inside
+      ∙ (ap (λ (x : List ℕ). taken i (nextLine log i) (spotOf (Among d) x)) bytes-are
+      ∙ (ap (taken i (nextLine log i)) (line-right (Among d) l (goes-may g) p) ∙ ap (λ (n : ℕ). Item l n) next-is))))
 
   -- the log behind it
   behind : log ≡ (pre ++ lineText l) ++ rest
@@ -52,7 +65,7 @@ module _ (log pre rest : List ℕ) (i : ℕ) (l : Line) (p : Printable l) (long 
 -- a block's text somewhere behind the first line of a log, in front of what is read behind it
 pub reads-text : (t u : Tree) (log pre rest : List ℕ) (i d : ℕ) (e : Ending) → length pre ≡ i → 0 < i → length log ≤ 60000 → Within t d → log ≡ pre ++ (text t ++ rest)
     → Reads log (i + length (text t)) d u e → Reads log i d (joined t u) e
-unfolding text joined laterRead
+unfolding text joined
 reads-text end u log pre rest i d e h z s w q r =
     let k : i + 0 ≡ i = omega arith in
     rw k at r
@@ -61,7 +74,7 @@ reads-text (act a t) u log pre rest i d e h z s w q r =
     let j : ℕ = i + length (lineText (One a)) in
     let k : i + length (text (act a t)) ≡ j + length (text t) = (let m = act-long a t in omega arith) in
     let z′ : 0 < j = omega arith in
-    an-act (read-text log pre (text t ++ rest) i (One a) (w .0) h z s q′)
+    an-act (read-text log pre (text t ++ rest) i (One a) (w .0) h z s q′ d acts-on)
     (reads-text t u log (pre ++ lineText (One a)) rest j d e (longer log pre (text t ++ rest) i (One a) (w .0) h z s q′) z′ s (w .1)
     (behind log pre (text t ++ rest) i (One a) (w .0) h z s q′) (rw k at r))
 reads-text (loop n b t) u log pre rest i d e h z s w q r =
@@ -81,21 +94,20 @@ reads-text (loop n b t) u log pre rest i d e h z s w q r =
     let z₃ : 0 < i₃ = omega arith in
     let d₁ : 0 < d + 1 = omega arith in
     let n₀ : 0 < n = omega (arith, w .0 .0) in
-    let done : Reads log i₂ (d + 1) end (closes i₂ i₃) = a-done (read-text log pre₂ (text t ++ rest) i₂ Done tt h₂ z₂ s q₃) d₁ in
+    let done : Reads log i₂ (d + 1) end (closes i₂ i₃) = a-done (read-text log pre₂ (text t ++ rest) i₂ Done tt h₂ z₂ s q₃ (d + 1) (closes-on d₁)) d₁ in
     let body : Reads log i₁ (d + 1) b (closes i₂ i₃) = rw (joined-end b) at (reads-text b end log pre₁ tail i₁ (d + 1) (closes i₂ i₃) h₁ z₁ s (w .2) q₂ done) in
     let k : i + length (text (loop n b t)) ≡ i₃ + length (text t) = (let m = loop-long n b t in omega arith) in
-    a-loop (read-text log pre (text b ++ tail) i (Loop n) (w .0) h z s q₁) n₀ (w .1) body
+    a-loop (read-text log pre (text b ++ tail) i (Loop n) (w .0) h z s q₁ d (opened-on (w .1))) n₀ (w .1) body
     (reads-text t u log (pre₂ ++ lineText Done) rest i₃ d e (longer log pre₂ (text t ++ rest) i₂ Done tt h₂ z₂ s q₃) z₃ s (w .3)
     (behind log pre₂ (text t ++ rest) i₂ Done tt h₂ z₂ s q₃) (rw k at r))
 
 -- in front of a `done` the block reader reads it as that block
 pub block-text : (t : Tree) (log pre rest : List ℕ) (i d : ℕ) → length pre ≡ i → 0 < i → length log ≤ 60000 → 0 < d → Within t d → log ≡ pre ++ (text t ++ (lineText Done ++ rest))
     → readBlock log i d ≡ closed t (i + length (text t)) (i + length (text t) + length (lineText Done))
-unfolding laterRead
 block-text t log pre rest i d h z s k w q =
     let j : ℕ = i + length (text t) in
     let q′ : log ≡ (pre ++ text t) ++ (lineText Done ++ rest) = q ∙ sym (append-assoc pre (text t) (lineText Done ++ rest)) in
     let h′ : length (pre ++ text t) ≡ j = length-append pre (text t) ∙ ap (λ (x : ℕ). x + length (text t)) h in
     let z′ : 0 < j = omega arith in
     let e : Ending = closes j (j + length (lineText Done)) in
-    block-of (rw (joined-end t) at (reads-text t end log pre (lineText Done ++ rest) i d e h z s w q (a-done (read-text log (pre ++ text t) rest j Done tt h′ z′ s q′) k)))
+    block-of (rw (joined-end t) at (reads-text t end log pre (lineText Done ++ rest) i d e h z s w q (a-done (read-text log (pre ++ text t) rest j Done tt h′ z′ s q′ d (closes-on k)) k)))

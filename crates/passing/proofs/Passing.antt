@@ -13,15 +13,20 @@ use Rattle.line.specs.declared.Line.{Line}
 use Rattle.line.specs.declared.Line.the-variants.{Header, One, Loop, Done, Stop, Bad}
 use Rattle.line.specs.Said.{lineOf}
 use Rattle.line.specs.Printed.{lineText, Printable}
-use Rattle.line.proofs.Lines.{bad-number}
+use Rattle.spot.specs.declared.Stand.the-variants.{First, Among}
+use Rattle.spot.specs.declared.Found.{Found}
+use Rattle.spot.specs.declared.Found.the-variants.{Right, Wrong}
+use Rattle.spot.specs.Fault.{spotOf}
+use Rattle.spot.specs.declared.Stand.{Stand as Standing}
+use Rattle.spot.proofs.Standing.{bounded, first-header}
 use Rattle.judge.specs.declared.Reading.the-variants.{Item}
 use Rattle.judge.specs.Lines.{linesOf, bytesAt, nextLine, startOf}
-use Rattle.judge.specs.Reading.{firstRead, readAt}
-use Rattle.judge.specs.Judge.{Verdict, right, wrong, Stand, first, among, over, headFault, fault, verdict, behind, ending, unless, judge, judged}
+use Rattle.judge.specs.Reading.{taken, readIn, readAt}
+use Rattle.judge.specs.Judge.{Verdict, right, wrong, Stand, first, among, over, placed, verdict, behind, ending, unless, judge, judged}
 use Rattle.judge.specs.Tree.{Tree, clocks, turns, text, logText, Within}
 use Rattle.judge.specs.Whole.{grow, blocks, innermost, treeOf, Stopping, stopHere, stopFrom, stopOf, refusal, passed, heavy, weighed, unlessWrong, checkOf}
 use Rattle.judge.specs.Block.{Got, closed, stopped, refused, readBlock}
-use Rattle.judge.proofs.Places.{Had, had, had-text, line-split, next-pos, next-le, read-first}
+use Rattle.judge.proofs.Places.{Had, had-at, had-text, line-split, next-pos, next-le, read-some}
 use Rattle.judge.proofs.Derived.{Ending, closes, stops, Reads, an-act, a-loop, a-done, a-stop, Derived, derived, inside-loop}
 use Rattle.judge.proofs.Judged.{linesFrom, judgeAt, after, bridge}
 use Rattle.judge.proofs.Checks.{blocks-at, stop-at, blocks-of, stop-of, over-at, judged-first}
@@ -33,40 +38,15 @@ abbrev Numbered : Verdict → Type 0
 Numbered right = Unit {0}
 Numbered (wrong k p) = 0 < k
 
-head-numbered : (at : ℕ) (l : Line) → Numbered (headFault at l)
-unfolding headFault
-head-numbered at Header = tt
-head-numbered at (One a) = omega arith
-head-numbered at (Loop n) = omega arith
-head-numbered at Done = omega arith
-head-numbered at (Stop n) = omega arith
-head-numbered at (Bad k) = omega arith
-
-fault-numbered : (at d : ℕ) (s : List ℕ) (l : Line) → lineOf s ≡ l → Numbered (fault at d l)
-unfolding fault
-fault-numbered at d s Header e = omega arith
-fault-numbered at d s (One a) e = tt
-fault-numbered at d s (Loop n) e = go (ltb d 8)
-  where
-    go : (b : Bool) → Numbered (pick b right (wrong 7 at))
-    go true = tt
-    go false = omega arith
-fault-numbered at d s Done e = go (eqb d 0)
-  where
-    go : (b : Bool) → Numbered (pick b (wrong 8 at) right)
-    go true = omega arith
-    go false = tt
-fault-numbered at d s (Stop n) e = go (eqb d 0)
-  where
-    go : (b : Bool) → Numbered (pick b right (wrong 8 at))
-    go true = tt
-    go false = omega arith
-fault-numbered at d s (Bad k) e = ⊎-elim (λ h. omega arith) (λ h. omega arith) (bad-number s k e)
+placed-numbered : (st : Standing) (at : ℕ) (l : List ℕ) (f : Found) → spotOf st l ≡ f → Numbered (placed at f)
+unfolding placed
+placed-numbered st at l (Right m) e = tt
+placed-numbered st at l (Wrong k i) e = let h = bounded st l k i e .low in omega arith
 
 verdict-numbered : (s : Stand) (at : ℕ) (l : List ℕ) → Numbered (verdict s at l)
 unfolding verdict
-verdict-numbered first at l = head-numbered at (lineOf l)
-verdict-numbered (among d) at l = fault-numbered at d l (lineOf l) refl
+verdict-numbered first at l = placed-numbered First at l (spotOf First l) refl
+verdict-numbered (among d) at l = placed-numbered (Among d) at l (spotOf (Among d) l) refl
 verdict-numbered over at l = omega arith
 
 unless-numbered : (v w : Verdict) → Numbered v → Numbered w → Numbered (unless v w)
@@ -160,38 +140,35 @@ module _ (log : List ℕ) (c : Clear log) where
       go [] h = absurd (not-right h)
       go (b ∷ s) h = omega arith
 
-  first-line : (l : Line) → lineOf (bytesAt log 0) ≡ l → unless (headFault 0 l) (judgeAt log (among 0) (nextLine log 0)) ≡ right → lineOf (bytesAt log 0) ≡ Header
-  unfolding headFault unless
-  first-line Header e h = e
-  first-line (One a) e h = absurd (not-right h)
-  first-line (Loop n) e h = absurd (not-right h)
-  first-line Done e h = absurd (not-right h)
-  first-line (Stop n) e h = absurd (not-right h)
-  first-line (Bad k) e h = absurd (not-right h)
+  first-line : (f : Found) → spotOf First (bytesAt log 0) ≡ f → unless (placed 0 f) (judgeAt log (among 0) (nextLine log 0)) ≡ right
+      → spotOf First (bytesAt log 0) ≡ Right Header
+  unfolding placed unless
+  first-line (Right l) e h = e ∙ ap Right (first-header (bytesAt log 0) l e)
+  first-line (Wrong k i) e h = absurd (not-right h)
 
-  headed : lineOf (bytesAt log 0) ≡ Header
-  headed = first-line (lineOf (bytesAt log 0)) refl (sym (judged-first log (c .short) some (lineOf (bytesAt log 0)) refl) ∙ c .fine)
+  headed : spotOf First (bytesAt log 0) ≡ Right Header
+  headed = first-line (spotOf First (bytesAt log 0)) refl (sym (judged-first log (c .short) some) ∙ c .fine)
 
   at-header : readAt log 0 ≡ Item Header (startOf log)
-  unfolding firstRead headFault startOf
-  at-header = read-first log Header (c .short) some headed
+  unfolding startOf readAt
+  at-header = read-some First log 0 (c .short) some ∙ ap (taken 0 (nextLine log 0)) headed
 
   -- the lines behind it come to a block that `stop` ends
   after-is : after log 0 (readBlock log (startOf log) 0) ≡ right
-  unfolding headFault unless startOf
+  unfolding placed unless startOf
   after-is =
       sym (bridge log (nextLine log 0) 0 (c .short) (next-pos log 0 some) (next-le log 0 (omega arith)))
-      ∙ (sym (judged-first log (c .short) some Header headed) ∙ c .fine)
+      ∙ rw headed at (sym (judged-first log (c .short) some) ∙ c .fine)
 
   tree-behind : treeOf log ≡ innermost (blocks (linesFrom log (startOf log)))
   unfolding treeOf grow
-  tree-behind = ap innermost (blocks-at (had log 0 Header (startOf log) at-header))
+  tree-behind = ap innermost (blocks-at (had-at log 0 Header (startOf log) at-header))
 
   stop-behind : stopOf log ≡ stopFrom (startOf log) (linesFrom log (startOf log))
   unfolding stopOf stopHere
-  stop-behind = stop-at (had log 0 Header (startOf log) at-header)
+  stop-behind = stop-at (had-at log 0 Header (startOf log) at-header)
 
-  last-of : (q : ℕ) (b : Bool) → ltb q (length log) ≡ b → pick b (wrong 6 q) right ≡ right → length log ≤ q
+  last-of : (q : ℕ) (b : Bool) → ltb q (length log) ≡ b → pick b (wrong 19 q) right ≡ right → length log ≤ q
   last-of q true e h = absurd (not-right h)
   last-of q false e h = ltb-false q (length log) e
 
@@ -216,8 +193,8 @@ module _ (log : List ℕ) (c : Clear log) where
 -- what is read is what is printed
 
 module _ (log : List ℕ) where
-  pub had-split : {at : ℕ} {l : Line} {next : ℕ} → Had log at l next → drop at log ≡ lineText l ++ drop next log
-  had-split {at} {l} {next} h = line-split log at ∙ ap₂ _++_ (had-text h .0) (ap (λ (i : ℕ). drop i log) (sym (h .on)))
+  pub had-split : {st : Standing} {at : ℕ} {l : Line} {next : ℕ} → Had st log at l next → drop at log ≡ lineText l ++ drop next log
+  had-split {st} {at} {l} {next} h = line-split log at ∙ ap₂ _++_ (had-text h .0) (ap (λ (i : ℕ). drop i log) (sym (h .on)))
 
   -- the bytes from the line on that ends a block
   abbrev pub tailOf : Ending → List ℕ
@@ -227,23 +204,23 @@ module _ (log : List ℕ) where
   pub text-of : {at d : ℕ} {t : Tree} {e : Ending} → Reads log at d t e → drop at log ≡ text t ++ tailOf e
   unfolding text
   text-of {at} {d} {t} {e} (an-act {a = a} {t = u} l r) =
-      had-split (had log at _ _ l) ∙ (ap (λ (s : List ℕ). lineText (One a) ++ s) (text-of r) ∙ sym (append-assoc (lineText (One a)) (text u) (tailOf e)))
+      had-split (had-at log at _ _ l) ∙ (ap (λ (s : List ℕ). lineText (One a) ++ s) (text-of r) ∙ sym (append-assoc (lineText (One a)) (text u) (tailOf e)))
   text-of {at} {d} {t} {e} (a-loop {n = n} {b = b} {t = u} l i k r r′) =
-      had-split (had log at _ _ l)
+      had-split (had-at log at _ _ l)
       ∙ (ap (λ (s : List ℕ). lineText (Loop n) ++ s) (text-of r ∙ ap (λ (s : List ℕ). text b ++ (lineText Done ++ s)) (text-of r′)) ∙ simp append-assoc)
-  text-of {at} (a-done l h) = had-split (had log at _ _ l)
-  text-of {at} (a-stop l) = had-split (had log at _ _ l)
+  text-of {at} {d} (a-done l h) = had-split (had-at log at _ _ l)
+  text-of {at} (a-stop l) = had-split (had-at log at _ _ l)
 
   pub within-of : {at d : ℕ} {t : Tree} {e : Ending} → Reads log at d t e → Within t d
-  within-of {at} (an-act l r) = (had-text (had log at _ _ l) .1, within-of r)
-  within-of {at} (a-loop l i k r r′) = (had-text (had log at _ _ l) .1, k, within-of r, within-of r′)
+  within-of {at} {d} (an-act l r) = (had-text (had-at log at _ _ l) .1, within-of r)
+  within-of {at} {d} (a-loop l i k r r′) = (had-text (had-at log at _ _ l) .1, k, within-of r, within-of r′)
   within-of (a-done l h) = tt
   within-of (a-stop l) = tt
 
   stop-within : {at d p q n : ℕ} {t : Tree} → Reads log at d t (stops p q n) → Printable (Stop n)
   stop-within (an-act l r) = stop-within r
   stop-within (a-loop l i k r r′) = stop-within r′
-  stop-within {at} (a-stop l) = had-text (had log at _ _ l) .1
+  stop-within {at} (a-stop l) = had-text (had-at log at _ _ l) .1
 
 -- a log is the text of a tree within the limits and its `stop`
 pub record Stands (log : List ℕ) (t : Tree) (n : ℕ) : Type 0 where
@@ -260,7 +237,7 @@ stands log h =
     let end-is : drop (startOf log) log ≡ text t ++ lineText (Stop n) =
     text-of log (p .reads) ∙ ap (λ (s : List ℕ). text t ++ s) (rw (drop-of-length-le log (p .last)) (append-nil (lineText (Stop n)))) in
     record {
-      is-text = had-split log (had log 0 Header (startOf log) (p .header)) ∙ ap (λ (s : List ℕ). lineText Header ++ s) end-is;
+      is-text = had-split log (had-at log 0 Header (startOf log) (p .header)) ∙ ap (λ (s : List ℕ). lineText Header ++ s) end-is;
       within = within-of log (p .reads);
       stop = stop-within log (p .reads);
     }

@@ -10,8 +10,16 @@ use Rattle.line.specs.declared.Line.{Line}
 use Rattle.line.specs.declared.Line.the-variants.{Header, One, Loop, Done, Stop}
 use Rattle.line.specs.Printed.{lineText, Printable, NoFeed, empty, byte}
 use Rattle.line.proofs.Lines.{printed-read, one-line}
+use Rattle.spot.specs.declared.Stand.the-variants.{First, Among}
+use Rattle.spot.specs.declared.Found.{Found}
+use Rattle.spot.specs.declared.Found.the-variants.{Right, Wrong}
+use Rattle.spot.specs.Fault.{spotOf}
+use Rattle.spot.specs.Fronts.{allowed}
+use Rattle.spot.specs.Begins.{keysOf}
+use Rattle.spot.proofs.Laws.{line-right}
+use Rattle.spot.proofs.Standing.{Goes, act as acts-on, opens as opened-on, closes as closes-on, ends as ends-on, goes-may}
 use Rattle.judge.specs.Lines.{onto, linesOf, lineLen}
-use Rattle.judge.specs.Judge.{right, first, among, headFault, fault, verdict, leaves, behind, ending, unless, judge, judged}
+use Rattle.judge.specs.Judge.{right, first, among, placed, verdict, leaves, behind, ending, unless, judge, judged}
 use Rattle.judge.specs.Tree.{Tree, end, act, loop, text, logText, Within}
 use Rattle.judge.specs.Whole.{grow, blocks, innermost, treeOf, Stopping, stopHere, stopFrom, stopOf}
 
@@ -43,13 +51,13 @@ module _ (l : Line) (rest : List ℕ) (p : Printable l) where
   unfolding stopFrom
   stop-line at = rw (lines-text, printed-read l p)
 
-  pub judge-line : (at d : ℕ) → judge (among d) at (linesOf (lineText l ++ rest)) ≡ unless (fault at d l) (judge (leaves d l) (at + length (lineText l)) (linesOf rest))
-  unfolding judge verdict behind
-  judge-line at d = rw (lines-text, printed-read l p)
+  pub judge-line : (at d : ℕ) → Goes d l → judge (among d) at (linesOf (lineText l ++ rest)) ≡ judge (leaves d l) (at + length (lineText l)) (linesOf rest)
+  unfolding judge verdict behind placed unless
+  judge-line at d g = rw (lines-text, line-right (Among d) l (goes-may g) p, printed-read l p)
 
-  pub judge-head : (at : ℕ) → judge first at (linesOf (lineText l ++ rest)) ≡ unless (headFault at l) (judge (among 0) (at + length (lineText l)) (linesOf rest))
-  unfolding judge verdict behind
-  judge-head at = rw (lines-text, printed-read l p)
+pub judge-head : (rest : List ℕ) (at : ℕ) → judge first at (linesOf (lineText Header ++ rest)) ≡ judge (among 0) (at + length (lineText Header)) (linesOf rest)
+unfolding judge verdict behind placed unless allowed keysOf
+judge-head rest at = rw (lines-text Header rest tt, line-right First Header refl tt)
 
 -- a block
 
@@ -84,11 +92,11 @@ joined-end (loop n b t) = ap (loop n b) (joined-end t)
 
 -- its lines are right wherever so many loops may be open, and are gone on behind
 pub judge-text : (t : Tree) (at d : ℕ) (rest : List ℕ) → Within t d → judge (among d) at (linesOf (text t ++ rest)) ≡ judge (among d) (at + length (text t)) (linesOf rest)
-unfolding text fault leaves unless
+unfolding text leaves
 judge-text end at d rest w = ap (λ (i : ℕ). judge (among d) i (linesOf rest)) (omega arith)
 judge-text (act a t) at d rest w =
     ap (λ (s : List ℕ). judge (among d) at (linesOf s)) (act-text a t rest)
-    ∙ (judge-line (One a) (text t ++ rest) (w .0) at d
+    ∙ (judge-line (One a) (text t ++ rest) (w .0) at d acts-on
     ∙ (judge-text t (at + length (lineText (One a))) d rest (w .1)
     ∙ ap (λ (i : ℕ). judge (among d) i (linesOf rest)) (let h = act-long a t in omega arith)))
 judge-text (loop n b t) at d rest w =
@@ -97,11 +105,10 @@ judge-text (loop n b t) at d rest w =
     let k : ℕ = j + length (lineText Done) in
     let e : d + 1 - 1 ≡ d = omega arith in
     ap (λ (s : List ℕ). judge (among d) at (linesOf s)) (loop-text n b t rest)
-    ∙ (judge-line (Loop n) (text b ++ (lineText Done ++ (text t ++ rest))) (w .0) at d
-    ∙ rw (lt-ltb d 8 (w .1))
-    (judge-text b i (d + 1) (lineText Done ++ (text t ++ rest)) (w .2)
-    ∙ (judge-line Done (text t ++ rest) tt j (d + 1)
-    ∙ rw (ne-eqb (d + 1) 0 (λ z. omega arith), e)
+    ∙ (judge-line (Loop n) (text b ++ (lineText Done ++ (text t ++ rest))) (w .0) at d (opened-on (w .1))
+    ∙ (judge-text b i (d + 1) (lineText Done ++ (text t ++ rest)) (w .2)
+    ∙ (judge-line Done (text t ++ rest) tt j (d + 1) (closes-on (omega arith))
+    ∙ rw e
     (judge-text t k d rest (w .3)
     ∙ ap (λ (i : ℕ). judge (among d) i (linesOf rest)) (let h = loop-long n b t in omega arith)))))
 
@@ -146,13 +153,13 @@ stopping i n = record { place = i; number = n }
 
 module _ (t : Tree) (n : ℕ) (w : Within t 0) (s : Printable (Stop n)) where
   pub judged-text : judged (logText t n) ≡ right
-  unfolding judged logText headFault unless fault leaves linesOf judge ending
+  unfolding judged logText leaves linesOf judge ending
   judged-text =
       let at : ℕ = 0 + length (lineText Header) in
-      judge-head Header (text t ++ lineText (Stop n)) tt 0
+      judge-head (text t ++ lineText (Stop n)) 0
       ∙ (judge-text t at 0 (lineText (Stop n)) w
       ∙ (ap (λ (r : List ℕ). judge (among 0) (at + length (text t)) (linesOf r)) (sym (append-nil (lineText (Stop n))))
-      ∙ judge-line (Stop n) [] s (at + length (text t)) 0))
+      ∙ judge-line (Stop n) [] s (at + length (text t)) 0 (ends-on refl)))
 
   -- what stands behind the block of a log
   last-blocks : blocks (linesOf (lineText (Stop n))) ≡ end ∷ []

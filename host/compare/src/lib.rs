@@ -4,5 +4,7 @@ pub mod case;
 pub mod draw;
 pub mod every;
 pub mod judge;
+pub mod lines;
 pub mod logs;
 pub mod random;
+pub mod stored;

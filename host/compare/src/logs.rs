@@ -1,6 +1,5 @@
 //! Logs: drawn ones, nested and damaged, and the comparison of what the library and the reading make of them.
 
-use crate::case::Memory;
 use crate::random::Random;
 use perch::raw;
 use reading::log::{self, MOST_BYTES};
@@ -304,18 +303,21 @@ fn damage(random: &mut Random, log: &mut Vec<u8>) {
     }
 }
 
+/// A right log of about so many lines, with loops in each other and large numbers.
+pub fn nested(random: &mut Random, lines: usize) -> Vec<u8> {
+    let bounds = Bounds { clocks: 2_000_000_000, turns: 1_000_000, lines, longest_wait: 1_000_000 };
+    let mut draft = Draft::default();
+    for _ in 0..40 {
+        block(random, &mut draft, &bounds, 0, 1);
+    }
+    joined(&draft.lines, draft.clocks)
+}
+
 /// A log: right, at a bound, damaged, or any bytes.
 pub fn log(random: &mut Random) -> Vec<u8> {
     let mut log = match random.within(0..=19) {
         0..=1 => bounded(random),
-        2 => {
-            let bounds = Bounds { clocks: 2_000_000_000, turns: 1_000_000, lines: 2000, longest_wait: 1_000_000 };
-            let mut draft = Draft::default();
-            for _ in 0..40 {
-                block(random, &mut draft, &bounds, 0, 1);
-            }
-            joined(&draft.lines, draft.clocks)
-        }
+        2 => nested(random, 2000),
         3 => (0..random.within(0..=300)).map(|_| random.pick(b"log=1\nwait=1\nstop=1\nread=4015\n")).collect(),
         _ => sounding(random),
     };
@@ -346,14 +348,14 @@ pub fn stored(random: &mut Random, number: u64) -> Vec<u8> {
 #[derive(Default)]
 pub struct Tally {
     /// How many answered each number.
-    pub numbers: [u64; 13],
+    pub numbers: [u64; 20],
     /// How many were played.
     pub played: u64,
     /// Bytes of their texts.
     pub bytes: u64,
 }
 
-fn same(what: impl FnOnce() -> String, ours: u64, theirs: u64) -> Result<(), String> {
+pub(crate) fn same(what: impl FnOnce() -> String, ours: u64, theirs: u64) -> Result<(), String> {
     if ours == theirs { Ok(()) } else { Err(format!("{}: the reading {ours:#x}, the library {theirs:#x}", what())) }
 }
 
@@ -513,10 +515,8 @@ fn any_player(random: &mut Random, log: &[u8], memory: &[u8]) -> Result<(), Stri
 }
 
 /// Draws and judges logs; a failing one is told whole.
-pub fn compare(seed: u64, logs: u64) -> Result<String, String> {
+pub fn compare(seed: u64, logs: u64, memory: &[u8]) -> Result<String, String> {
     let mut tally = Tally::default();
-    let memory = Memory { start: seed as u16, times: 25173, plus: 13849 }.bytes();
-    let memory = &memory[..MEMORY];
     for number in 0..logs {
         let random = &mut Random::new(seed, "logs", number);
         let log = log(random);
@@ -528,7 +528,7 @@ pub fn compare(seed: u64, logs: u64) -> Result<String, String> {
         }
     }
     let numbers: Vec<String> =
-        (0..13).filter(|&i| tally.numbers[i] > 0).map(|i| format!("{i}: {}", tally.numbers[i])).collect();
+        (0..20).filter(|&i| tally.numbers[i] > 0).map(|i| format!("{i}: {}", tally.numbers[i])).collect();
     let Tally { played, bytes, .. } = tally;
     Ok(format!("{logs} logs ({}), {played} played, {bytes} bytes of text", numbers.join(", ")))
 }

@@ -3,7 +3,7 @@
 use compare::case::{self, Case, Outcome};
 use compare::judge::{self, Tally, judge};
 use compare::random::Random;
-use compare::{draw, every, logs};
+use compare::{draw, every, lines, logs, stored};
 use reading::{Chip, MEMORY};
 use std::process::ExitCode;
 use std::time::Instant;
@@ -15,6 +15,8 @@ compare cases N [--seed N]                              write N cases with the r
 compare questions FILE                                  write the cases of a file with zeros for every answer
 compare check FILE                                      hold the library to the cases of a file
 compare log-cases N FOLDER [--seed N]                   write N logs, a sample.bin and the texts that the reading gives
+compare judged FOLDER                                   write what the crate logs prints about the logs of a folder
+compare played FOLDER                                   write what the crate cases prints about them, with sample.bin
 --archive: an error where the library's archive isn't linked; --brief: no more parts after one that differs";
 
 /// What the command line asks for.
@@ -105,6 +107,13 @@ fn singles_are_a_run(seed: u64, lists: u64) -> Result<String, String> {
     Ok(format!("{lists} lists of single clocks, each against one run"))
 }
 
+/// The sample memory that logs are played with.
+fn sample(seed: u64) -> Vec<u8> {
+    let mut memory = case::Memory { start: seed as u16, times: 25173, plus: 13849 }.bytes();
+    memory.truncate(MEMORY);
+    memory
+}
+
 fn compare(asked: &Asked) -> bool {
     let seed = asked.seed;
     println!("seed {seed}, against {}", perch::LINKED);
@@ -138,7 +147,10 @@ fn compare(asked: &Asked) -> bool {
             draw::long(random, clocks)
         })
     });
-    part("logs", &mut || logs::compare(seed, asked.logs));
+    let memory = sample(seed);
+    part("lines", &mut || lines::compare(seed, asked.logs * 50, &memory));
+    part("cuts", &mut || lines::cuts(seed, asked.logs / 20));
+    part("logs", &mut || logs::compare(seed, asked.logs, &memory));
     good
 }
 
@@ -156,14 +168,13 @@ fn write_logs(asked: &Asked, count: &str, folder: &str) -> Result<(), String> {
     let write = |name: String, bytes: &[u8]| {
         std::fs::write(format!("{folder}/{name}"), bytes).map_err(|error| format!("{folder}/{name}: {error}"))
     };
-    let memory = case::Memory { start: asked.seed as u16, times: 25173, plus: 13849 }.bytes();
-    let memory = &memory[..MEMORY];
-    write("sample.bin".into(), memory)?;
+    let memory = sample(asked.seed);
+    write("sample.bin".into(), &memory)?;
     let mut texts = String::new();
     for number in 0..count {
         let log = logs::stored(&mut Random::new(asked.seed, "stored logs", number), number);
         write(format!("{number:03}.log"), &log)?;
-        texts += &reading::play::text(&log, memory);
+        texts += &reading::play::text(&log, &memory);
     }
     write("texts".into(), texts.as_bytes())
 }
@@ -208,6 +219,8 @@ fn main() -> ExitCode {
         ["questions", path] => write_questions(path),
         ["check", path] => check_cases(path),
         ["log-cases", count, folder] => write_logs(&asked, count, folder),
+        ["judged", folder] => stored::judged(folder).map(|text| print!("{text}")),
+        ["played", folder] => stored::played(folder).map(|text| print!("{text}")),
         _ => Err(USAGE.into()),
     };
     if let Err(what) = result {

@@ -9,7 +9,8 @@ use std::ops::Range;
 pub struct Fault {
     /// The refusal.
     pub refusal: Refusal,
-    /// The start of the faulty line; the log's length if `stop` is missing; 0 where the fault is in no line.
+    /// The start of the faulty line for 4, 7 and 8, of the `stop` line for 9 and 10; the first wrong byte for 14 and 15; the
+    /// value's first digit for 16; the log's length for 17 and 18; the byte behind the `stop` line for 19; else 0.
     pub place: usize,
 }
 

@@ -1,4 +1,5 @@
-//! Document 01 read in plain Rust, clock by clock, from the paper and from nothing else.
+//! Document 01, with the change requests that have landed, read in plain Rust, clock by clock, from the papers and from
+//! nothing else.
 //!
 //! The library that this is compared with leaps; this reading never does. It is written to be held against the paper
 //! line by line, so each rule stands in it once and in the paper's words.
@@ -35,8 +36,6 @@ pub mod number {
     pub const REGISTER: u8 = 4;
     /// The log is longer than 60,000 bytes.
     pub const LONG: u8 = 5;
-    /// A line not of the log's form, or `stop` missing.
-    pub const FORM: u8 = 6;
     /// A ninth loop opened inside eight.
     pub const DEPTH: u8 = 7;
     /// `done` with no loop open, or `stop` with one open.
@@ -49,4 +48,16 @@ pub mod number {
     pub const ITEM: u8 = 11;
     /// No loop line begins at the offset asked for.
     pub const LOOP: u8 = 12;
+    /// A key that is unknown, or not allowed where it stands.
+    pub const KEY: u8 = 14;
+    /// A value not of its shape.
+    pub const SHAPE: u8 = 15;
+    /// A value outside its range.
+    pub const RANGE: u8 = 16;
+    /// A line feed is missing.
+    pub const FEED: u8 = 17;
+    /// `stop` is missing.
+    pub const NO_STOP: u8 = 18;
+    /// Something stands behind `stop`.
+    pub const BEHIND: u8 = 19;
 }

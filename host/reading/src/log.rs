@@ -2,7 +2,7 @@
 
 use crate::chip::is_register;
 use crate::number;
-use std::ops::Range;
+use std::ops::{Range, RangeInclusive};
 
 /// The most bytes of a log.
 pub const MOST_BYTES: usize = 60_000;
@@ -33,7 +33,7 @@ pub enum Item {
     Read,
 }
 
-/// A line of the form.
+/// A right line.
 #[derive(Clone, Copy, Debug, PartialEq, Eq)]
 pub enum Line {
     /// `log=1`
@@ -48,14 +48,22 @@ pub enum Line {
     Stop(u32),
 }
 
-/// A decimal with no leading zero, in its range.
-fn decimal(text: &[u8], range: Range<u32>) -> Option<u32> {
-    let digits = !text.is_empty() && text.iter().all(u8::is_ascii_digit);
-    if !digits || text.len() > 10 || text[0] == b'0' && text.len() > 1 {
+/// The clocks of a wait, the turns of a loop and the clocks of a `stop`.
+const WAITS: RangeInclusive<u64> = 1..=1_000_000;
+const TURNS: RangeInclusive<u64> = 2..=255;
+const STOPS: RangeInclusive<u64> = 0..=2_000_000_000;
+
+/// A decimal of right shape: digits with no leading zero. One past 64 bits is the highest, which no range has.
+fn decimal(text: &[u8]) -> Option<u64> {
+    if text.is_empty() || !text.iter().all(u8::is_ascii_digit) || text.len() > 1 && text[0] == b'0' {
         return None;
     }
-    let value = text.iter().fold(0u64, |value, digit| 10 * value + u64::from(digit - b'0'));
-    u32::try_from(value).ok().filter(|value| range.contains(value))
+    Some(text.iter().fold(0, |value: u64, digit| value.saturating_mul(10).saturating_add(u64::from(digit - b'0'))))
+}
+
+/// A decimal of right shape, in its range.
+fn ranged(text: &[u8], range: RangeInclusive<u64>) -> Option<u32> {
+    decimal(text).filter(|value| range.contains(value)).map(|value| value as u32)
 }
 
 /// So many lower-case hex digits.
@@ -71,21 +79,131 @@ fn hex(text: &[u8], digits: usize) -> Option<u16> {
 }
 
 /// Reads a line, given without its line feed.
-pub fn line(text: &[u8]) -> Option<Line> {
+fn line(text: &[u8]) -> Option<Line> {
     let equals = text.iter().position(|byte| *byte == b'=')?;
     let (key, value) = (&text[..equals], &text[equals + 1..]);
     Some(match (key, value) {
         (b"log", b"1") => Line::Log,
         (b"read", b"4015") => Line::Item(Item::Read),
         (b"done", b"loop") => Line::Done,
-        (b"wait", _) => Line::Item(Item::Wait(decimal(value, 1..1_000_001)?)),
-        (b"loop", _) => Line::Loop(decimal(value, 2..256)?),
-        (b"stop", _) => Line::Stop(decimal(value, 0..2_000_000_001)?),
+        (b"wait", _) => Line::Item(Item::Wait(ranged(value, WAITS)?)),
+        (b"loop", _) => Line::Loop(ranged(value, TURNS)?),
+        (b"stop", _) => Line::Stop(ranged(value, STOPS)?),
         (b"write", [register @ .., b':', high, low]) => {
             Line::Item(Item::Write(hex(register, 4)?, hex(&[*high, *low], 2)? as u8))
         }
         _ => return None,
     })
+}
+
+/// What stands behind a key's `=`.
+enum Value {
+    /// These bytes, where an x is any lower-case hex digit.
+    Fixed(&'static [u8]),
+    /// A decimal of a range.
+    Decimal(RangeInclusive<u64>),
+}
+
+/// The keys, and what stands behind each.
+const KEYS: [(&[u8], Value); 7] = [
+    (b"log", Value::Fixed(b"1")),
+    (b"wait", Value::Decimal(WAITS)),
+    (b"write", Value::Fixed(b"xxxx:xx")),
+    (b"read", Value::Fixed(b"4015")),
+    (b"loop", Value::Decimal(TURNS)),
+    (b"done", Value::Fixed(b"loop")),
+    (b"stop", Value::Decimal(STOPS)),
+];
+
+/// Whether a key may stand at a place with so many loops open.
+fn allowed(key: &[u8], at: usize, open: usize) -> bool {
+    match key {
+        b"log" => at == 0,
+        _ if at == 0 => false,
+        b"loop" => open < MOST_DEPTH,
+        b"done" => open > 0,
+        b"stop" => open == 0,
+        _ => true,
+    }
+}
+
+/// Whether the bytes are of the form, or its beginning.
+fn begins_fixed(text: &[u8], form: &[u8]) -> bool {
+    let fits = |(byte, of): (&u8, &u8)| if *of == b'x' { hex(&[*byte], 1).is_some() } else { byte == of };
+    text.len() <= form.len() && text.iter().zip(form).all(fits)
+}
+
+/// Whether some decimal of the range, or one with its line feed, begins with the bytes.
+fn begins_decimal(text: &[u8], range: RangeInclusive<u64>) -> bool {
+    if let Some(whole) = text.strip_suffix(b"\n") {
+        return ranged(whole, range).is_some();
+    }
+    match decimal(text) {
+        None => text.is_empty(),
+        // Nothing comes behind a leading zero.
+        Some(0) => range.contains(&0),
+        // With some digits more it is one of ten, of a hundred, and so on.
+        Some(value) => (0..10).map(|digits| 10u64.pow(digits)).any(|tens| {
+            let lowest = value.saturating_mul(tens);
+            lowest <= *range.end() && *range.start() <= lowest + (tens - 1)
+        }),
+    }
+}
+
+/// Whether some right line of the key begins with the bytes.
+fn begins(text: &[u8], key: &[u8], value: &Value) -> bool {
+    let head = [key, b"="].concat();
+    match text.strip_prefix(&head[..]) {
+        None => head.starts_with(text),
+        Some(text) => match value {
+            Value::Fixed(form) => begins_fixed(text, &[form, &b"\n"[..]].concat()),
+            Value::Decimal(range) => begins_decimal(text, range.clone()),
+        },
+    }
+}
+
+/// The fault of a line that isn't right, or not allowed where it stands: its bytes up to its line feed or the log's end.
+fn fault(text: &[u8], at: usize, open: usize) -> Fault {
+    let fault = |number, place| Fault { number, place: at + place };
+    let right = |text: &[u8]| KEYS.iter().any(|(key, value)| allowed(key, at, open) && begins(text, key, value));
+    // The first byte that can't belong to any right line allowed here with that beginning.
+    let Some(first) = (0..text.len()).find(|&i| !right(&text[..=i])) else {
+        return fault(number::FEED, text.len());
+    };
+    let Some(equals) = text[..first].iter().position(|byte| *byte == b'=') else {
+        return fault(number::KEY, first);
+    };
+    let (key, value) = (&text[..equals], &text[equals + 1..]);
+    let number = decimal(value.strip_suffix(b"\n").unwrap_or(value));
+    match KEYS.iter().find(|known| known.0 == key) {
+        Some((_, Value::Decimal(_))) if number.is_some() => fault(number::RANGE, equals + 1),
+        _ => fault(number::SHAPE, first),
+    }
+}
+
+/// A line of a log, and where it begins and ends (behind its line feed).
+pub type Placed = (Line, Range<usize>);
+
+/// The line at a place, with so many loops open.
+pub fn line_at(log: &[u8], at: usize, open: usize) -> Result<Placed, Fault> {
+    if log.len() > MOST_BYTES {
+        return Err(Fault { number: number::LONG, place: 0 });
+    }
+    if at >= log.len() {
+        return Err(Fault { number: number::NO_STOP, place: log.len() });
+    }
+    let feed = log[at..].iter().position(|byte| *byte == b'\n').map(|length| at + length);
+    let end = feed.map_or(log.len(), |feed| feed + 1);
+    let text = &log[at..end];
+    let key = text.split(|byte| *byte == b'=').next().unwrap_or_default();
+    let whole = |number| Err(Fault { number, place: at });
+    match feed.and_then(|feed| line(&log[at..feed])) {
+        Some(Line::Item(Item::Write(register, _))) if at > 0 && !is_register(register) => whole(number::REGISTER),
+        Some(line) if allowed(key, at, open) => Ok((line, at..end)),
+        Some(Line::Loop(_)) if at > 0 => whole(number::DEPTH),
+        Some(Line::Done | Line::Stop(_)) if at > 0 => whole(number::UNMATCHED),
+        _ => Err(fault(text, at, open)),
+    }
 }
 
 /// What is summed over a log.
@@ -99,38 +217,22 @@ pub struct Totals {
     pub items: u128,
 }
 
-/// A line of a log that has passed, and where it begins and ends (behind its line feed).
-type Placed = (Line, Range<usize>);
-
-/// The lines of a log up to `stop`, or the first that is at fault by 4, 6, 7 or 8.
+/// The lines of a log up to `stop`, or the first fault that isn't one of the totals.
 fn lines(log: &[u8]) -> Result<Vec<Placed>, Fault> {
     let mut lines: Vec<Placed> = Vec::new();
-    let (mut at, mut depth, mut stopped) = (0, 0, false);
-    while at < log.len() {
-        let fault = |number| Err(Fault { number, place: at });
-        let Some(length) = log[at..].iter().position(|byte| *byte == b'\n') else {
-            return fault(number::FORM);
-        };
-        let Some(line) = line(&log[at..at + length]) else {
-            return fault(number::FORM);
-        };
-        if stopped || (line == Line::Log) != (at == 0) {
-            return fault(number::FORM);
-        }
+    let (mut at, mut open) = (0, 0);
+    loop {
+        let (line, place) = line_at(log, at, open)?;
+        at = place.end;
+        lines.push((line, place));
         match line {
-            Line::Item(Item::Write(register, _)) if !is_register(register) => return fault(number::REGISTER),
-            Line::Loop(_) if depth == MOST_DEPTH => return fault(number::DEPTH),
-            Line::Done if depth == 0 => return fault(number::UNMATCHED),
-            Line::Stop(_) if depth > 0 => return fault(number::UNMATCHED),
-            Line::Loop(_) => depth += 1,
-            Line::Done => depth -= 1,
-            Line::Stop(_) => stopped = true,
             Line::Log | Line::Item(_) => {}
+            Line::Loop(_) => open += 1,
+            Line::Done => open -= 1,
+            Line::Stop(_) if at < log.len() => return Err(Fault { number: number::BEHIND, place: at }),
+            Line::Stop(_) => return Ok(lines),
         }
-        lines.push((line, at..at + length + 1));
-        at += length + 1;
     }
-    if stopped { Ok(lines) } else { Err(Fault { number: number::FORM, place: log.len() }) }
 }
 
 /// The totals of lines whose loops are closed.
@@ -163,9 +265,6 @@ fn totals(lines: &[Placed]) -> Totals {
 
 /// The lines of a log that passes, with its totals; or its fault.
 fn passed(log: &[u8]) -> Result<(Vec<Placed>, Totals), Fault> {
-    if log.len() > MOST_BYTES {
-        return Err(Fault { number: number::LONG, place: 0 });
-    }
     let lines = lines(log)?;
     let totals = totals(&lines);
     let Some((Line::Stop(stop), place)) = lines.last().cloned() else { unreachable!("stop is the last line") };

@@ -1,4 +1,4 @@
-//! Logs worked out by hand from document 01, its marked case (12) and its example.
+//! Logs worked out by hand from document 01, its marked case (12) and its example, and from request 2.
 
 use reading::log::{Fault, Item, body, check, item, items};
 use reading::play::text;
@@ -12,8 +12,8 @@ fn fault(log: &str) -> (u8, usize) {
 
 #[test]
 fn case_12_empty_log() {
-    assert_eq!(fault(""), (6, 0));
-    assert_eq!(text(b"", &MEMORY_0), "play=1\nrefused=6:0\n");
+    assert_eq!(fault(""), (18, 0));
+    assert_eq!(text(b"", &MEMORY_0), "play=1\nrefused=18:0\n");
 }
 
 #[test]
@@ -23,7 +23,7 @@ fn the_example() {
 }
 
 #[test]
-fn lines_of_the_form() {
+fn right_lines() {
     for (log, place) in [
         ("log=1\nwait=1\nstop=1\n", 0),
         ("log=1\nwait=1000000\nstop=1000000\n", 0),
@@ -32,74 +32,163 @@ fn lines_of_the_form() {
     ] {
         assert_eq!(fault(log), (0, place), "{log}");
     }
-    for line in [
-        "wait=0",
-        "wait=01",
-        "wait=1000001",
-        "wait=",
-        "wait=+1",
-        "wait=1 ",
-        " wait=1",
-        "Wait=1",
-        "wait",
-        "",
-        "=",
-        "wait==1",
-        "wait=99999999999999999999",
-        "wait=4294967297",
-        "write=4000:0",
-        "write=4000:000",
-        "write=400:00",
-        "write=4000:0G",
-        "write=4000:AB",
-        "write=400A:00",
-        "write=4000 00",
-        "write=4000",
-        "write=04000:00",
-        "read=4016",
-        "read=40150",
-        "read=",
-        "loop=1",
-        "loop=256",
-        "loop=02",
-        "loop=0",
-        "done=",
-        "done=loops",
-        "done",
-        "log=1",
-        "log=2",
-        "log=01",
-        "stop=00",
-        "stop=2000000001",
-        "stop=-1",
-        "stop=",
-        "wait=1\r",
-        "wait=\u{661}",
-    ] {
-        assert_eq!(fault(&format!("log=1\nwait=1\n{line}\nstop=1\n")), (6, 13), "{line}");
+}
+
+/// Lines at fault: loops open (or the first line), the line's bytes, the number, and the place from the line's start. A
+/// line with no line feed is the log's end.
+const FAULTS: [(Option<usize>, &str, u8, usize); 103] = [
+    (None, "", 18, 0),
+    (Some(0), "", 18, 0),
+    (None, "lo", 17, 2),
+    (None, "log=1", 17, 5),
+    (None, "log=2\n", 15, 4),
+    (None, "log=12\n", 15, 5),
+    (None, "log=1\r\n", 15, 5),
+    (None, "loop=2\n", 14, 2),
+    (None, "done=loop\n", 14, 0),
+    (None, "stop=0\n", 14, 0),
+    (None, "\n", 14, 0),
+    (Some(0), "\n", 14, 0),
+    (Some(0), "wait\n", 14, 4),
+    (Some(0), "waits=5\n", 14, 4),
+    (Some(0), "wai=5\n", 14, 3),
+    (Some(0), "w=1\n", 14, 1),
+    (Some(0), "wait=\n", 15, 5),
+    (Some(0), "wait=0\n", 16, 5),
+    (Some(0), "wait=01\n", 15, 5),
+    (Some(0), "wait=00\n", 15, 5),
+    (Some(0), "wait=0x\n", 15, 5),
+    (Some(0), "stop=00\n", 15, 6),
+    (Some(0), "stop=01\n", 15, 6),
+    (Some(0), "stop=2000000001\n", 16, 5),
+    (Some(0), "wait=1000001\n", 16, 5),
+    (Some(0), "wait=1234567890123456789012345\n", 16, 5),
+    (Some(0), "loop=256\n", 16, 5),
+    (Some(0), "loop=1\n", 16, 5),
+    (Some(0), "loop=0\n", 16, 5),
+    (Some(0), "loop=256x\n", 15, 7),
+    (Some(0), "wait=1000001x\n", 15, 11),
+    (Some(0), "wait=1000000x\n", 15, 12),
+    (Some(0), "loop=1x\n", 15, 6),
+    (Some(0), "loop=1", 17, 6),
+    (Some(0), "loop=256", 16, 5),
+    (Some(0), "wait=0", 16, 5),
+    (Some(0), "wait=1000001", 16, 5),
+    (Some(0), "wait=1000000", 17, 12),
+    (Some(0), "log=1\n", 14, 2),
+    (Some(1), "log=1\n", 14, 2),
+    (Some(2), "log=1\n", 14, 2),
+    (Some(3), "log=1\n", 14, 2),
+    (Some(4), "log=1\n", 14, 2),
+    (Some(5), "log=1\n", 14, 2),
+    (Some(6), "log=1\n", 14, 2),
+    (Some(7), "log=1\n", 14, 2),
+    (Some(8), "log=1\n", 14, 0),
+    (Some(0), "done=loop\n", 8, 0),
+    (Some(0), "done=loop", 14, 0),
+    (Some(0), "done=loops\n", 14, 0),
+    (Some(0), "d", 14, 0),
+    (Some(1), "done=loop", 17, 9),
+    (Some(1), "done=loops\n", 15, 9),
+    (Some(1), "stop=5\n", 8, 0),
+    (Some(1), "stop=5", 14, 0),
+    (Some(1), "stop=x\n", 14, 0),
+    (Some(1), "stop=00\n", 14, 0),
+    (Some(1), "stop=2000000001\n", 14, 0),
+    (Some(1), "st", 14, 0),
+    (Some(8), "loop=2\n", 7, 0),
+    (Some(8), "loop=1\n", 14, 0),
+    (Some(8), "loop=256\n", 14, 0),
+    (Some(8), "loop=2", 14, 0),
+    (Some(8), "l", 14, 0),
+    (Some(0), "write=4014:00\n", 4, 0),
+    (Some(0), "write=4014:00", 17, 13),
+    (Some(0), "write=4014:0g\n", 15, 12),
+    (Some(0), "write=400A:00\n", 15, 9),
+    (Some(0), "write=4000:000\n", 15, 13),
+    (Some(0), "read=4016\n", 15, 8),
+    (Some(0), "read=4015x\n", 15, 9),
+    // More of the kind.
+    (None, "write=4014:00\n", 14, 0),
+    (None, "log=\n", 15, 4),
+    (None, "Log=1\n", 14, 0),
+    (None, "\u{feff}log=1\n", 14, 0),
+    (Some(0), "=", 14, 0),
+    (Some(0), "wait==1\n", 15, 5),
+    (Some(0), " wait=1\n", 14, 0),
+    (Some(0), "wait=1 \n", 15, 6),
+    (Some(0), "wait=1\r\n", 15, 6),
+    (Some(0), "wait=+1\n", 15, 5),
+    (Some(0), "wait=\u{661}\n", 15, 5),
+    (Some(0), "wait=4294967297\n", 16, 5),
+    (Some(0), "wait=10000000", 16, 5),
+    (Some(0), "wait=9999999x", 15, 11),
+    (Some(0), "stop=0", 17, 6),
+    (Some(0), "stop=", 17, 5),
+    (Some(0), "stop=-1\n", 15, 5),
+    (Some(0), "stop=3000000000", 16, 5),
+    (Some(0), "stop=20000000000x\n", 15, 15),
+    (Some(0), "stop=2000000001 \n", 15, 14),
+    (Some(0), "loop=26\r\n", 15, 7),
+    (Some(0), "loop=260\r\n", 15, 7),
+    (Some(0), "loop=02\n", 15, 5),
+    (Some(0), "write=4000:0\n", 15, 12),
+    (Some(0), "write=400:00\n", 15, 9),
+    (Some(0), "write=04000:00\n", 15, 10),
+    (Some(0), "write=ffff", 17, 10),
+    (Some(0), "read=\n", 15, 5),
+    (Some(8), "write=4018:00\n", 4, 0),
+    (Some(8), "done=\n", 15, 5),
+    (Some(8), "stop=0\n", 8, 0),
+    (Some(8), "", 18, 0),
+];
+
+#[test]
+fn lines_at_fault() {
+    for (open, line, number, place) in FAULTS {
+        let before = open.map_or(String::new(), |open| format!("log=1\n{}", "loop=2\n".repeat(open)));
+        let closing = format!("{}stop=0\n", "done=loop\n".repeat(open.unwrap_or(0)));
+        let behind = ["", &closing, "wait=x\n", "write=4014:00\n", "\n"];
+        // What comes behind a line feed doesn't matter.
+        for behind in if line.ends_with('\n') { &behind[..] } else { &behind[..1] } {
+            assert_eq!(fault(&format!("{before}{line}{behind}")), (number, before.len() + place), "{open:?} {line:?}");
+        }
+    }
+}
+
+#[test]
+fn a_number_cut_short_may_go_on() {
+    for number in 0..3000 {
+        let number = number.to_string();
+        let goes_on = (2..256).any(|turns: u32| turns.to_string().starts_with(&number));
+        let expected = if goes_on { (17, 11 + number.len()) } else { (16, 11) };
+        assert_eq!(fault(&format!("log=1\nloop={number}")), expected, "{number}");
+    }
+}
+
+#[test]
+fn a_cut_log_wants_a_line_feed_or_stop() {
+    let log = "log=1\nwait=1000000\nloop=255\nwrite=4000:ff\nloop=2\ndone=loop\nread=4015\ndone=loop\nstop=1000000\n";
+    for cut in 0..log.len() {
+        let number = if cut == 0 || log.as_bytes()[cut - 1] == b'\n' { 18 } else { 17 };
+        assert_eq!(fault(&log[..cut]), (number, cut), "{cut}");
     }
 }
 
 #[test]
 fn the_first_line_at_fault_wins() {
     for (log, number, place) in [
-        ("done=loop\n", 6, 0),
-        ("write=5000:00\n", 6, 0),
-        ("loop=2\n", 6, 0),
-        ("log=1", 6, 0),
-        ("log=1\n", 6, 6),
-        ("log=1\nstop=0", 6, 6),
-        ("log=1\nwait=5\n", 6, 13),
-        ("log=1\nloop=2\n", 6, 13),
+        ("log=1\nwait=5\n", 18, 13),
         ("log=1\nwrite=4014:00\nwait=x\nstop=0\n", 4, 6),
-        ("log=1\nwrite=4014:0g\nstop=0\n", 6, 6),
+        ("log=1\nwait=x\nwrite=4014:00\nstop=0\n", 15, 11),
         ("log=1\nwrite=ffff:00\nstop=0\n", 4, 6),
         ("log=1\ndone=loop\nwrite=4014:00\n", 8, 6),
         ("log=1\nloop=2\nstop=7\n", 8, 13),
         ("log=1\nloop=2\nstop=7\ndone=loop\nstop=7\n", 8, 13),
-        ("log=1\nstop=0\nstop=0\n", 6, 13),
-        ("log=1\nstop=7\n\n", 6, 13),
-        ("log=1\nstop=7\ndone=loop", 6, 13),
+        ("log=1\nstop=0\nstop=0\n", 19, 13),
+        ("log=1\nstop=7\n\n", 19, 13),
+        ("log=1\nstop=7\ndone=loop", 19, 13),
+        ("log=1\nstop=7\nwrite=4014:00\n", 19, 13),
         ("log=1\nwait=5\nstop=4\n", 10, 13),
     ] {
         assert_eq!(fault(log), (number, place), "{log}");
@@ -150,7 +239,8 @@ fn the_longest_log() {
     assert_eq!(log("1", "1").len(), 60_000);
     assert_eq!(fault(&log("1", "1")), (0, 0));
     assert_eq!(fault(&log("10", "1")), (5, 0));
-    assert_eq!(fault(&"x".repeat(60_000)), (6, 0));
+    assert_eq!(fault(&log("1", "1")[..59_999]), (17, 59_999));
+    assert_eq!(fault(&"x".repeat(60_000)), (14, 0));
     assert_eq!(fault(&"x".repeat(60_001)), (5, 0));
 }
 

@@ -1,16 +1,15 @@
 use borrow.Author.Needs.{needs}
 use borrow.Author.Tests.{eq-eqb, ne-eqb}
-use Rattle.judge.specs.Judge.{fault}
-use Rattle.cursor.specs.Stepping.{followed, unlessFault}
+use Rattle.cursor.specs.Stepping.{followed}
 use Rattle.cursor.proofs.at_done.Statement.{statement}
 use Rattle.cursor.proofs.at_done.Tie as tie
 
 returns : tie.Need-returns
-unfolding followed unlessFault fault
+unfolding followed
 returns c = simp (eq-eqb _ _ (c .if1 .taken))
 
 returns-2 : tie.Need-returns-2
-unfolding followed unlessFault fault
+unfolding followed
 returns-2 c = simp (ne-eqb _ _ (c .before .before .if1 .left), c .turn .ensures)
 
 pub at-done-spec : {M : Type 1} → statement M

@@ -1,16 +1,15 @@
 use borrow.Author.Needs.{needs}
 use borrow.Author.Tests.{lt-ltb, le-ltb}
-use Rattle.judge.specs.Judge.{fault}
-use Rattle.cursor.specs.Stepping.{followed, unlessFault}
+use Rattle.cursor.specs.Stepping.{followed}
 use Rattle.cursor.proofs.at_loop.Statement.{statement}
 use Rattle.cursor.proofs.at_loop.Tie as tie
 
 returns : tie.Need-returns
-unfolding followed unlessFault fault
+unfolding followed
 returns c = simp (lt-ltb _ _ (c .before .if1 .taken), c .enter .ensures)
 
 returns-2 : tie.Need-returns-2
-unfolding followed unlessFault fault
+unfolding followed
 returns-2 c = simp (le-ltb _ _ (c .if1 .left))
 
 pub at-loop-spec : {M : Type 1} → statement M

@@ -1,31 +1,30 @@
 use borrow.Author.Needs.{needs}
-use Rattle.judge.specs.Judge.{fault}
-use Rattle.cursor.specs.Stepping.{followed, unlessFault}
+use Rattle.cursor.specs.Stepping.{followed}
 use Rattle.cursor.proofs.follow.Statement.{statement}
 use Rattle.cursor.proofs.follow.Tie as tie
 
 returns : tie.Need-returns
-unfolding followed unlessFault fault
+unfolding followed
 returns c = rw (c .before .enum-told .given .1, c .pass .ensures)
 
 returns-2 : tie.Need-returns-2
-unfolding followed unlessFault fault
+unfolding followed
 returns-2 c = rw (c .before .before .l .given .1, c .pass2 .ensures)
 
 returns-3 : tie.Need-returns-3
-unfolding followed unlessFault fault
+unfolding followed
 returns-3 c = rw (c .before .before .l2 .given .1) (c .at-loop .ensures)
 
 returns-4 : tie.Need-returns-4
-unfolding followed unlessFault fault
+unfolding followed
 returns-4 c = rw (c .before .enum-told2 .given .1) (c .at-done .ensures)
 
 returns-5 : tie.Need-returns-5
-unfolding followed unlessFault fault
+unfolding followed
 returns-5 c = rw (c .before .before .l3 .given .1) (c .at-stop .ensures)
 
 returns-6 : tie.Need-returns-6
-unfolding followed unlessFault fault
+unfolding followed
 returns-6 c = rw (c .before .l4 .given .1)
 
 pub follow-spec : {M : Type 1} → statement M

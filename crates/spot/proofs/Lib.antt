@@ -1,0 +1,12 @@
+pub mod Answers
+pub mod Beginnings
+pub mod Decimals
+pub mod Forms
+pub mod Furthest
+pub mod Laws
+pub mod Ranges
+pub mod Reaches
+pub mod Scans
+pub mod Standing
+pub mod Wholes
+pub mod Writes

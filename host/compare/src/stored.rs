@@ -1,0 +1,109 @@
+//! What the programs of the crates `logs` and `cases` print about their stored logs, by the reading.
+
+use reading::log::{self, Fault, Item, Line};
+use reading::{MEMORY, number, play};
+use std::path::{Path, PathBuf};
+
+/// The most steps that a cursor takes in a log that is refused.
+const MOST_STEPS: u64 = 5_000;
+
+/// The logs of a folder with their names, in the names' order.
+fn logs(folder: &str) -> Result<Vec<(String, Vec<u8>)>, String> {
+    let read = |path: &Path| std::fs::read(path).map_err(|error| format!("{}: {error}", path.display()));
+    let entries = std::fs::read_dir(folder).map_err(|error| format!("{folder}: {error}"))?;
+    let mut paths: Vec<PathBuf> = entries.flatten().map(|entry| entry.path()).collect();
+    paths.retain(|path| path.extension().is_some_and(|end| end == "log"));
+    paths.sort();
+    let name = |path: &Path| path.file_stem().unwrap_or_default().to_string_lossy().into_owned();
+    paths.iter().map(|path| Ok((name(path), read(path)?))).collect()
+}
+
+/// What `crates/logs/stdout` holds: of each log the check, some items, some bodies, and a cursor's way.
+pub fn judged(folder: &str) -> Result<String, String> {
+    Ok(logs(folder)?.iter().map(|(name, log)| format!("log={name}\n{}", judged_log(log))).collect())
+}
+
+fn judged_log(log: &[u8]) -> String {
+    match (log::check(log), log::items(log)) {
+        (Ok(all), Ok(items)) => {
+            let count = items.len() as u64;
+            let mut text = format!("check=0:0 clocks={} turns={} items={count}\n", all.clocks, all.turns);
+            for k in [0, 1, 2, 3, count / 2, count.wrapping_sub(1), count, u64::MAX] {
+                let item = items.get(k.min(count) as usize).copied();
+                text += &item_line(k, item.ok_or(Fault { number: number::ITEM, place: 0 }));
+            }
+            for offset in [0, 6, 13, 20, 27, 41, log.len() as u64, u64::MAX] {
+                text += &body_line(log, offset);
+            }
+            text + &cursor_line(log, u64::MAX)
+        }
+        (Err(fault), _) | (_, Err(fault)) => {
+            let check = format!("check={}:{} clocks=0 turns=0 items=0\n", fault.number, fault.place);
+            check + &item_line(0, Err(fault)) + &body_line(log, 6) + &cursor_line(log, MOST_STEPS)
+        }
+    }
+}
+
+fn item_line(k: u64, item: Result<Item, Fault>) -> String {
+    match item {
+        Ok(Item::Wait(clocks)) => format!("item={k} wait:{clocks}\n"),
+        Ok(Item::Write(register, value)) => format!("item={k} write:{register}:{value}\n"),
+        Ok(Item::Read) => format!("item={k} read\n"),
+        Err(Fault { number, place }) => format!("item={k} refused={number}:{place}\n"),
+    }
+}
+
+fn body_line(log: &[u8], offset: u64) -> String {
+    let (fault, part) = match log::body(log, offset) {
+        Ok(part) => (Fault { number: number::DONE, place: 0 }, part),
+        Err(fault) => (fault, 0..0),
+    };
+    let sum: u64 = log[part.clone()].iter().map(|&byte| u64::from(byte)).sum();
+    format!("body={offset} check={}:{} bytes={} sum={sum}\n", fault.number, fault.place, part.len())
+}
+
+/// The items that a cursor comes by and the steps that it takes, a line each, through every turn of a loop.
+fn cursor_line(log: &[u8], most: u64) -> String {
+    let (mut items, mut steps, mut at) = (0, 0, 0);
+    // Where the body of each open loop begins, and its turns left.
+    let mut open: Vec<(usize, u32)> = Vec::new();
+    let end = loop {
+        if steps == most {
+            break "more".into();
+        }
+        steps += 1;
+        let (line, place) = match log::line_at(log, at, open.len()) {
+            Ok(placed) => placed,
+            Err(fault) => break format!("refused={}:{}", fault.number, fault.place),
+        };
+        at = place.end;
+        match line {
+            Line::Log => {}
+            Line::Item(_) => items += 1,
+            Line::Loop(turns) => open.push((at, turns)),
+            Line::Done => match open.pop() {
+                Some((body, turns)) if turns > 1 => {
+                    open.push((body, turns - 1));
+                    at = body;
+                }
+                _ => {}
+            },
+            Line::Stop(_) => break "end".into(),
+        }
+    };
+    format!("cursor={items}:{steps} {end}\n")
+}
+
+/// What `crates/cases/stdout` holds: each log played with the folder's `sample.bin`, then the first with other memory.
+pub fn played(folder: &str) -> Result<String, String> {
+    let path = format!("{folder}/sample.bin");
+    let memory = std::fs::read(&path).map_err(|error| format!("{path}: {error}"))?;
+    let logs = logs(folder)?;
+    let case = |(name, log): &(String, Vec<u8>), memory: &[u8]| format!("case={name}\n{}", play::text(log, memory));
+    let mut text: String = logs.iter().map(|log| case(log, &memory)).collect();
+    for size in [0, MEMORY - 1, MEMORY + 1] {
+        text += &format!("memory={size}\n");
+        text += &logs.first().map_or(String::new(), |log| case(log, &vec![0; size]));
+    }
+    Ok(text)
+}
