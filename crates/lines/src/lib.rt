@@ -89,7 +89,11 @@ pub fn read(log: &[u8], at: usize) -> Reading
 fn stand_of(at: usize, depth: u64) -> Stand
     ensures { λ r. ⌜ r ≡ standing at depth ⌝ }
 {
-    if at == 0 { Stand::First } else { Stand::Among(depth) }
+    if at == 0 {
+        Stand::First
+    } else {
+        Stand::Among(depth)
+    }
 }
 
 // The line that begins at a place, with so many loops open.

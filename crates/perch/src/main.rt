@@ -1,0 +1,24 @@
+// The program for daily work: `perch VERB`, and what the verb asks for.
+mod check;
+
+// The verbs, a line each with their arguments.
+fn usage() {
+    input::say(b"usage: perch VERB\n");
+    input::say(b"  check    a log on standard input: whether it passes, or where it is at fault\n");
+}
+
+// Runs a verb that is given as many words as it asks for, the program's name and the verb among them.
+fn run(verb: &[u8], words: usize) {
+    if arith::both_of(text::exact(verb, b"check"), words == 2) {
+        check::check();
+    } else {
+        usage();
+    }
+}
+
+// A word that is longer than any verb reads as an empty one.
+fn main() {
+    let mut word = [0u8; 16];
+    let n = os::arg(1, &mut word);
+    run(&word[..n], os::arg_count());
+}

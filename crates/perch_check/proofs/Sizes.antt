@@ -1,0 +1,80 @@
+-- How long the text is. Assumes nothing.
+use Prim.Native.Nat.{ℕ, _+_, _≤_}
+use mathlib.Core.Path.{_≡_, ap, _∙_}
+use mathlib.Core.List.{List, _++_}
+use native.Mathlib.Omega.{arith}
+use borrow.Author.Tests.{eq-eqb, ne-eqb}
+use lib.Dec.{eqb}
+use lib.ListN.{length, take, length-append}
+use lib.Seq.{sets}
+use Rattle.arith.proofs.Picks.{pick-both}
+use Rattle.text.specs.Ascii.{bytes}
+use Rattle.print.specs.Printed.{placed, printed}
+use Rattle.print.proofs.Stores.{placed-in, printed-in}
+use Rattle.notes.proofs.Texts.{decimal-ten}
+use Rattle.judge.specs.declared.Checked.{Checked}
+use Rattle.judge.specs.Whole.{checkOf}
+use Rattle.perch_place.specs.Place.{lineNumber, column}
+use Rattle.perch_check.specs.Reasons.{reasonText}
+use Rattle.perch_check.specs.Report.{numberLine, passedText, refusedLine, reasonLine, refusedText, outcomeText, checkText}
+use Rattle.perch_place.proofs.Sizes.{UpTo, line-size, mark-size, text-taken}
+
+reason-size : (n : ℕ) → UpTo 60 (reasonText n)
+unfolding reasonText
+reason-size n =
+    pick-both (UpTo 60) (eqb n 4) (omega arith)
+    (pick-both (UpTo 60) (eqb n 5) (omega arith)
+    (pick-both (UpTo 60) (eqb n 7) (omega arith)
+    (pick-both (UpTo 60) (eqb n 8) (omega arith)
+    (pick-both (UpTo 60) (eqb n 9) (omega arith)
+    (pick-both (UpTo 60) (eqb n 10) (omega arith)
+    (pick-both (UpTo 60) (eqb n 14) (omega arith)
+    (pick-both (UpTo 60) (eqb n 15) (omega arith)
+    (pick-both (UpTo 60) (eqb n 16) (omega arith)
+    (pick-both (UpTo 60) (eqb n 17) (omega arith)
+    (pick-both (UpTo 60) (eqb n 18) (omega arith)
+    (pick-both (UpTo 60) (eqb n 19) (omega arith)
+    (omega arith))))))))))))
+
+passed-size : (clocks turns items : ℕ) → UpTo 60 (passedText clocks turns items)
+unfolding passedText numberLine
+passed-size clocks turns items = simp length-append (omega (arith, decimal-ten clocks, decimal-ten turns, decimal-ten items))
+
+refused-size : (log : List ℕ) (number place : ℕ) → UpTo 640 (refusedText log number place)
+unfolding refusedText refusedLine reasonLine
+refused-size log number place =
+    simp length-append
+    (omega (arith, decimal-ten number, decimal-ten place, decimal-ten (lineNumber log place), decimal-ten (column log place), reason-size number, line-size log place, mark-size log place))
+
+outcome-size : (log : List ℕ) (c : Checked) → UpTo 640 (outcomeText log c)
+unfolding outcomeText
+outcome-size log c =
+    pick-both (UpTo 640) (eqb (c .number) 0) (omega (arith, passed-size (c .clocks) (c .turns) (c .items))) (refused-size log (c .number) (c .place))
+
+-- 700 bytes hold the text about any bytes
+pub check-size : (log : List ℕ) → length (checkText log) ≤ 700
+unfolding checkText
+check-size log = rw length-append (omega (arith, outcome-size log (checkOf log)))
+
+-- the two outcomes
+module _ (log : List ℕ) (c : Checked) where
+  pub text-passed : checkOf log ≡ c → c .number ≡ 0 → checkText log ≡ bytes "check=1\n" ++ passedText (c .clocks) (c .turns) (c .items)
+  unfolding checkText outcomeText
+  text-passed e h = rw (e, eq-eqb _ _ h)
+
+  pub text-refused : checkOf log ≡ c → (c .number ≡ 0 → ⊥) → checkText log ≡ bytes "check=1\n" ++ refusedText log (c .number) (c .place)
+  unfolding checkText outcomeText
+  text-refused e h = rw (e, ne-eqb _ _ h)
+
+-- what a caller with 700 bytes gets
+module _ (log out : List ℕ) (h : 700 ≤ length out) where
+  pub whole-room : 0 + length (checkText log) ≤ length out
+  whole-room = let s = check-size log in omega arith
+
+  pub whole-text : (r : ℕ) (out′ : List ℕ) → r ≡ placed out 0 (checkText log) → out′ ≡ printed out 0 (checkText log)
+      → (r ≤ length out′) × (take r out′ ≡ checkText log)
+  whole-text r out′ p b =
+      let e : r ≡ length (checkText log) = p ∙ (placed-in out 0 (checkText log) whole-room ∙ omega arith) in
+      let f : out′ ≡ sets out 0 (checkText log) = b ∙ printed-in out 0 (checkText log) whole-room in
+      let l : length out′ ≡ length out = ap length f ∙ lib.Seq.length-sets out 0 (checkText log) in
+      (omega (arith, whole-room), ap (take r) f ∙ text-taken out (checkText log) r e (omega (arith, whole-room)))

@@ -1,0 +1,57 @@
+-- What `perch check` writes about a log.
+use Prim.Native.Nat.{ℕ}
+use mathlib.Core.List.{List, _++_}
+use lib.Dec.{eqb}
+use Rattle.arith.specs.Pick.{pick}
+use Rattle.text.specs.Ascii.{bytes}
+use Rattle.text.specs.Decimal.{decimalText}
+use Rattle.judge.specs.declared.Checked.{Checked}
+use Rattle.judge.specs.Whole.{checkOf}
+use Rattle.perch_place.specs.Place.{lineNumber, column}
+use Rattle.perch_check.specs.Reasons.{reasonText}
+use Rattle.perch_place.specs.Shown.{shownLine, markLine}
+
+-- a key and a number
+unfoldable pub numberLine : List ℕ → ℕ → List ℕ
+numberLine key n = key ++ (decimalText n ++ bytes "\n")
+
+-- the totals of a log that passes
+unfoldable pub passedText : ℕ → ℕ → ℕ → List ℕ
+passedText clocks turns items =
+    numberLine (bytes "clocks=") clocks
+    ++ (numberLine (bytes "turns=") turns
+    ++ numberLine (bytes "items=") items)
+
+-- `refused=NUMBER:PLACE`
+unfoldable pub refusedLine : ℕ → ℕ → List ℕ
+refusedLine number place = bytes "refused=" ++ (decimalText number ++ (bytes ":" ++ (decimalText place ++ bytes "\n")))
+
+-- `line L, column C: REASON`
+unfoldable pub reasonLine : ℕ → ℕ → ℕ → List ℕ
+reasonLine line column number =
+    bytes "line "
+    ++ (decimalText line
+    ++ (bytes ", column "
+    ++ (decimalText column
+    ++ (bytes ": "
+    ++ (reasonText number
+    ++ bytes "\n")))))
+
+-- number, place and reason of a refusal, the line and the mark below it
+unfoldable pub refusedText : List ℕ → ℕ → ℕ → List ℕ
+refusedText log number place =
+    refusedLine number place
+    ++ (reasonLine (lineNumber log place) (column log place) number
+    ++ (shownLine log place
+    ++ markLine log place))
+
+-- what a check found: its number is 0 where the log passes
+unfoldable pub outcomeText : List ℕ → Checked → List ℕ
+outcomeText log c =
+    pick (eqb (c .number) 0)
+    (passedText (c .clocks) (c .turns) (c .items))
+    (refusedText log (c .number) (c .place))
+
+-- the whole text; each of its lines ends in one line feed
+unfoldable pub checkText : List ℕ → List ℕ
+checkText log = bytes "check=1\n" ++ outcomeText log (checkOf log)

@@ -1,0 +1,100 @@
+// What `perch check` writes about a log.
+mod reasons;
+
+ghost use mathlib.Core.Path.{_≡_};
+ghost use Prim.Native.Nat.{_+_, _≤_};
+ghost use lib.ListN.{length};
+ghost use lib.Seq.{sets};
+ghost use Rattle.print.specs.Printed.{printed, placed};
+ghost use Rattle.perch_check.specs.Report.{numberLine, passedText, refusedLine, reasonLine, refusedText, checkText};
+use perch_place::column;
+use perch_place::line_number;
+use perch_place::mark_line;
+use perch_place::shown_line;
+use reasons::reason;
+
+// A key and a number.
+fn number_line(out: &mut [u8], at: usize, key: &[u8], n: u64) -> usize
+    requires { ⌜ at + length (numberLine (now key) n) ≤ length (now out) ⌝ }
+    ensures { λ r. ⌜ r ≡ at + length (numberLine (now (key .entry)) n) ⌝ }
+    ensures { λ r. ⌜ now (out .exit) ≡ sets (now (out .entry)) at (numberLine (now (key .entry)) n) ⌝ }
+{
+    let a = print::fixed(out, at, key);
+    let b = print::decimal(out, a, n);
+    print::fixed(out, b, b"\n")
+}
+
+// The totals of a log that passes.
+fn passed(out: &mut [u8], at: usize, clocks: u64, turns: u64, items: u64) -> usize
+    requires { ⌜ at + length (passedText clocks turns items) ≤ length (now out) ⌝ }
+    ensures { λ r. ⌜ r ≡ at + length (passedText clocks turns items) ⌝ }
+    ensures { λ r. ⌜ now (out .exit) ≡ sets (now (out .entry)) at (passedText clocks turns items) ⌝ }
+{
+    let a = number_line(out, at, b"clocks=", clocks);
+    let b = number_line(out, a, b"turns=", turns);
+    number_line(out, b, b"items=", items)
+}
+
+// `refused=NUMBER:PLACE`.
+fn refused_line(out: &mut [u8], at: usize, number: u8, place: usize) -> usize
+    requires { ⌜ at + length (refusedLine number place) ≤ length (now out) ⌝ }
+    ensures { λ r. ⌜ r ≡ at + length (refusedLine number place) ⌝ }
+    ensures { λ r. ⌜ now (out .exit) ≡ sets (now (out .entry)) at (refusedLine number place) ⌝ }
+{
+    let a = print::fixed(out, at, b"refused=");
+    let b = print::decimal(out, a, number as u64);
+    let c = print::fixed(out, b, b":");
+    let d = print::decimal(out, c, place as u64);
+    print::fixed(out, d, b"\n")
+}
+
+// `line L, column C: REASON`.
+fn reason_line(out: &mut [u8], at: usize, line: usize, column: usize, number: u8) -> usize
+    requires { ⌜ at + length (reasonLine line column number) ≤ length (now out) ⌝ }
+    ensures { λ r. ⌜ r ≡ at + length (reasonLine line column number) ⌝ }
+    ensures { λ r. ⌜ now (out .exit) ≡ sets (now (out .entry)) at (reasonLine line column number) ⌝ }
+{
+    let a = print::fixed(out, at, b"line ");
+    let b = print::decimal(out, a, line as u64);
+    let c = print::fixed(out, b, b", column ");
+    let d = print::decimal(out, c, column as u64);
+    let e = print::fixed(out, d, b": ");
+    let f = reason(out, e, number);
+    print::fixed(out, f, b"\n")
+}
+
+// Number, place and reason of a refusal, the line and the mark below it.
+fn refused(out: &mut [u8], at: usize, log: &[u8], number: u8, place: usize) -> usize
+    requires { ⌜ at + length (refusedText (now log) number place) ≤ length (now out) ⌝ }
+    ensures { λ r. ⌜ r ≡ at + length (refusedText (now (log .entry)) number place) ⌝ }
+    ensures { λ r. ⌜ now (out .exit) ≡ sets (now (out .entry)) at (refusedText (now (log .entry)) number place) ⌝ }
+{
+    let a = refused_line(out, at, number, place);
+    let b = reason_line(out, a, line_number(log, place), column(log, place), number);
+    let c = shown_line(out, b, log, place);
+    mark_line(out, c, log, place)
+}
+
+// The whole text.
+fn whole(out: &mut [u8], log: &[u8]) -> usize
+    requires { ⌜ 700 ≤ length (now out) ⌝ }
+    ensures { λ r. ⌜ r ≡ length (checkText (now (log .entry))) ⌝ }
+    ensures { λ r. ⌜ now (out .exit) ≡ sets (now (out .entry)) 0 (checkText (now (log .entry))) ⌝ }
+{
+    let c = checking::check(log);
+    let a = print::fixed(out, 0, b"check=1\n");
+    if c.number == 0 {
+        return passed(out, a, c.clocks, c.turns, c.items);
+    }
+    refused(out, a, log, c.number, c.place)
+}
+
+// The text about a log where it fits, and its length; else nothing, and 0.
+pub fn report(log: &[u8], out: &mut [u8]) -> usize
+    ensures { λ r. ⌜ r ≡ placed (now (out .entry)) 0 (checkText (now (log .entry))) ⌝ }
+    ensures { λ r. ⌜ now (out .exit) ≡ printed (now (out .entry)) 0 (checkText (now (log .entry))) ⌝ }
+{
+    let mut text = [0u8; 700];
+    let n = whole(&mut text, log);
+    print::fixed(out, 0, &text[..n])
+}
