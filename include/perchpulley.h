@@ -60,6 +60,10 @@ extern "C" {
 #define PERCH_REFUSED_FEED 17     /* the log ends in a line that could go on: its line feed is missing */
 #define PERCH_REFUSED_NO_STOP 18  /* the log ends without `stop` */
 #define PERCH_REFUSED_BEHIND 19   /* something stands behind `stop` */
+#define PERCH_REFUSED_COMMAND 25  /* a VGM command that isn't known */
+#define PERCH_REFUSED_VGM_REGISTER 26 /* the register of a VGM command not among $00..$13, $15, $17 */
+#define PERCH_REFUSED_STREAM_END 27 /* a VGM stream ends before its $66 */
+#define PERCH_REFUSED_ROOM 28     /* the log is longer than the buffer lent for it, or than 60,000 bytes */
 
 /* The number of an answer, and its value. */
 #define PERCH_NUMBER(answer) ((unsigned)((answer) & 0xff))
@@ -131,6 +135,15 @@ uint64_t perch_item(const uint8_t *log, size_t n, uint64_t k);
 uint64_t perch_body(const uint8_t *log, size_t n, uint64_t offset);
 #define PERCH_START(answer) ((uint32_t)((uint64_t)(answer) >> 32 & 0xffff))
 #define PERCH_LENGTH(answer) ((uint32_t)((uint64_t)(answer) >> 48))
+
+/* WHAT OTHER PLAYERS WROTE. Brings a VGM stream, the n bytes behind a VGM file's header, in as a log over the front of the
+ * text. Commands: $B4 register value; the waits $61, $62, $63 and $70..$7F, in samples at 44,100 a second; $66 the end,
+ * behind which nothing is read. The log passes perch_check and stands for exactly those writes, each at the clock
+ * floor(S x 1789773 / 44100) where S samples stand before it. The value is the log's length; bytes behind the log stay.
+ *
+ * Refused: at the first byte at fault 25, 26 or, at n, 27; then, at 0, 9, then 28. Here the value of a refusal is its
+ * place (the low 56 bits of it). */
+uint64_t perch_import(const uint8_t *stream, size_t n, uint8_t *text, size_t t);
 
 /* THE PLAYER IN PIECES. A player is PERCH_PLAYER_SIZE bytes that the caller keeps between two pieces. */
 

@@ -1,10 +1,11 @@
-// What C and Rust call: the operations of the crates `bytechip`, `byterun`, `bytelog` and `byteplay` under C names. A state is 91 bytes
+// What C and Rust call: the operations of the crates `bytechip`, `byterun`, `bytelog`, `byteplay` and `c_import` under C names. A state is 91 bytes
 // lent in place (crate `codec`), a slice is a pointer and a length, and an answer is one 64-bit number: its number, and above its low
 // byte its value. Bytes that are no state in range are refused, and stay.
 ghost use mathlib.Core.Path.{_≡_};
 ghost use Rattle.codec.specs.Bytes.{flagByte};
 ghost use Rattle.bytechip.specs.Boundary.{packed, bytesAfter, powerNumber, powerBytes, bytesIn, writeFrom, statusFrom, lineFrom, levelFrom, fractionFrom, clockFrom};
 
+pub mod imports;
 pub mod logs;
 pub mod pieces;
 pub mod runs;

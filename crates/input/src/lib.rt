@@ -59,3 +59,12 @@ pub fn say(text: &[u8])
 {
     io::write_all(STDERR_FILENO, text);
 }
+
+// Writes the first n bytes of a text to a descriptor; nothing where it has fewer.
+pub fn write_front(file: i32, text: &[u8], n: usize)
+    ensures { λ r. ⌜ r ≡ tt ⌝ }
+{
+    if n <= text.len() {
+        io::write_all(file, &text[..n]);
+    }
+}

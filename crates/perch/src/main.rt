@@ -1,19 +1,29 @@
 // The program for daily work: `perch VERB`, and what the verb asks for.
 mod check;
+mod import;
 
 // The verbs, a line each with their arguments.
 fn usage() {
     input::say(b"usage: perch VERB\n");
     input::say(b"  check    a log on standard input: whether it passes, or where it is at fault\n");
+    input::say(b"  import   a VGM file on standard input: the log that it comes to\n");
 }
 
 // Runs a verb that is given as many words as it asks for, the program's name and the verb among them.
 fn run(verb: &[u8], words: usize) {
-    if arith::both_of(text::exact(verb, b"check"), words == 2) {
-        check::check();
-    } else {
+    if words != 2 {
         usage();
+        return;
     }
+    if text::exact(verb, b"check") {
+        check::check();
+        return;
+    }
+    if text::exact(verb, b"import") {
+        import::import();
+        return;
+    }
+    usage();
 }
 
 // A word that is longer than any verb reads as an empty one.

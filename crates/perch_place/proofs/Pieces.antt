@@ -6,7 +6,7 @@ use native.Mathlib.Omega.{arith}
 use lib.ListN.{length, length-append}
 use lib.Seq.{length-sets}
 use Rattle.print.proofs.Stores.{sets-append}
-use Rattle.notes.proofs.Pieces.{Put}
+use Rattle.print.specs.Printed.{Put}
 
 module _ (l : List ℕ) (at : ℕ) (a rest : List ℕ) (room : at + length (a ++ rest) ≤ length l) where
   pub room-first : at + length a ≤ length l

@@ -1,5 +1,5 @@
 -- A decimal is its last digits, as many as it has. Assumes nothing.
-use Prim.Native.Nat.{ℕ, zero, suc, _+_, _*_, _/_, _%_, _^_, _≤_, _<_}
+use Prim.Native.Nat.{ℕ, zero, suc, _+_, _/_, _%_, _^_, _≤_, _<_}
 use mathlib.Core.Path.{_≡_, refl, sym, ap, _∙_}
 use mathlib.Core.Bool.{Bool, true, false}
 use mathlib.Core.List.{List, [], _∷_, _++_}
@@ -59,3 +59,7 @@ decimal-shown w n a l h = shown w 9 n a l h
 
 pub decimal-long : (n k : ℕ) → decimalText n ≡ digitsIn k n → length (decimalText n) ≡ k
 decimal-long n k e = ap length e ∙ length-digits k n
+
+-- what `width` says of it
+pub shown-width : (w n : ℕ) → w ≤ 9 → (0 < w → 10 ^ w ≤ n) → (w < 9 → n < 10 ^ suc w) → (suc w ≡ length (decimalText n)) × ((suc w ≤ 10) × (decimalText n ≡ digitsIn (suc w) n))
+shown-width w n a l h = let e = decimal-shown w n a l h in (sym (decimal-long n (suc w) e), (omega arith, e))

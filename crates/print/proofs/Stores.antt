@@ -1,13 +1,12 @@
 -- Laws of a text stored from a place on. Assumes nothing.
-use Prim.Native.Nat.{ℕ, zero, suc, _+_, _/_, _%_, _≤_, _<_}
+use Prim.Native.Nat.{ℕ, suc, _+_, _/_, _%_, _≤_, _<_}
 use mathlib.Core.Path.{_≡_, refl, sym, ap, _∙_}
 use mathlib.Core.List.{List, [], _∷_, _++_}
 use native.Mathlib.Nat.{add-zero}
 use native.Mathlib.Omega.{arith}
 use borrow.Author.Tests.{le-leb, lt-leb}
-use lib.ListN.{length, set, getD, drop, length-append, drop-of-length-le}
+use lib.ListN.{length, set, getD, drop, drop-of-length-le}
 use lib.Seq.{sets, set-comm, drop-cons}
-use Rattle.arith.specs.Pick.{pick}
 use Rattle.text.specs.Hex.{hexText}
 use Rattle.print.specs.Printed.{printed, placed, digitsIn}
 use Rattle.print.proofs.Decimals.{length-digits, digits-more}
@@ -72,6 +71,26 @@ fill-end out at i n e = rw e
 pub length-hex : (v : ℕ) → length (hexText 2 v) ≡ 2
 unfolding hexText
 length-hex v = refl
+
+-- four hex digits are two and two
+pub hex-pairs : (v : ℕ) → hexText 4 v ≡ hexText 2 (v / 256) ++ hexText 2 (v % 256)
+unfolding hexText
+hex-pairs v =
+    let a : v / 16 / 16 / 16 % 16 ≡ v / 256 / 16 % 16 = omega arith in
+    let b : v / 16 / 16 % 16 ≡ v / 256 % 16 = omega arith in
+    let c : v / 16 % 16 ≡ v % 256 / 16 % 16 = omega arith in
+    let d : v % 16 ≡ v % 256 % 16 = omega arith in
+    rw (a, b, c, d)
+
+pub hex-put : (l : List ℕ) (at v : ℕ) (l′ l″ : List ℕ) → l′ ≡ sets l at (hexText 2 (v / 256)) → l″ ≡ sets l′ (at + 2) (hexText 2 (v % 256)) → l″ ≡ sets l at (hexText 4 v)
+hex-put l at v l′ l″ p q =
+    let two : sets (sets l at (hexText 2 (v / 256))) (at + 2) (hexText 2 (v % 256)) ≡ sets l at (hexText 2 (v / 256) ++ hexText 2 (v % 256)) =
+    rw (length-hex (v / 256)) at (sets-append (hexText 2 (v / 256)) (hexText 2 (v % 256)) l at) in
+    q ∙ rw (p, hex-pairs v) two
+
+pub length-four : (v : ℕ) → length (hexText 4 v) ≡ 4
+unfolding hexText
+length-four v = refl
 
 -- what a caller with room learns
 module _ (out : List ℕ) (at : ℕ) (text : List ℕ) (h : at + length text ≤ length out) where

@@ -24,3 +24,8 @@ placed out at text = pick (fits out at text) (at + length text) at
 unfoldable pub digitsIn : ℕ → ℕ → List ℕ
 digitsIn zero n = []
 digitsIn (suc k) n = digitsIn k (n / 10) ++ ((48 + n % 10) ∷ [])
+
+-- Helper: a text was put from `at` on where there was room for it, and r is the place behind it
+pub record Put (before : List ℕ) (at : ℕ) (text after : List ℕ) (r : ℕ) : Type 0 where
+  pub place : r ≡ at + length text
+  pub bytes : after ≡ sets before at text

@@ -1,4 +1,4 @@
-// Text in bytes, written over lent bytes: a fixed text, decimals, two hex digits.
+// Text in bytes, written over lent bytes: a fixed text, decimals, two or four hex digits.
 ghost use mathlib.Core.Path.{_≡_};
 ghost use Prim.Native.Nat.{_+_, _/_, _%_, _≤_, _<_};
 ghost use lib.ListN.{length};
@@ -37,7 +37,8 @@ pub fn fixed(out: &mut [u8], at: usize, text: &[u8]) -> usize
 }
 
 // How many digits a number has in decimal, at most ten.
-fn width(n: u64) -> usize
+pub fn width(n: u64) -> usize
+    ensures { λ r. ⌜ r ≡ length (decimalText n) ⌝ }
     ensures { λ r. ⌜ (r ≤ 10) × (decimalText n ≡ digitsIn r n) ⌝ }
 {
     if n < 10 {
@@ -139,4 +140,29 @@ pub fn hex(out: &mut [u8], at: usize, v: u8) -> usize
     }
     two(out, at, v);
     at + 2
+}
+
+// Four hex digits from a place on.
+fn four(out: &mut [u8], at: usize, v: u16)
+    requires { ⌜ at + 4 ≤ length (now out) ⌝ }
+    ensures { λ r. ⌜ now (out .exit) ≡ sets (now (out .entry)) at (hexText 4 v) ⌝ }
+{
+    two(out, at, (v / 256) as u8);
+    two(out, at + 2, (v % 256) as u8);
+}
+
+// A number below 65,536 in four hex digits where they fit, and the place behind them.
+pub fn hex_four(out: &mut [u8], at: usize, v: u16) -> usize
+    ensures { λ r. ⌜ r ≡ placed (now (out .entry)) at (hexText 4 v) ⌝ }
+    ensures { λ r. ⌜ now (out .exit) ≡ printed (now (out .entry)) at (hexText 4 v) ⌝ }
+{
+    let size = out.len();
+    if size < at {
+        return at;
+    }
+    if size - at < 4 {
+        return at;
+    }
+    four(out, at, v);
+    at + 4
 }

@@ -4,7 +4,8 @@ use Rattle.text.specs.Ascii.{bytes}
 use Rattle.text.specs.Decimal.{decimalText}
 use Rattle.notes.specs.declared.Note.the-variants.{Level}
 use Rattle.notes.specs.Notes.{noteText}
-use Rattle.notes.proofs.Pieces.{put-last, put-more, lined}
+use Rattle.print.proofs.Pieces.{put-last, put-more}
+use Rattle.notes.proofs.Pieces.{lined}
 use Rattle.notes.proofs.level_line.Statement.{statement}
 use Rattle.notes.proofs.level_line.Tie as tie
 

@@ -3,7 +3,8 @@ use native.Mathlib.Omega.{arith}
 use Rattle.text.specs.Ascii.{bytes}
 use Rattle.notes.specs.declared.Note.the-variants.{Play}
 use Rattle.notes.specs.Notes.{noteText}
-use Rattle.notes.proofs.Pieces.{put-last, lined}
+use Rattle.print.proofs.Pieces.{put-last}
+use Rattle.notes.proofs.Pieces.{lined}
 use Prim.Native.Nat.{_+_, _≤_}
 use lib.ListN.{length}
 use Rattle.notes.proofs.Texts.{play-size}

@@ -7,7 +7,8 @@ use Rattle.text.specs.Ascii.{bytes}
 use Rattle.text.specs.Decimal.{decimalText}
 use Rattle.notes.specs.Notes.{refusalText}
 use Rattle.notes.proofs.Texts.{refusal-size}
-use Rattle.notes.proofs.Pieces.{Put, put-last, put-more}
+use Rattle.print.specs.Printed.{Put}
+use Rattle.print.proofs.Pieces.{put-last, put-more}
 use Rattle.notes.proofs.refusal_lines.Statement.{statement}
 use Rattle.notes.proofs.refusal_lines.Tie as tie
 

@@ -1,6 +1,7 @@
 use borrow.Author.Needs.{needs}
 use mathlib.Core.List.{_++_}
-use Rattle.notes.proofs.Pieces.{Put, put-last, put-more}
+use Rattle.print.specs.Printed.{Put}
+use Rattle.print.proofs.Pieces.{put-last, put-more}
 use Rattle.perch_place.specs.Place.{lineNumber, column}
 use Rattle.perch_place.specs.Shown.{shownLine, markLine}
 use Rattle.perch_place.proofs.Pieces.{room-first, room-rest, put-then}

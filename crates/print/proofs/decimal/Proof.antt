@@ -1,8 +1,7 @@
-use mathlib.Core.Path.{_≡_, sym, ap, _∙_}
+use mathlib.Core.Path.{sym, ap, _∙_}
 use native.Mathlib.Omega.{arith}
 use borrow.Author.Needs.{needs}
 use lib.Seq.{sets}
-use Rattle.print.proofs.Decimals.{decimal-long}
 use Rattle.print.proofs.Stores.{written, kept}
 use Rattle.print.proofs.decimal.Statement.{statement}
 use Rattle.print.proofs.decimal.Tie as tie
@@ -13,12 +12,12 @@ width-requires c κs = tt
 returns : tie.Need-returns
 returns c =
     let w = c .before .width in
-    kept _ _ _ (w .result) (decimal-long _ _ (w .ensures .1)) (omega arith)
+    kept _ _ _ (w .result) (sym (w .ensures .0)) (omega arith)
 
 returns-2 : tie.Need-returns-2
 returns-2 c =
     let w = c .before .before .width in
-    kept _ _ _ (w .result) (decimal-long _ _ (w .ensures .1)) (omega arith)
+    kept _ _ _ (w .result) (sym (w .ensures .0)) (omega arith)
 
 digits-requires : tie.Need-digits-requires
 digits-requires c κs = search needs
@@ -32,7 +31,7 @@ same-length c = search needs
 returns-3 : tie.Need-returns-3
 returns-3 c =
     let w = c .before .before .before .before .before .before .width in
-    written _ _ _ (w .result) (decimal-long _ _ (w .ensures .1)) (omega arith) _ (c .before .before .digits .ensures ∙ ap (sets _ _) (sym (w .ensures .1)))
+    written _ _ _ (w .result) (sym (w .ensures .0)) (omega arith) _ (c .before .before .digits .ensures ∙ ap (sets _ _) (sym (w .ensures .1 .1)))
 
 pub decimal-spec : {M : Type 1} → statement M
 decimal-spec = tie.close (tie.spec width-requires returns returns-2 digits-requires add-result same-length returns-3)

@@ -1,0 +1,31 @@
+// The import of a VGM stream, its answer in one 64-bit number.
+ghost use mathlib.Core.Path.{_≡_};
+ghost use Prim.Native.Nat.{_/_, _%_, _^_, _≤_, _<_};
+ghost use lib.ListN.{length, take};
+ghost use Rattle.log_import.specs.Import.{bufferOf};
+ghost use Rattle.log_import.specs.Stamps.{Stands};
+ghost use Rattle.c_import.specs.Packed.{importValue, importPacked};
+use log_import::Imported;
+
+// The length of the log, or the place of a refusal.
+fn value_of(a: Imported) -> u64
+    requires { ⌜ (a .number ≡ 0 → a .length ≤ 60000) ⌝ }
+    ensures { λ r. ⌜ (r ≡ importValue a) × (r < 2 ^ 56) ⌝ }
+{
+    let number = a.number;
+    if number == 0 {
+        return a.length as u64;
+    }
+    a.place as u64 % 72057594037927936
+}
+
+// Brings a stream in as a log over the front of lent bytes; the value is the log's length. A log that is written passes the check, and stands for
+// the stream's accesses at their clocks. Refused, with the place as the value: 25, 26, 27; then, at 0: 9; 28. Refused, the bytes stay.
+pub fn import(stream: &[u8], out: &mut [u8]) -> u64
+    ensures { λ r. ⌜ r ≡ importPacked (now (stream .entry)) (length (now (out .entry))) ⌝ }
+    ensures { λ r. ⌜ now (out .exit) ≡ bufferOf (now (stream .entry)) (now (out .entry)) ⌝ }
+    ensures { λ r. ⌜ (r % 2 ^ 8 ≡ 0 → Stands (now (stream .entry)) (take (r / 2 ^ 8) (now (out .exit)))) ⌝ }
+{
+    let a = log_import::import(stream, out);
+    a.number as u64 + 256 * value_of(a)
+}

@@ -1,0 +1,11 @@
+pub mod Answers
+pub mod Bounds
+pub mod Buffers
+pub mod Counts
+pub mod Faults
+pub mod Gaps
+pub mod Laws
+pub mod Pens
+pub mod Promised
+pub mod Stands
+pub mod Writes

@@ -1,0 +1,4 @@
+pub mod Import
+pub mod Measure
+pub mod Stamps
+pub mod Stream

@@ -1,0 +1,42 @@
+// `perch import`: a VGM file on standard input, the log that it comes to on standard output, and nothing else there.
+use libc::STDERR_FILENO;
+use libc::STDIN_FILENO;
+use libc::STDOUT_FILENO;
+use perch_import::Brought;
+
+// `refused=NUMBER:PLACE`.
+fn refuse(number: u8, place: usize) {
+    let mut text = [0u8; 40];
+    let n = perch_import::refusal(number, place, &mut text);
+    input::write_front(STDERR_FILENO, &text, n);
+}
+
+fn tell(file: &[u8]) {
+    let mut log = [0u8; 60000];
+    let b = perch_import::import_file(file, &mut log);
+    match b {
+        Brought::Done(n) => input::write_front(STDOUT_FILENO, &log, n),
+        Brought::Refused(number, place) => refuse(number, place),
+        Brought::NoVgm => input::say(b"perch: no VGM file: it doesn't begin with `Vgm `\n"),
+        Brought::Cut => input::say(b"perch: the VGM file ends inside its header\n"),
+        Brought::Outside => input::say(
+            b"perch: the VGM file's header says no place for its commands\n",
+        ),
+    }
+}
+
+// A byte more than is read of a file, so that a longer one is seen.
+pub(crate) fn import() {
+    let mut file = [0u8; 524289];
+    let r = input::read_all(STDIN_FILENO, &mut file);
+    if r.failed {
+        input::say(b"perch: standard input can't be read\n");
+        return;
+    }
+    if 524288 < r.count {
+        input::say(b"perch: a VGM file of more than 512 KiB is not read\n");
+        return;
+    }
+    let n = r.count;
+    tell(&file[..n]);
+}
