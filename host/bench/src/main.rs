@@ -4,8 +4,8 @@
 mod pace;
 mod tune;
 
-use compare::draw;
 use compare::random::Random;
+use compare::{draw, imports};
 use perch::{Chip, MEMORY, Ran, Refusal, raw};
 use std::process::{Command, ExitCode};
 use tune::Act;
@@ -169,6 +169,26 @@ fn heard(log: &[u8], memory: &[u8]) -> Result<(f64, u64, u64), Box<dyn std::erro
     Ok((best, bytes, clocks))
 }
 
+/// Brings a stream in whose log is 60,000 bytes long, and prints the row.
+fn import(quick: bool) {
+    let stream = imports::of_length(&mut Random::new(1, "import", 0), perch::LOG);
+    let mut log = vec![0; perch::LOG];
+    let mut best = f64::INFINITY;
+    for _ in 0..if quick { 20 } else { 500 } {
+        let begun = now();
+        let answer = raw::import(&stream, &mut log);
+        best = best.min(now() - begun);
+        assert_eq!(answer, (perch::LOG as u64) << 8);
+    }
+    println!(
+        "\n| {:<34} | {:>11} | {:>10} | {:>8} | {:>14} |",
+        "the import", "stream", "log", "seconds", "stream MB/s"
+    );
+    println!("|{}|{}", "-".repeat(36), "-:|".repeat(4));
+    let (name, bytes) = ("writes and waits, a full log", stream.len());
+    println!("| {name:<34} | {bytes:>11} | {:>10} | {best:>8.6} | {:>14.1} |", log.len(), bytes as f64 / best / 1e6);
+}
+
 /// Processor time of the commands run so far, in seconds.
 fn of_commands() -> f64 {
     #[repr(C)]
@@ -286,6 +306,7 @@ fn table(log: Option<String>, gme: Option<String>, quick: bool) -> Result<(), Bo
             println!("| {name:<34} | {clocks:>11} | {bytes:>10} | {seconds:>8.4} | {:>14} |", "");
         }
     }
+    import(quick);
     #[cfg(pace)]
     {
         println!("\n| {:<34} | {:>8} |", "the clock by itself", "ns/clock");

@@ -1,8 +1,10 @@
 //! The library against the plain Rust reading: cases, how they are drawn, and how they are judged.
 
 pub mod case;
+pub mod counts;
 pub mod draw;
 pub mod every;
+pub mod imports;
 pub mod judge;
 pub mod lines;
 pub mod logs;

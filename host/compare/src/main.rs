@@ -3,13 +3,13 @@
 use compare::case::{self, Case, Outcome};
 use compare::judge::{self, Tally, judge};
 use compare::random::Random;
-use compare::{draw, every, lines, logs, stored};
+use compare::{draw, every, imports, lines, logs, stored};
 use reading::{Chip, MEMORY};
 use std::process::ExitCode;
 use std::time::Instant;
 
 const USAGE: &str = "\
-compare [--seed N] [--short N] [--long N] [--logs N] [--archive] [--brief]
+compare [--seed N] [--short N] [--long N] [--logs N] [--each N] [--archive] [--brief]
                                                         compare on drawn cases
 compare cases N [--seed N]                              write N cases with the reading's answers
 compare questions FILE                                  write the cases of a file with zeros for every answer
@@ -17,7 +17,7 @@ compare check FILE                                      hold the library to the 
 compare log-cases N FOLDER [--seed N]                   write N logs, a sample.bin and the texts that the reading gives
 compare judged FOLDER                                   write what the crate logs prints about the logs of a folder
 compare played FOLDER                                   write what the crate cases prints about them, with sample.bin
---archive: an error where the library's archive isn't linked; --brief: no more parts after one that differs";
+--each N: half as many imports; --archive: an error where the library's archive isn't linked; --brief: no more parts after one that differs";
 
 /// What the command line asks for.
 struct Asked {
@@ -26,14 +26,23 @@ struct Asked {
     short: u64,
     long: u64,
     logs: u64,
+    each: u64,
     archive: bool,
     brief: bool,
 }
 
 fn asked() -> Option<Asked> {
     let now = std::time::UNIX_EPOCH.elapsed().map_or(0, |since| since.as_nanos() as u64);
-    let mut asked =
-        Asked { words: Vec::new(), seed: now, short: 20_000, long: 2_000, logs: 4_000, archive: false, brief: false };
+    let mut asked = Asked {
+        words: Vec::new(),
+        seed: now,
+        short: 20_000,
+        long: 2_000,
+        logs: 4_000,
+        each: 20_000,
+        archive: false,
+        brief: false,
+    };
     let mut words = std::env::args().skip(1);
     while let Some(word) = words.next() {
         match word.as_str() {
@@ -41,6 +50,7 @@ fn asked() -> Option<Asked> {
             "--short" => asked.short = words.next()?.parse().ok()?,
             "--long" => asked.long = words.next()?.parse().ok()?,
             "--logs" => asked.logs = words.next()?.parse().ok()?,
+            "--each" => asked.each = words.next()?.parse().ok()?,
             "--archive" => asked.archive = true,
             "--brief" => asked.brief = true,
             _ if word.starts_with('-') => return None,
@@ -151,6 +161,7 @@ fn compare(asked: &Asked) -> bool {
     part("lines", &mut || lines::compare(seed, asked.logs * 50, &memory));
     part("cuts", &mut || lines::cuts(seed, asked.logs / 20));
     part("logs", &mut || logs::compare(seed, asked.logs, &memory));
+    part("imports", &mut || imports::compare(seed, asked.each / 2));
     good
 }
 

@@ -23,11 +23,17 @@
 //! assert_eq!(text, b"play=1\nlevel=0:8074\nlevel=0:16620\nread=10:00\nstop=10\n");
 //! # Ok::<(), perch::Fault>(())
 //! ```
+//!
+//! ```
+//! let log = perch::import(&[0xb4, 0x11, 0x40, 0x62, 0x66])?;
+//! assert_eq!(log, b"log=1\nwrite=4011:40\nwait=29829\nstop=29829\n");
+//! # Ok::<(), perch::Fault>(())
+//! ```
 
 mod log;
 pub mod raw;
 
-pub use log::{Fault, Item, Player, body, check, item, refusal_text};
+pub use log::{Fault, Item, LOG, Player, body, check, import, item, refusal_text};
 
 use std::fmt;
 
@@ -67,6 +73,10 @@ impl fmt::Display for Refusal {
             17 => "line feed missing",
             18 => "`stop` missing",
             19 => "something after `stop`",
+            25 => "unknown command in the stream",
+            26 => "register of a command not among $00..$13, $15, $17",
+            27 => "the stream ends before $66",
+            28 => "the log is longer than the buffer or 60,000 bytes",
             number => return write!(f, "refusal {number}"),
         })
     }

@@ -4,13 +4,14 @@ use crate::{Refusal, raw};
 use std::fmt;
 use std::ops::Range;
 
-/// A refusal of a log, with its place.
+/// A refusal of a log or of a VGM stream, with its place.
 #[derive(Clone, Copy, Debug, PartialEq, Eq)]
 pub struct Fault {
     /// The refusal.
     pub refusal: Refusal,
     /// The start of the faulty line for 4, 7 and 8, of the `stop` line for 9 and 10; the first wrong byte for 14 and 15; the
     /// value's first digit for 16; the log's length for 17 and 18; the byte behind the `stop` line for 19; else 0.
+    /// In a stream the first byte at fault for 25 and 26, its length for 27, else 0.
     pub place: usize,
 }
 
@@ -63,6 +64,23 @@ pub fn body(log: &[u8], offset: u64) -> Result<&[u8], Fault> {
     let start = (value & 0xffff) as usize;
     let part: Range<usize> = start..start + (value >> 16) as usize;
     Ok(&log[part])
+}
+
+/// The most bytes of a log.
+pub const LOG: usize = 60_000;
+
+/// The log of a VGM command stream, without its header: the same writes at the same clocks.
+pub fn import(stream: &[u8]) -> Result<Vec<u8>, Fault> {
+    let mut log = vec![0; LOG];
+    let answer = raw::import(stream, &mut log);
+    let value = (answer >> 8) as usize;
+    match answer as u8 {
+        0 => {
+            log.truncate(value);
+            Ok(log)
+        }
+        number => Err(Fault { refusal: Refusal(number), place: value }),
+    }
 }
 
 /// The text that the player writes for a fault.

@@ -1,13 +1,14 @@
 //! The functions of `include/perchpulley.h` on slices: any bytes and any numbers get an answer.
 //!
 //! An answer is number + 256 x value; a run's number + 2^8 x clocks done + 2^32 x records; one about a log number + 2^8 x
-//! place + 2^32 x value; a piece's number + 2^8 x over + 2^32 x bytes written.
+//! place + 2^32 x value; a piece's number + 2^8 x over + 2^32 x bytes written; an import's 2^8 x the log's length, or number +
+//! 2^8 x place.
 
 #[cfg(not(archive))]
 use standin::{
-    perch_begin, perch_body, perch_check, perch_clock, perch_in_range, perch_item, perch_level, perch_level_f32,
-    perch_line, perch_play_on, perch_player_size, perch_power_on, perch_read_status, perch_refusal_text, perch_run,
-    perch_run_plain, perch_state_size, perch_write,
+    perch_begin, perch_body, perch_check, perch_clock, perch_import, perch_in_range, perch_item, perch_level,
+    perch_level_f32, perch_line, perch_play_on, perch_player_size, perch_power_on, perch_read_status,
+    perch_refusal_text, perch_run, perch_run_plain, perch_state_size, perch_write,
 };
 
 #[cfg(archive)]
@@ -47,6 +48,7 @@ unsafe extern "C" {
         t: usize,
     ) -> u64;
     fn perch_refusal_text(number: u8, place: u64, text: *mut u8, t: usize) -> u64;
+    fn perch_import(stream: *const u8, n: usize, text: *mut u8, t: usize) -> u64;
 }
 
 // In every call below a slice gives a pointer that is valid for its length, and two slices of which one may be written
@@ -171,4 +173,9 @@ pub fn play_on(player: &mut [u8], log: &[u8], memory: &[u8], text: &mut [u8]) ->
 /// Writes the text of a refusal.
 pub fn refusal_text(number: u8, place: u64, text: &mut [u8]) -> u64 {
     unsafe { perch_refusal_text(number, place, text.as_mut_ptr(), text.len()) }
+}
+
+/// Writes the log of a VGM command stream.
+pub fn import(stream: &[u8], text: &mut [u8]) -> u64 {
+    unsafe { perch_import(stream.as_ptr(), stream.len(), text.as_mut_ptr(), text.len()) }
 }

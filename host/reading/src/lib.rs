@@ -12,6 +12,7 @@ pub mod mixer;
 pub mod plain;
 pub mod play;
 pub mod player;
+pub mod vgm;
 
 pub use chip::Chip;
 pub use plain::{Plain, Record, plain};
@@ -60,4 +61,12 @@ pub mod number {
     pub const NO_STOP: u8 = 18;
     /// Something stands behind `stop`.
     pub const BEHIND: u8 = 19;
+    /// An unknown command in a stream.
+    pub const COMMAND: u8 = 25;
+    /// A stream's register is not among $00..$13, $15, $17.
+    pub const STREAM_REGISTER: u8 = 26;
+    /// A stream ends before $66.
+    pub const STREAM_ENDS: u8 = 27;
+    /// An imported log is longer than the buffer or 60,000 bytes.
+    pub const ROOM: u8 = 28;
 }
