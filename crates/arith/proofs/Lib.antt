@@ -1,6 +1,6 @@
-pub mod Bits
-pub mod Iterates
-pub mod Picks
-pub mod Shifts
+pub mod BitLaws
+pub mod IterateLaws
+pub mod PickLaws
+pub mod ShiftLaws
 pub mod Signed32
-pub mod Tables
+pub mod TableLaws

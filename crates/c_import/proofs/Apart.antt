@@ -10,9 +10,9 @@ use Rattle.log_import.specs.declared.Said.{Said}
 use Rattle.log_import.specs.Stream.{ended, streamOf}
 use Rattle.log_import.specs.Import.{textFor, textOf, importOf}
 use Rattle.log_import.specs.Stamps.{Stands}
-use Rattle.log_import.proofs.Answers.{imports}
-use Rattle.log_import.proofs.Buffers.{length-is}
-use Rattle.log_import.proofs.Faults.{answer-limits}
+use Rattle.log_import.proofs.AnswerLaws.{imports}
+use Rattle.log_import.proofs.BufferLaws.{length-is}
+use Rattle.log_import.proofs.FaultLaws.{answer-limits}
 use Rattle.c_import.specs.Packed.{importValue, importPacked}
 
 text-ended : (l : List Said) → textOf (ended l) ≡ textFor l

@@ -6,7 +6,7 @@ use native.Mathlib.Omega.{arith}
 use lib.Dec.{eqb}
 use borrow.Author.Tests.{eqb-true, eqb-false}
 use Rattle.arith.specs.Pick.{pick}
-use Rattle.arith.proofs.Picks.{pick-each}
+use Rattle.arith.proofs.PickLaws.{pick-each}
 use Rattle.chip.specs.Write.{channelOf, placeOf, channelWritten, registerWritten}
 use Rattle.chip.specs.declared.State.{State}
 

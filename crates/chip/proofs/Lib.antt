@@ -1,2 +1,2 @@
 pub mod Elsewhere
-pub mod Ranges
+pub mod RangeLaws

@@ -3,13 +3,13 @@ use Prim.Native.Nat.{ℕ}
 use mathlib.Core.Bool.{Bool, true, false}
 use mathlib.Core.List.{List}
 use Rattle.arith.specs.Pick.{pick}
-use Rattle.square.specs.Square.{squareTimed, squareEnveloped, squareSwept}
-use Rattle.triangle.specs.Triangle.{triangleTimed, triangleLinear, triangleLengthened}
-use Rattle.noise.specs.Noise.{noiseTimed, noiseEnveloped, noiseLengthened}
-use Rattle.dmc.specs.Clock.{dmcTimed, dmcRead}
-use Rattle.frame.specs.Frame.{frameDue, frameMoved, clocksEnvelopes, clocksLengths, frameStepped}
-use Rattle.dmc.specs.declared.Dmc.{Dmc}
-use Rattle.frame.specs.declared.Frame.{Frame}
+use Rattle.chip_square.specs.Square.{squareTimed, squareEnveloped, squareSwept}
+use Rattle.chip_triangle.specs.Triangle.{triangleTimed, triangleLinear, triangleLengthened}
+use Rattle.chip_noise.specs.Noise.{noiseTimed, noiseEnveloped, noiseLengthened}
+use Rattle.chip_dmc.specs.Clock.{dmcTimed, dmcRead}
+use Rattle.chip_frame.specs.Frame.{frameDue, frameMoved, clocksEnvelopes, clocksLengths, frameStepped}
+use Rattle.chip_dmc.specs.declared.Dmc.{Dmc}
+use Rattle.chip_frame.specs.declared.Frame.{Frame}
 use Rattle.chip.specs.Table.{noisePeriod, dmcPeriod}
 use Rattle.chip.specs.declared.State.{State}
 

@@ -1,11 +1,11 @@
 -- Document 01, "Mixer and records": the level of a state.
 use Prim.Native.Nat.{ℕ}
 use mathlib.Core.Bool.{true, false}
-use Rattle.square.specs.Square.{squareOutput}
-use Rattle.triangle.specs.Triangle.{triangleOutput}
-use Rattle.noise.specs.Noise.{noiseOutput}
-use Rattle.dmc.specs.Clock.{dmcOutput}
-use Rattle.mixer.specs.Mixer.{mixed}
+use Rattle.chip_square.specs.Square.{squareOutput}
+use Rattle.chip_triangle.specs.Triangle.{triangleOutput}
+use Rattle.chip_noise.specs.Noise.{noiseOutput}
+use Rattle.chip_dmc.specs.Clock.{dmcOutput}
+use Rattle.chip_mixer.specs.Mixer.{mixed}
 use Rattle.chip.specs.declared.State.{State}
 
 unfoldable pub stateLevel : State → ℕ

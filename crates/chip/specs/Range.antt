@@ -4,11 +4,11 @@ use mathlib.Core.Bool.{Bool}
 use mathlib.Core.List.{List}
 use lib.ListN.{getD}
 use Rattle.arith.specs.Pick.{both}
-use Rattle.square.specs.Range.{squareIn, squareOn}
-use Rattle.triangle.specs.Triangle.{triangleIn, triangleOn}
-use Rattle.noise.specs.Noise.{noiseIn, noiseOn}
-use Rattle.dmc.specs.Range.{dmcIn, dmcOn}
-use Rattle.frame.specs.Frame.{frameIn, frameOn}
+use Rattle.chip_square.specs.Range.{squareIn, squareOn}
+use Rattle.chip_triangle.specs.Triangle.{triangleIn, triangleOn}
+use Rattle.chip_noise.specs.Noise.{noiseIn, noiseOn}
+use Rattle.chip_dmc.specs.Range.{dmcIn, dmcOn}
+use Rattle.chip_frame.specs.Frame.{frameIn, frameOn}
 use Rattle.chip.specs.declared.State.{State}
 
 -- every field within its range

@@ -3,7 +3,7 @@ use Prim.Native.Nat.{ℕ, _+_}
 use mathlib.Core.Bool.{Bool}
 use lib.Dec.{ltb}
 use Rattle.arith.specs.Pick.{pick, either}
-use Rattle.frame.specs.Frame.{frameRead, frameAsserts}
+use Rattle.chip_frame.specs.Frame.{frameRead, frameAsserts}
 use Rattle.chip.specs.Clock.{withFrame}
 use Rattle.chip.specs.declared.State.{State}
 

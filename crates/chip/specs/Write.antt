@@ -4,16 +4,16 @@ use mathlib.Core.Bool.{Bool}
 use lib.Dec.{eqb}
 use Rattle.arith.specs.Pick.{pick}
 use Rattle.arith.specs.Bit.{bitSet}
-use Rattle.square.specs.Square.{squareEnabled}
-use Rattle.square.specs.Write.{squareWrite}
-use Rattle.triangle.specs.Triangle.{triangleEnabled}
-use Rattle.triangle.specs.Write.{triangleWrite}
-use Rattle.noise.specs.Noise.{noiseEnabled, noiseWrite}
-use Rattle.dmc.specs.Write.{dmcWrite, dmcEnabled}
-use Rattle.frame.specs.Frame.{frameWritten}
-use Rattle.square.specs.declared.Square.{Square}
-use Rattle.triangle.specs.declared.Triangle.{Triangle}
-use Rattle.noise.specs.declared.Noise.{Noise}
+use Rattle.chip_square.specs.Square.{squareEnabled}
+use Rattle.chip_square.specs.Write.{squareWrite}
+use Rattle.chip_triangle.specs.Triangle.{triangleEnabled}
+use Rattle.chip_triangle.specs.Write.{triangleWrite}
+use Rattle.chip_noise.specs.Noise.{noiseEnabled, noiseWrite}
+use Rattle.chip_dmc.specs.Write.{dmcWrite, dmcEnabled}
+use Rattle.chip_frame.specs.Frame.{frameWritten}
+use Rattle.chip_square.specs.declared.Square.{Square}
+use Rattle.chip_triangle.specs.declared.Triangle.{Triangle}
+use Rattle.chip_noise.specs.declared.Noise.{Noise}
 use Rattle.chip.specs.Clock.{withDmc, withFrame, stepped}
 use Rattle.chip.specs.declared.State.{State}
 

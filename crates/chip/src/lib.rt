@@ -1,5 +1,5 @@
 // The whole chip: its state, one clock, register writes, status, interrupt line and level. Every operation here has an answer for
-// every state; the operations that refuse states out of range are the crate `api`.
+// every state; the operations that refuse states out of range are the crate `chip_api`.
 ghost use mathlib.Core.Path.{_≡_};
 ghost use mathlib.Core.Bool.{Bool, not};
 ghost use Prim.Native.Nat.{ℕ, _+_, _-_, _*_, _/_, _%_, _≤_};
@@ -10,15 +10,15 @@ ghost use Rattle.chip.specs.Write.{withSquare1, withSquare2, withTriangl
 ghost use Rattle.chip.specs.Status.{statusByte, statusRead, lineAsserted};
 ghost use Rattle.chip.specs.Level.{stateLevel};
 ghost use Rattle.chip.specs.Range.{inRange, powerOn};
-ghost use Rattle.square.specs.Write.{squareWrite};
-ghost use Rattle.triangle.specs.Write.{triangleWrite};
-ghost use Rattle.noise.specs.Noise.{noiseWrite};
-ghost use Rattle.dmc.specs.Write.{dmcWrite};
-use dmc::Dmc;
-use frame::Frame;
-use noise::Noise;
-use square::Square;
-use triangle::Triangle;
+ghost use Rattle.chip_square.specs.Write.{squareWrite};
+ghost use Rattle.chip_triangle.specs.Write.{triangleWrite};
+ghost use Rattle.chip_noise.specs.Noise.{noiseWrite};
+ghost use Rattle.chip_dmc.specs.Write.{dmcWrite};
+use chip_dmc::Dmc;
+use chip_frame::Frame;
+use chip_noise::Noise;
+use chip_square::Square;
+use chip_triangle::Triangle;
 
 pub struct State {
     pub square1: Square,
@@ -345,7 +345,7 @@ impl State {
         let t = self.triangle.output();
         let n = self.noise.output();
         let d = self.dmc.output_of();
-        mixer::mix(a as u32, b as u32, t as u32, n as u32, d as u32)
+        chip_mixer::mix(a as u32, b as u32, t as u32, n as u32, d as u32)
     }
 }
 

@@ -1,1 +1,1 @@
-pub mod Dividers
+pub mod DividerLaws

@@ -6,8 +6,8 @@ use lib.ListN.{length, getD, take}
 use Rattle.log_import.specs.declared.Imported.{Imported}
 use Rattle.log_import.specs.Import.{importOf, bufferOf}
 use Rattle.log_import.specs.Stamps.{Stands}
-use Rattle.log_import.proofs.Laws.{Bytes, imported-stands}
-use Rattle.log_import.proofs.Buffers.{front-is}
+use Rattle.log_import.proofs.ImportLaws.{Bytes, imported-stands}
+use Rattle.log_import.proofs.BufferLaws.{front-is}
 
 pub bytes-of : (s : List ℕ) → ((k : ℕ) → getD s k 0 ≤ 255) → Bytes s
 bytes-of [] h = tt

@@ -7,8 +7,8 @@ use lib.Dec.{ltb, eqb}
 use Rattle.arith.specs.Pick.{pick, either}
 use Rattle.arith.specs.Iterate.{iterate}
 use Rattle.bus.specs.declared.Access.the-variants.{Write as Written}
-use Rattle.line.specs.declared.Act.the-variants.{Wait as Waited, Access}
-use Rattle.judge.specs.Tree.{Tree, end, act, turns, logText}
+use Rattle.log_line.specs.declared.Act.the-variants.{Wait as Waited, Access}
+use Rattle.log_judge.specs.Tree.{Tree, end, act, turns, logText}
 use Rattle.log_import.specs.declared.Said.{Said}
 use Rattle.log_import.specs.declared.Said.the-variants.{Wait, Write}
 use Rattle.log_import.specs.declared.Imported.{Imported}

@@ -8,10 +8,10 @@ use lib.Seq.{sets}
 use lib.Dec.{ltb, eqb}
 use Rattle.arith.specs.Pick.{pick, either}
 use Rattle.bus.specs.declared.Access.the-variants.{Write as Written}
-use Rattle.line.specs.declared.Act.the-variants.{Wait as Waited, Access}
-use Rattle.line.specs.declared.Line.the-variants.{One, Stop}
-use Rattle.line.specs.Printed.{lineText}
-use Rattle.judge.specs.Tree.{turns, text}
+use Rattle.log_line.specs.declared.Act.the-variants.{Wait as Waited, Access}
+use Rattle.log_line.specs.declared.Line.the-variants.{One, Stop}
+use Rattle.log_line.specs.Printed.{lineText}
+use Rattle.log_judge.specs.Tree.{turns, text}
 use Rattle.log_import.specs.declared.Await.{Await}
 use Rattle.log_import.specs.declared.Await.the-variants.{Command}
 use Rattle.log_import.specs.declared.Said.{Said}

@@ -4,12 +4,12 @@ use mathlib.Core.Path.{_≡_}
 use mathlib.Core.List.{List, [], _∷_}
 use Rattle.bus.specs.declared.Access.{Access as Accessed}
 use Rattle.bus.specs.declared.Access.the-variants.{Write as Written}
-use Rattle.line.specs.declared.Act.{Act}
-use Rattle.line.specs.declared.Act.the-variants.{Wait as Waited, Access}
+use Rattle.log_line.specs.declared.Act.{Act}
+use Rattle.log_line.specs.declared.Act.the-variants.{Wait as Waited, Access}
 use Rattle.log_import.specs.declared.Said.{Said}
 use Rattle.log_import.specs.declared.Said.the-variants.{Wait, Write}
-use Rattle.judge.specs.Tree.{acts, clocks}
-use Rattle.judge.specs.Whole.{treeOf, checkOf}
+use Rattle.log_judge.specs.Tree.{acts, clocks}
+use Rattle.log_judge.specs.Whole.{treeOf, checkOf}
 use Rattle.log_import.specs.Stream.{ended, streamOf}
 use Rattle.log_import.specs.Import.{stood, samplesIn}
 

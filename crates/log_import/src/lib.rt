@@ -5,14 +5,14 @@ ghost use mathlib.Core.List.{[]};
 ghost use Prim.Native.Nat.{_+_, _-_, _*_, _/_, _%_, _≤_, _<_};
 ghost use lib.ListN.{length, take};
 ghost use lib.Seq.{sets};
-ghost use Rattle.print.specs.Printed.{Put};
+ghost use Rattle.text_print.specs.Printed.{Put};
 ghost use Rattle.log_import.specs.Stream.{Stream, commandOf, registerOf, stepOf, streamOf};
 ghost use Rattle.log_import.specs.Import.{stood, weighed, importOf, bufferOf, textOf};
 ghost use Rattle.log_import.specs.Stamps.{Stands};
 ghost use Rattle.log_import.specs.Measure.{gapText, gapTurns, millions, restText, stopsAt, stoppedAt, awaited, heavyAt, countWrite, countSaid, countStep, Counted, Light, answerFrom, Penned, Penning, Ending, Ready, Headed, tailFrom, tailOf};
 use bus::Access;
-use line::Act;
-use line::Line;
+use log_line::Act;
+use log_line::Line;
 
 // What the next byte of a stream is: a command; behind $B4 the register, and then the value for it; behind $61 the low byte of a wait, and then
 // the high byte for it.

@@ -3,9 +3,9 @@ use Prim.Native.Nat.{ℕ}
 use mathlib.Core.List.{List}
 use Rattle.bus.specs.declared.Access.{Access as Accessed}
 use Rattle.bus.specs.declared.Access.the-variants.{Write}
-use Rattle.line.specs.declared.Act.the-variants.{Access}
-use Rattle.line.specs.declared.Line.the-variants.{One}
-use Rattle.line.specs.Printed.{lineText, actText, ended}
+use Rattle.log_line.specs.declared.Act.the-variants.{Access}
+use Rattle.log_line.specs.declared.Line.the-variants.{One}
+use Rattle.log_line.specs.Printed.{lineText, actText, ended}
 
 abbrev pub accessText : Accessed → List ℕ
 accessText x = ended (actText (Access x))

@@ -4,12 +4,12 @@ ghost use mathlib.Core.List.{[], _∷_, _++_};
 ghost use Prim.Native.Nat.{_+_, _≤_};
 ghost use lib.ListN.{length};
 ghost use Rattle.text.specs.Decimal.{decimalText};
-ghost use Rattle.line.specs.Printed.{lineText, actText, ended};
-ghost use Rattle.print.specs.Printed.{printed, placed, Put};
+ghost use Rattle.log_line.specs.Printed.{lineText, actText, ended};
+ghost use Rattle.text_print.specs.Printed.{printed, placed, Put};
 ghost use Rattle.log_writer.specs.Lines.{writeText, accessText};
 use bus::Access;
-use line::Act;
-use line::Line;
+use log_line::Act;
+use log_line::Line;
 
 fn wide(x: u32) -> u64
     ensures { λ r. ⌜ r ≡ x ⌝ }
@@ -22,9 +22,9 @@ fn keyed(out: &mut [u8], at: usize, key: &[u8], n: u64) -> usize
     requires { ⌜ at + length (now key ++ (decimalText n ++ (10 ∷ []))) ≤ length (now out) ⌝ }
     ensures { λ r. ⌜ Put (now (out .entry)) at (now (key .entry) ++ (decimalText n ++ (10 ∷ []))) (now (out .exit)) r ⌝ }
 {
-    let a = print::fixed(out, at, key);
-    let b = print::decimal(out, a, n);
-    print::fixed(out, b, b"\n")
+    let a = text_print::fixed(out, at, key);
+    let b = text_print::decimal(out, a, n);
+    text_print::fixed(out, b, b"\n")
 }
 
 // A write: the register in four hex digits, the value in two.
@@ -32,11 +32,11 @@ fn write_line(out: &mut [u8], at: usize, register: u16, value: u8) -> usize
     requires { ⌜ at + length (writeText register value) ≤ length (now out) ⌝ }
     ensures { λ r. ⌜ Put (now (out .entry)) at (writeText register value) (now (out .exit)) r ⌝ }
 {
-    let a = print::fixed(out, at, b"write=");
-    let b = print::hex_four(out, a, register);
-    let c = print::fixed(out, b, b":");
-    let d = print::hex(out, c, value);
-    print::fixed(out, d, b"\n")
+    let a = text_print::fixed(out, at, b"write=");
+    let b = text_print::hex_four(out, a, register);
+    let c = text_print::fixed(out, b, b":");
+    let d = text_print::hex(out, c, value);
+    text_print::fixed(out, d, b"\n")
 }
 
 fn access_line(out: &mut [u8], at: usize, x: Access) -> usize
@@ -45,7 +45,7 @@ fn access_line(out: &mut [u8], at: usize, x: Access) -> usize
 {
     match x {
         Access::Write(register, value) => write_line(out, at, register, value),
-        Access::Read => print::fixed(out, at, b"read=4015\n"),
+        Access::Read => text_print::fixed(out, at, b"read=4015\n"),
     }
 }
 
@@ -65,10 +65,10 @@ fn any_line(out: &mut [u8], at: usize, l: Line) -> usize
     ensures { λ r. ⌜ Put (now (out .entry)) at (lineText l) (now (out .exit)) r ⌝ }
 {
     match l {
-        Line::Header => print::fixed(out, at, b"log=1\n"),
+        Line::Header => text_print::fixed(out, at, b"log=1\n"),
         Line::One(a) => act_line(out, at, a),
         Line::Loop(n) => keyed(out, at, b"loop=", n as u64),
-        Line::Done => print::fixed(out, at, b"done=loop\n"),
+        Line::Done => text_print::fixed(out, at, b"done=loop\n"),
         Line::Stop(n) => keyed(out, at, b"stop=", wide(n)),
         Line::Bad(_) => at,
     }
@@ -87,7 +87,7 @@ fn act_length(a: Act) -> usize
     ensures { λ r. ⌜ (r ≡ length (ended (actText a))) × (r ≤ 16) ⌝ }
 {
     match a {
-        Act::Wait(n) => 6 + print::width(wide(n)),
+        Act::Wait(n) => 6 + text_print::width(wide(n)),
         Act::Access(x) => access_length(x),
     }
 }
@@ -99,9 +99,9 @@ pub fn line_length(l: Line) -> usize
     match l {
         Line::Header => 6,
         Line::One(a) => act_length(a),
-        Line::Loop(n) => 6 + print::width(n as u64),
+        Line::Loop(n) => 6 + text_print::width(n as u64),
         Line::Done => 10,
-        Line::Stop(n) => 6 + print::width(wide(n)),
+        Line::Stop(n) => 6 + text_print::width(wide(n)),
         Line::Bad(_) => 0,
     }
 }

@@ -23,9 +23,9 @@ fn tell(log: &[u8]) {
 // A byte more than a log may have, so that a longer one is seen.
 pub(crate) fn check() {
     let mut log = [0u8; 60001];
-    let r = input::read_all(STDIN_FILENO, &mut log);
+    let r = perch_io::read_all(STDIN_FILENO, &mut log);
     if r.failed {
-        input::say(b"perch: standard input can't be read\n");
+        perch_io::say(b"perch: standard input can't be read\n");
         return;
     }
     let n = r.count;

@@ -8,18 +8,18 @@ use perch_import::Brought;
 fn refuse(number: u8, place: usize) {
     let mut text = [0u8; 40];
     let n = perch_import::refusal(number, place, &mut text);
-    input::write_front(STDERR_FILENO, &text, n);
+    perch_io::write_front(STDERR_FILENO, &text, n);
 }
 
 fn tell(file: &[u8]) {
     let mut log = [0u8; 60000];
     let b = perch_import::import_file(file, &mut log);
     match b {
-        Brought::Done(n) => input::write_front(STDOUT_FILENO, &log, n),
+        Brought::Done(n) => perch_io::write_front(STDOUT_FILENO, &log, n),
         Brought::Refused(number, place) => refuse(number, place),
-        Brought::NoVgm => input::say(b"perch: no VGM file: it doesn't begin with `Vgm `\n"),
-        Brought::Cut => input::say(b"perch: the VGM file ends inside its header\n"),
-        Brought::Outside => input::say(
+        Brought::NoVgm => perch_io::say(b"perch: no VGM file: it doesn't begin with `Vgm `\n"),
+        Brought::Cut => perch_io::say(b"perch: the VGM file ends inside its header\n"),
+        Brought::Outside => perch_io::say(
             b"perch: the VGM file's header says no place for its commands\n",
         ),
     }
@@ -28,13 +28,13 @@ fn tell(file: &[u8]) {
 // A byte more than is read of a file, so that a longer one is seen.
 pub(crate) fn import() {
     let mut file = [0u8; 524289];
-    let r = input::read_all(STDIN_FILENO, &mut file);
+    let r = perch_io::read_all(STDIN_FILENO, &mut file);
     if r.failed {
-        input::say(b"perch: standard input can't be read\n");
+        perch_io::say(b"perch: standard input can't be read\n");
         return;
     }
     if 524288 < r.count {
-        input::say(b"perch: a VGM file of more than 512 KiB is not read\n");
+        perch_io::say(b"perch: a VGM file of more than 512 KiB is not read\n");
         return;
     }
     let n = r.count;

@@ -4,9 +4,11 @@ mod import;
 
 // The verbs, a line each with their arguments.
 fn usage() {
-    input::say(b"usage: perch VERB\n");
-    input::say(b"  check    a log on standard input: whether it passes, or where it is at fault\n");
-    input::say(b"  import   a VGM file on standard input: the log that it comes to\n");
+    perch_io::say(b"usage: perch VERB\n");
+    perch_io::say(
+        b"  check    a log on standard input: whether it passes, or where it is at fault\n",
+    );
+    perch_io::say(b"  import   a VGM file on standard input: the log that it comes to\n");
 }
 
 // Runs a verb that is given as many words as it asks for, the program's name and the verb among them.

@@ -7,13 +7,13 @@ use borrow.Author.Tests.{eq-eqb, ne-eqb}
 use lib.Dec.{eqb}
 use lib.ListN.{length, take, length-append}
 use lib.Seq.{sets}
-use Rattle.arith.proofs.Picks.{pick-both}
+use Rattle.arith.proofs.PickLaws.{pick-both}
 use Rattle.text.specs.Ascii.{bytes}
-use Rattle.print.specs.Printed.{placed, printed}
-use Rattle.print.proofs.Stores.{placed-in, printed-in}
-use Rattle.notes.proofs.Texts.{decimal-ten}
-use Rattle.judge.specs.declared.Checked.{Checked}
-use Rattle.judge.specs.Whole.{checkOf}
+use Rattle.text_print.specs.Printed.{placed, printed}
+use Rattle.text_print.proofs.StoreLaws.{placed-in, printed-in}
+use Rattle.play_text.proofs.TextLaws.{decimal-ten}
+use Rattle.log_judge.specs.declared.Checked.{Checked}
+use Rattle.log_judge.specs.Whole.{checkOf}
 use Rattle.perch_place.specs.Place.{lineNumber, column}
 use Rattle.perch_check.specs.Reasons.{reasonText}
 use Rattle.perch_check.specs.Report.{numberLine, passedText, refusedLine, reasonLine, refusedText, outcomeText, checkText}

@@ -5,8 +5,8 @@ use lib.Dec.{eqb}
 use Rattle.arith.specs.Pick.{pick}
 use Rattle.text.specs.Ascii.{bytes}
 use Rattle.text.specs.Decimal.{decimalText}
-use Rattle.judge.specs.declared.Checked.{Checked}
-use Rattle.judge.specs.Whole.{checkOf}
+use Rattle.log_judge.specs.declared.Checked.{Checked}
+use Rattle.log_judge.specs.Whole.{checkOf}
 use Rattle.perch_place.specs.Place.{lineNumber, column}
 use Rattle.perch_check.specs.Reasons.{reasonText}
 use Rattle.perch_place.specs.Shown.{shownLine, markLine}

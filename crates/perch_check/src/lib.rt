@@ -5,7 +5,7 @@ ghost use mathlib.Core.Path.{_≡_};
 ghost use Prim.Native.Nat.{_+_, _≤_};
 ghost use lib.ListN.{length};
 ghost use lib.Seq.{sets};
-ghost use Rattle.print.specs.Printed.{printed, placed};
+ghost use Rattle.text_print.specs.Printed.{printed, placed};
 ghost use Rattle.perch_check.specs.Report.{numberLine, passedText, refusedLine, reasonLine, refusedText, checkText};
 use perch_place::column;
 use perch_place::line_number;
@@ -19,9 +19,9 @@ fn number_line(out: &mut [u8], at: usize, key: &[u8], n: u64) -> usize
     ensures { λ r. ⌜ r ≡ at + length (numberLine (now (key .entry)) n) ⌝ }
     ensures { λ r. ⌜ now (out .exit) ≡ sets (now (out .entry)) at (numberLine (now (key .entry)) n) ⌝ }
 {
-    let a = print::fixed(out, at, key);
-    let b = print::decimal(out, a, n);
-    print::fixed(out, b, b"\n")
+    let a = text_print::fixed(out, at, key);
+    let b = text_print::decimal(out, a, n);
+    text_print::fixed(out, b, b"\n")
 }
 
 // The totals of a log that passes.
@@ -41,11 +41,11 @@ fn refused_line(out: &mut [u8], at: usize, number: u8, place: usize) -> usize
     ensures { λ r. ⌜ r ≡ at + length (refusedLine number place) ⌝ }
     ensures { λ r. ⌜ now (out .exit) ≡ sets (now (out .entry)) at (refusedLine number place) ⌝ }
 {
-    let a = print::fixed(out, at, b"refused=");
-    let b = print::decimal(out, a, number as u64);
-    let c = print::fixed(out, b, b":");
-    let d = print::decimal(out, c, place as u64);
-    print::fixed(out, d, b"\n")
+    let a = text_print::fixed(out, at, b"refused=");
+    let b = text_print::decimal(out, a, number as u64);
+    let c = text_print::fixed(out, b, b":");
+    let d = text_print::decimal(out, c, place as u64);
+    text_print::fixed(out, d, b"\n")
 }
 
 // `line L, column C: REASON`.
@@ -54,13 +54,13 @@ fn reason_line(out: &mut [u8], at: usize, line: usize, column: usize, number: u8
     ensures { λ r. ⌜ r ≡ at + length (reasonLine line column number) ⌝ }
     ensures { λ r. ⌜ now (out .exit) ≡ sets (now (out .entry)) at (reasonLine line column number) ⌝ }
 {
-    let a = print::fixed(out, at, b"line ");
-    let b = print::decimal(out, a, line as u64);
-    let c = print::fixed(out, b, b", column ");
-    let d = print::decimal(out, c, column as u64);
-    let e = print::fixed(out, d, b": ");
+    let a = text_print::fixed(out, at, b"line ");
+    let b = text_print::decimal(out, a, line as u64);
+    let c = text_print::fixed(out, b, b", column ");
+    let d = text_print::decimal(out, c, column as u64);
+    let e = text_print::fixed(out, d, b": ");
     let f = reason(out, e, number);
-    print::fixed(out, f, b"\n")
+    text_print::fixed(out, f, b"\n")
 }
 
 // Number, place and reason of a refusal, the line and the mark below it.
@@ -81,8 +81,8 @@ fn whole(out: &mut [u8], log: &[u8]) -> usize
     ensures { λ r. ⌜ r ≡ length (checkText (now (log .entry))) ⌝ }
     ensures { λ r. ⌜ now (out .exit) ≡ sets (now (out .entry)) 0 (checkText (now (log .entry))) ⌝ }
 {
-    let c = checking::check(log);
-    let a = print::fixed(out, 0, b"check=1\n");
+    let c = log_check::check(log);
+    let a = text_print::fixed(out, 0, b"check=1\n");
     if c.number == 0 {
         return passed(out, a, c.clocks, c.turns, c.items);
     }
@@ -96,5 +96,5 @@ pub fn report(log: &[u8], out: &mut [u8]) -> usize
 {
     let mut text = [0u8; 700];
     let n = whole(&mut text, log);
-    print::fixed(out, 0, &text[..n])
+    text_print::fixed(out, 0, &text[..n])
 }

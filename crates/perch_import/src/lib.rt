@@ -3,7 +3,7 @@
 ghost use mathlib.Core.Path.{_≡_};
 ghost use Prim.Native.Nat.{_+_, _≤_, _<_};
 ghost use lib.ListN.{length, getD, drop};
-ghost use Rattle.print.specs.Printed.{printed, placed, Put};
+ghost use Rattle.text_print.specs.Printed.{printed, placed, Put};
 ghost use Rattle.log_import.specs.Import.{importOf, bufferOf};
 ghost use Rattle.perch_import.specs.File.{word, beginning, startOf, placeFrom, broughtFrom, broughtOf, leftIn, refusedText};
 use log_import::Imported;
@@ -129,11 +129,11 @@ fn refusal_line(number: u8, place: usize, out: &mut [u8]) -> usize
     requires { ⌜ 0 + length (refusedText number place) ≤ length (now out) ⌝ }
     ensures { λ r. ⌜ Put (now (out .entry)) 0 (refusedText number place) (now (out .exit)) r ⌝ }
 {
-    let a = print::fixed(out, 0, b"refused=");
-    let b = print::decimal(out, a, number as u64);
-    let c = print::fixed(out, b, b":");
-    let d = print::decimal(out, c, place as u64);
-    print::fixed(out, d, b"\n")
+    let a = text_print::fixed(out, 0, b"refused=");
+    let b = text_print::decimal(out, a, number as u64);
+    let c = text_print::fixed(out, b, b":");
+    let d = text_print::decimal(out, c, place as u64);
+    text_print::fixed(out, d, b"\n")
 }
 
 // The line of a refusal where it fits, and its length; else nothing, and 0. Of a place of more than ten digits it has the last ten.
@@ -141,7 +141,7 @@ pub fn refusal(number: u8, place: usize, out: &mut [u8]) -> usize
     ensures { λ r. ⌜ r ≡ placed (now (out .entry)) 0 (refusedText number place) ⌝ }
     ensures { λ r. ⌜ now (out .exit) ≡ printed (now (out .entry)) 0 (refusedText number place) ⌝ }
 {
-    let n = 10 + print::width(number as u64) + print::width(place as u64);
+    let n = 10 + text_print::width(number as u64) + text_print::width(place as u64);
     if out.len() < n {
         return 0;
     }

@@ -5,8 +5,8 @@ use mathlib.Core.List.{List, _++_}
 use native.Mathlib.Omega.{arith}
 use lib.ListN.{length, length-append}
 use lib.Seq.{length-sets}
-use Rattle.print.proofs.Stores.{sets-append}
-use Rattle.print.specs.Printed.{Put}
+use Rattle.text_print.proofs.StoreLaws.{sets-append}
+use Rattle.text_print.specs.Printed.{Put}
 
 module _ (l : List ℕ) (at : ℕ) (a rest : List ℕ) (room : at + length (a ++ rest) ≤ length l) where
   pub room-first : at + length a ≤ length l

@@ -5,8 +5,8 @@ use mathlib.Core.List.{List, [], _∷_}
 use native.Mathlib.Omega.{arith}
 use lib.ListN.{length, take, drop, length-append, length-take, length-replicate}
 use lib.Seq.{sets, sets-eq, take-at}
-use Rattle.arith.proofs.Picks.{pick-both}
-use Rattle.print.proofs.Stores.{length-hex}
+use Rattle.arith.proofs.PickLaws.{pick-both}
+use Rattle.text_print.proofs.StoreLaws.{length-hex}
 use Rattle.perch_place.specs.Place.{frontAt, lineAt}
 use Rattle.perch_place.specs.Shown.{visible, shownByte, shown, blank, shownLine, markLine}
 

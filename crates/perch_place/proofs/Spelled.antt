@@ -7,7 +7,7 @@ use native.Mathlib.Numerals.{add-one}
 use native.Mathlib.Omega.{arith}
 use lib.ListN.{length, getD, drop, length-append, drop-of-length-le, replicate-append-replicate}
 use lib.Seq.{sets, length-sets, drop-cons}
-use Rattle.print.proofs.Stores.{sets-append}
+use Rattle.text_print.proofs.StoreLaws.{sets-append}
 use Rattle.text.specs.Ascii.{bytes}
 use Rattle.text.specs.Hex.{hexText}
 use Rattle.perch_place.specs.Shown.{visible, shownByte, shown, blank}

@@ -7,7 +7,7 @@ ghost use mathlib.Core.List.{List, [], _∷_};
 ghost use Prim.Native.Nat.{_+_, _≤_};
 ghost use lib.ListN.{length};
 ghost use lib.Seq.{sets};
-ghost use Rattle.print.specs.Printed.{printed, placed};
+ghost use Rattle.text_print.specs.Printed.{printed, placed};
 ghost use Rattle.perch_place.specs.Shown.{visible, shownByte, shown, blank, shownLine, markLine};
 
 // Whether a byte is written as itself.
@@ -24,10 +24,10 @@ fn shown_byte(out: &mut [u8], at: usize, c: u8) -> usize
     ensures { λ r. ⌜ now (out .exit) ≡ sets (now (out .entry)) at (shownByte c) ⌝ }
 {
     if visible(c) {
-        return print::fixed(out, at, &[c]);
+        return text_print::fixed(out, at, &[c]);
     }
-    let a = print::fixed(out, at, b"\\x");
-    print::hex(out, a, c)
+    let a = text_print::fixed(out, at, b"\\x");
+    text_print::hex(out, a, c)
 }
 
 // The bytes of s as they are shown.
@@ -52,9 +52,9 @@ fn blank_byte(out: &mut [u8], at: usize, c: u8) -> usize
     ensures { λ r. ⌜ now (out .exit) ≡ sets (now (out .entry)) at (blank (c ∷ [])) ⌝ }
 {
     if visible(c) {
-        return print::fixed(out, at, b" ");
+        return text_print::fixed(out, at, b" ");
     }
-    print::fixed(out, at, b"    ")
+    text_print::fixed(out, at, b"    ")
 }
 
 // The spaces below the bytes of s.
@@ -79,7 +79,7 @@ fn line_in(out: &mut [u8], log: &[u8], place: usize) -> usize
     ensures { λ r. ⌜ now (out .exit) ≡ sets (now (out .entry)) 0 (shownLine (now (log .entry)) place) ⌝ }
 {
     let a = shown(out, 0, first(line_at(log, place), 60));
-    print::fixed(out, a, b"\n")
+    text_print::fixed(out, a, b"\n")
 }
 
 // The mark below the place, at the front of a buffer.
@@ -89,7 +89,7 @@ fn mark_in(out: &mut [u8], log: &[u8], place: usize) -> usize
     ensures { λ r. ⌜ now (out .exit) ≡ sets (now (out .entry)) 0 (markLine (now (log .entry)) place) ⌝ }
 {
     let a = blank(out, 0, first(front_at(log, place), 60));
-    print::fixed(out, a, b"^\n")
+    text_print::fixed(out, a, b"^\n")
 }
 
 // The first 60 bytes of the place's line where they fit, and the place behind them.
@@ -99,7 +99,7 @@ pub fn shown_line(out: &mut [u8], at: usize, log: &[u8], place: usize) -> usize
 {
     let mut text = [0u8; 241];
     let n = line_in(&mut text, log, place);
-    print::fixed(out, at, &text[..n])
+    text_print::fixed(out, at, &text[..n])
 }
 
 // The mark below the place where it fits, and the place behind it.
@@ -109,5 +109,5 @@ pub fn mark_line(out: &mut [u8], at: usize, log: &[u8], place: usize) -> usize
 {
     let mut text = [0u8; 242];
     let n = mark_in(&mut text, log, place);
-    print::fixed(out, at, &text[..n])
+    text_print::fixed(out, at, &text[..n])
 }

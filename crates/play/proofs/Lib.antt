@@ -1,2 +1,2 @@
-pub mod Goings
+pub mod LoopLaws
 pub mod Whole

@@ -9,19 +9,19 @@ use lib.Dec.{leb}
 use lib.ListN.{length, take, length-append}
 use borrow.Author.Tests.{eq-eqb, leb-true}
 use Rattle.arith.specs.Pick.{pick}
-use Rattle.judge.specs.Tree.{acts}
-use Rattle.judge.specs.Whole.{treeOf, checkOf}
-use Rattle.api.specs.Answer.{isMemory}
+use Rattle.log_judge.specs.Tree.{acts}
+use Rattle.log_judge.specs.Whole.{treeOf, checkOf}
+use Rattle.chip_api.specs.Answer.{isMemory}
 use Rattle.chip.specs.Range.{inRange}
-use Rattle.chip.proofs.Ranges.{power-on-in}
-use Rattle.notes.specs.declared.Note.{Note}
-use Rattle.notes.specs.Notes.{notesText}
-use Rattle.notes.proofs.Texts.{notes-append, notes-none, notes-empty}
-use Rattle.playing.specs.declared.Player.{Player}
-use Rattle.playing.specs.Sound.{notesOf}
-use Rattle.playing.specs.Turns.{freshPlayer, turnOf}
-use Rattle.playing.proofs.Saying.{Told, fresh-told}
-use Rattle.playing.proofs.Telling.{Left, left, never-refused, over-none}
+use Rattle.chip.proofs.RangeLaws.{power-on-in}
+use Rattle.play_text.specs.declared.Note.{Note}
+use Rattle.play_text.specs.Notes.{notesText}
+use Rattle.play_text.proofs.TextLaws.{notes-append, notes-none, notes-empty}
+use Rattle.play_model.specs.declared.Player.{Player}
+use Rattle.play_model.specs.Sound.{notesOf}
+use Rattle.play_model.specs.Turns.{freshPlayer, turnOf}
+use Rattle.play_model.proofs.Saying.{Told, fresh-told}
+use Rattle.play_model.proofs.TellLaws.{Left, left, never-refused, over-none}
 use Rattle.play.specs.declared.Played.{Played}
 use Rattle.play.specs.Playing.{Piece, Answered, PlayedOn}
 use Rattle.play.specs.Whole.{playNumber, playText}

@@ -1,9 +1,10 @@
+-- Helper: nobody has to believe this; what the loop of `play_on` answers.
 -- What the loop of `play_on` answers.
 use mathlib.Core.Bool.{false}
 use lib.Dec.{eqb}
 use Rattle.arith.specs.Pick.{pick, both}
-use Rattle.playing.specs.declared.Player.{Player}
-use Rattle.steps.specs.declared.Taken.{Taken}
+use Rattle.play_model.specs.declared.Player.{Player}
+use Rattle.play_step.specs.declared.Taken.{Taken}
 use Rattle.play.specs.declared.Played.{Played}
 
 -- what the loop came to: the refusal, where no line was written before it; else the lines

@@ -3,12 +3,12 @@ use Prim.Native.Nat.{ℕ}
 use mathlib.Core.List.{List}
 use lib.Dec.{eqb}
 use Rattle.arith.specs.Pick.{pick}
-use Rattle.api.specs.Answer.{isMemory}
-use Rattle.judge.specs.Tree.{acts}
-use Rattle.judge.specs.Whole.{treeOf, checkOf}
-use Rattle.notes.specs.Notes.{notesText, refusalText}
-use Rattle.playing.specs.Sound.{notesOf}
-use Rattle.playing.specs.Turns.{freshPlayer, endedPlayer}
+use Rattle.chip_api.specs.Answer.{isMemory}
+use Rattle.log_judge.specs.Tree.{acts}
+use Rattle.log_judge.specs.Whole.{treeOf, checkOf}
+use Rattle.play_text.specs.Notes.{notesText, refusalText}
+use Rattle.play_model.specs.Sound.{notesOf}
+use Rattle.play_model.specs.Turns.{freshPlayer, endedPlayer}
 use Rattle.play.specs.declared.Begun.{Begun}
 
 -- 1 at 0 for a sample memory that isn't 32,768 bytes, then the log's own number and place

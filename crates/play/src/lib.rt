@@ -6,12 +6,12 @@ ghost use lib.ListN.{length};
 ghost use lib.Dec.{eqb};
 ghost use Rattle.arith.specs.Pick.{pick};
 ghost use Rattle.chip.specs.Range.{inRange};
-ghost use Rattle.playing.specs.Turns.{freshPlayer, endedPlayer};
+ghost use Rattle.play_model.specs.Turns.{freshPlayer, endedPlayer};
 ghost use Rattle.play.specs.Loop.{answerOf};
 ghost use Rattle.play.specs.Playing.{Answered, PlayedOn};
 ghost use Rattle.play.specs.Whole.{begunOf};
-use playing::Player;
-use steps::Taken;
+use play_model::Player;
+use play_step::Taken;
 
 // The answer of `begin`.
 pub struct Begun {
@@ -33,7 +33,7 @@ pub struct Played {
 fn opening(number: u8, place: usize) -> Begun
     ensures { λ r. ⌜ r ≡ record { number = number; place = place; player = pick (eqb number 0) freshPlayer endedPlayer } ⌝ }
 {
-    let p = turns::first(number == 0);
+    let p = play_turn::first(number == 0);
     Begun {
         number: number,
         place: place,
@@ -48,7 +48,7 @@ pub fn begin(log: &[u8], memory: &[u8]) -> Begun
     if memory.len() != 32768 {
         return opening(1, 0);
     }
-    let k = checking::check(log);
+    let k = log_check::check(log);
     opening(k.number, k.place)
 }
 
@@ -103,12 +103,12 @@ fn play_lines(p: Player, log: &[u8], memory: &[u8], out: &mut [u8]) -> Played
     requires { ⌜ (length (now memory) ≡ 32768) × (inRange (p .state) ≡ true) ⌝ }
     ensures { λ r. ⌜ Answered (now (log .entry)) (now (memory .entry)) p (now (out .entry)) (now (out .exit)) r ⌝ }
 {
-    let mut t = steps::outcome(0, 0, 0, p, 0);
+    let mut t = play_step::outcome(0, 0, 0, p, 0);
     let mut count: u32 = 0;
     while goes_on(t.kind, out.len(), t.at, count) {
         let q = t.player;
         let at = t.at;
-        t = steps::step(q, log, memory, out, at);
+        t = play_step::step(q, log, memory, out, at);
         count += 1;
     }
     answer(p, t)

@@ -5,6 +5,6 @@ fn main() {
     let mut log = [0u8; 60001];
     let n = io::read_full(libc::STDIN_FILENO, &mut log);
     let mut memory = [0u8; 32769];
-    let m = shell::sample(&mut memory);
-    shell::play(&log[..n], &memory[..m]);
+    let m = play_shell::sample(&mut memory);
+    play_shell::play(&log[..n], &memory[..m]);
 }

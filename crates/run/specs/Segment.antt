@@ -5,14 +5,14 @@ use mathlib.Core.Bool.{true}
 use mathlib.Core.List.{List}
 use lib.ListN.{length}
 use Rattle.arith.specs.Iterate.{iterate}
-use Rattle.frame.specs.Leap.{frameBefore}
+use Rattle.chip_frame.specs.Leap.{frameBefore}
 use Rattle.chip.specs.Clock.{chipClock}
 use Rattle.chip.specs.Level.{stateLevel}
 use Rattle.chip.specs.Range.{inRange}
-use Rattle.lags.proofs.Laggings.{Lagging}
-use Rattle.ran.specs.Held.{Held}
+use Rattle.leap_stretch.proofs.LaggedLaws.{Lagging}
+use Rattle.run_answer.specs.Held.{Held}
 use Rattle.chip.specs.declared.State.{State}
-use Rattle.lags.specs.declared.Lags.{Lags}
+use Rattle.leap_stretch.specs.declared.Lags.{Lags}
 use Rattle.run.specs.declared.Segment.{Segment}
 
 -- At clock `l .now` of a stretch of at most `end` clocks that began in s with `base` clocks done; n records are written.

@@ -6,13 +6,13 @@ ghost use Prim.Native.Nat.{ℕ, _+_, _/_, _≤_, _<_};
 ghost use lib.Dec.{eqb};
 ghost use lib.ListN.{length};
 ghost use Rattle.arith.specs.Pick.{pick};
-ghost use Rattle.frame.specs.Leap.{frameBefore};
+ghost use Rattle.chip_frame.specs.Leap.{frameBefore};
 ghost use Rattle.chip.specs.Range.{inRange};
-ghost use Rattle.ran.specs.Run.{answer, answered, lent, readBy, over, flat, stored};
+ghost use Rattle.run_answer.specs.Run.{answer, answered, lent, readBy, over, flat, stored};
 ghost use Rattle.run.specs.Segment.{Standing, Worked, Segmented};
 use chip::State;
-use lags::Lags;
-use ran::Ran;
+use leap_stretch::Lags;
+use run_answer::Ran;
 
 // What working a stretch came to: its clocks, or those before an event for whose record there is no room.
 pub struct Segment {
@@ -69,7 +69,7 @@ fn mark(words: &mut [u32], n: u32, clock: u32, level: u16, was: u16) -> u32
     if level == was {
         return n;
     }
-    ran::put(words, n as usize, clock, level as u32);
+    run_answer::put(words, n as usize, clock, level as u32);
     n + 1
 }
 
@@ -91,7 +91,7 @@ fn voices_on(
     let mut n = records;
     while goes(l.next, voices_until(l, end), n, room) {
         let e = l.next as u32;
-        let r = lags::renew_voices(l, e);
+        let r = leap_stretch::renew_voices(l, e);
         n = mark(words, n, base + e, r.level, l.level);
         l = r;
     }
@@ -119,7 +119,7 @@ fn sounds_on(
     let mut n = records;
     while goes(l.next, sounds_until(l, end), n, room) {
         let e = l.next as u32;
-        let r = lags::renew_sounds(l, e);
+        let r = leap_stretch::renew_sounds(l, e);
         let m = mark(words, n, base + e, r.level, l.level);
         let p = voices_on(s, memory, r, end, base, words, m);
         l = p.lags;
@@ -159,18 +159,18 @@ fn segment_on(
     ensures { λ r. ⌜ Segmented (now (memory .entry)) s end base records (now (words .entry)) (now (words .exit)) r ⌝ }
 {
     let room = words.len() / 2;
-    let mut l = lags::lags_of(s);
+    let mut l = leap_stretch::lags_of(s);
     let mut n = records;
     while goes(l.next, end as u64 + 1, n, room) {
         let e = l.next as u32;
-        let r = lags::renew(l, memory, e);
+        let r = leap_stretch::renew(l, memory, e);
         let m = mark(words, n, base + e, r.level, l.level);
         let p = sounds_on(s, memory, r, end, base, words, m);
         l = p.lags;
         n = p.records;
     }
     let stop = brink(end, l.next);
-    let last = lags::state_at(s, l, stop);
+    let last = leap_stretch::state_at(s, l, stop);
     Segment {
         state: last,
         clocks: stop,
@@ -218,7 +218,7 @@ fn run_on(s: State, memory: &[u8], count: u32, words: &mut [u32]) -> Ran
                     records: m,
                 };
             }
-            ran::put(words, place, at + 1, after as u32);
+            run_answer::put(words, place, at + 1, after as u32);
             state = next;
             done = at + 1;
             n = m + 1;
@@ -237,9 +237,9 @@ pub fn run(s: State, memory: &[u8], count: u64, words: &mut [u32]) -> Ran
     ensures { λ r. ⌜ r ≡ answer (now (memory .entry)) s count (now (words .entry)) ⌝ }
     ensures { λ r. ⌜ now (words .exit) ≡ lent (now (memory .entry)) s count (now (words .entry)) ⌝ }
 {
-    let number = ran::number_of(s, memory, count);
+    let number = run_answer::number_of(s, memory, count);
     if number != 0 {
-        return ran::refuse(number, s);
+        return run_answer::refuse(number, s);
     }
     run_on(s, memory, count as u32, words)
 }

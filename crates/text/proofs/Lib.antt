@@ -1,4 +1,4 @@
-pub mod Bounds
-pub mod Decimals
-pub mod Hexes
-pub mod Keys
+pub mod NumberLaws
+pub mod DecimalLaws
+pub mod HexLaws
+pub mod KeyLaws

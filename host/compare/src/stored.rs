@@ -18,7 +18,7 @@ fn logs(folder: &str) -> Result<Vec<(String, Vec<u8>)>, String> {
     paths.iter().map(|path| Ok((name(path), read(path)?))).collect()
 }
 
-/// What `crates/logs/stdout` holds: of each log the check, some items, some bodies, and a cursor's way.
+/// What `crates/test_logs/stdout` holds: of each log the check, some items, some bodies, and a cursor's way.
 pub fn judged(folder: &str) -> Result<String, String> {
     Ok(logs(folder)?.iter().map(|(name, log)| format!("log={name}\n{}", judged_log(log))).collect())
 }
@@ -94,7 +94,7 @@ fn cursor_line(log: &[u8], most: u64) -> String {
     format!("cursor={items}:{steps} {end}\n")
 }
 
-/// What `crates/cases/stdout` holds: each log played with the folder's `sample.bin`, then the first with other memory.
+/// What `crates/test_plays/stdout` holds: each log played with the folder's `sample.bin`, then the first with other memory.
 pub fn played(folder: &str) -> Result<String, String> {
     let path = format!("{folder}/sample.bin");
     let memory = std::fs::read(&path).map_err(|error| format!("{path}: {error}"))?;

@@ -1,6 +1,6 @@
 use native.Mathlib.Omega.{arith}
 use borrow.Author.Needs.{needs}
-use Rattle.arith.proofs.Shifts.{shifted-out}
+use Rattle.arith.proofs.ShiftLaws.{shifted-out}
 use Rattle.arith.proofs.shifted_u8.Statement.{statement}
 use Rattle.arith.proofs.shifted_u8.Tie as tie
 

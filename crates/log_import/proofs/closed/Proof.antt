@@ -1,7 +1,7 @@
 use borrow.Author.Needs.{needs}
 use native.Mathlib.Omega.{arith}
-use Rattle.log_import.proofs.Bounds.{stood-most}
-use Rattle.log_import.proofs.Gaps.{closed-count}
+use Rattle.log_import.proofs.BoundLaws.{stood-most}
+use Rattle.log_import.proofs.GapLaws.{closed-count}
 use Rattle.log_import.proofs.closed.Statement.{statement}
 use Rattle.log_import.proofs.closed.Tie as tie
 

@@ -1,7 +1,7 @@
 use borrow.Author.Needs.{needs}
 use mathlib.Core.Path.{refl, sym, _∙_}
 use Rattle.log_import.specs.Measure.{countStep}
-use Rattle.log_import.proofs.Bounds.{light-of}
+use Rattle.log_import.proofs.BoundLaws.{light-of}
 use Rattle.log_import.proofs.count_light.Statement.{statement}
 use Rattle.log_import.proofs.count_light.Tie as tie
 

@@ -2,9 +2,9 @@ use borrow.Author.Needs.{needs}
 use mathlib.Core.Path.{refl}
 use native.Mathlib.Omega.{arith}
 use lib.ListN.{length}
-use Rattle.judge.specs.Tree.{turns}
+use Rattle.log_judge.specs.Tree.{turns}
 use Rattle.log_import.specs.Measure.{countSaid}
-use Rattle.log_import.proofs.Bounds.{stood-few, stood-more}
+use Rattle.log_import.proofs.BoundLaws.{stood-few, stood-more}
 use Rattle.log_import.proofs.count_said.Statement.{statement}
 use Rattle.log_import.proofs.count_said.Tie as tie
 

@@ -1,5 +1,5 @@
 use borrow.Author.Needs.{needs}
-use Rattle.log_import.proofs.Gaps.{count-write-fits}
+use Rattle.log_import.proofs.GapLaws.{count-write-fits}
 use Rattle.log_import.proofs.count_write.Statement.{statement}
 use Rattle.log_import.proofs.count_write.Tie as tie
 

@@ -5,7 +5,7 @@ use Prim.Native.Nat.{_%_}
 use native.Mathlib.Omega.{arith}
 use lib.ListN.{length}
 use Rattle.log_import.specs.Measure.{gapTurns, restText}
-use Rattle.log_import.proofs.Gaps.{gap-long}
+use Rattle.log_import.proofs.GapLaws.{gap-long}
 use Rattle.log_import.proofs.gap_length.Statement.{statement}
 use Rattle.log_import.proofs.gap_length.Tie as tie
 

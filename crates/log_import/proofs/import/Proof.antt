@@ -1,8 +1,8 @@
 use borrow.Author.Needs.{needs}
 use mathlib.Core.Path.{sym, ap, _∙_}
 use Rattle.log_import.specs.declared.Imported.{Imported}
-use Rattle.log_import.proofs.Answers.{ready, buffer-written, buffer-kept}
-use Rattle.log_import.proofs.Laws.{Bytes}
+use Rattle.log_import.proofs.AnswerLaws.{ready, buffer-written, buffer-kept}
+use Rattle.log_import.proofs.ImportLaws.{Bytes}
 use Rattle.log_import.proofs.Promised.{bytes-of, promised}
 use native.Mathlib.Omega.{arith}
 use Rattle.log_import.proofs.import.Statement.{statement}

@@ -5,7 +5,7 @@ use lib.ListN.{length, drop}
 use Rattle.log_import.specs.Stream.{streamFrom}
 use Rattle.log_import.specs.Import.{importOf}
 use Rattle.log_import.specs.Measure.{Counted, answerFrom}
-use Rattle.log_import.proofs.Counts.{from-end, count-starts, measure-stops, measure-goes}
+use Rattle.log_import.proofs.CountLaws.{from-end, count-starts, measure-stops, measure-goes}
 use Rattle.log_import.proofs.measure.Statement.{statement}
 use Rattle.log_import.proofs.measure.Tie as tie
 

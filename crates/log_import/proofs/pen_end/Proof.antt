@@ -1,7 +1,7 @@
 use borrow.Author.Needs.{needs}
 use native.Mathlib.Omega.{arith}
-use Rattle.log_import.proofs.Bounds.{stood-most}
-use Rattle.log_import.proofs.Writes.{end-gap, end-written}
+use Rattle.log_import.proofs.BoundLaws.{stood-most}
+use Rattle.log_import.proofs.WriteLaws.{end-gap, end-written}
 use Rattle.log_import.proofs.pen_end.Statement.{statement}
 use Rattle.log_import.proofs.pen_end.Tie as tie
 

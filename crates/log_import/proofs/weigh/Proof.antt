@@ -1,5 +1,5 @@
 use mathlib.Core.Path.{sym, _∙_}
-use Rattle.log_import.proofs.Answers.{weighed-heavy, weighed-long, weighed-done}
+use Rattle.log_import.proofs.AnswerLaws.{weighed-heavy, weighed-long, weighed-done}
 use Rattle.log_import.proofs.weigh.Statement.{statement}
 use Rattle.log_import.proofs.weigh.Tie as tie
 

@@ -1,5 +1,5 @@
 use borrow.Author.Needs.{needs}
-use Rattle.log_import.proofs.Writes.{write-headed, write-whole}
+use Rattle.log_import.proofs.WriteLaws.{write-headed, write-whole}
 use Rattle.log_import.proofs.write_log.Statement.{statement}
 use Rattle.log_import.proofs.write_log.Tie as tie
 

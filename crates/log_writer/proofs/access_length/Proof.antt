@@ -2,7 +2,7 @@ use borrow.Author.Needs.{needs}
 use mathlib.Core.Path.{refl}
 use native.Mathlib.Omega.{arith}
 use Rattle.text.specs.Hex.{hexText}
-use Rattle.line.specs.Printed.{lineText, actText, ended}
+use Rattle.log_line.specs.Printed.{lineText, actText, ended}
 use Rattle.log_writer.proofs.access_length.Statement.{statement}
 use Rattle.log_writer.proofs.access_length.Tie as tie
 

@@ -1,7 +1,7 @@
 use borrow.Author.Needs.{needs}
 use Rattle.text.specs.Ascii.{bytes}
-use Rattle.line.specs.Printed.{lineText, actText, ended}
-use Rattle.print.proofs.Pieces.{put-last}
+use Rattle.log_line.specs.Printed.{lineText, actText, ended}
+use Rattle.text_print.proofs.PieceLaws.{put-last}
 use Rattle.log_writer.proofs.access_line.Statement.{statement}
 use Rattle.log_writer.proofs.access_line.Tie as tie
 

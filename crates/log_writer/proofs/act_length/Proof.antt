@@ -3,8 +3,8 @@ use mathlib.Core.Path.{refl, sym, ap, _∙_}
 use Prim.Native.Nat.{ℕ, _+_}
 use native.Mathlib.Omega.{arith}
 use Rattle.text.specs.Ascii.{bytes}
-use Rattle.line.specs.Printed.{actText, ended}
-use Rattle.log_writer.proofs.Pieces.{keyed-long}
+use Rattle.log_line.specs.Printed.{actText, ended}
+use Rattle.log_writer.proofs.PieceLaws.{keyed-long}
 use Rattle.log_writer.proofs.act_length.Statement.{statement}
 use Rattle.log_writer.proofs.act_length.Tie as tie
 

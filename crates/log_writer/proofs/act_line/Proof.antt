@@ -1,5 +1,5 @@
 use borrow.Author.Needs.{needs}
-use Rattle.line.specs.Printed.{actText, ended}
+use Rattle.log_line.specs.Printed.{actText, ended}
 use Rattle.log_writer.proofs.act_line.Statement.{statement}
 use Rattle.log_writer.proofs.act_line.Tie as tie
 

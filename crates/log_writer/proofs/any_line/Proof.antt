@@ -2,8 +2,8 @@ use borrow.Author.Needs.{needs}
 use mathlib.Core.Path.{refl}
 use native.Mathlib.Omega.{arith}
 use Rattle.text.specs.Ascii.{bytes}
-use Rattle.line.specs.Printed.{lineText, ended}
-use Rattle.print.proofs.Pieces.{put-last}
+use Rattle.log_line.specs.Printed.{lineText, ended}
+use Rattle.text_print.proofs.PieceLaws.{put-last}
 use Rattle.log_writer.proofs.any_line.Statement.{statement}
 use Rattle.log_writer.proofs.any_line.Tie as tie
 

@@ -1,7 +1,7 @@
 use borrow.Author.Needs.{needs}
 use mathlib.Core.List.{[], _∷_, _++_}
 use Rattle.text.specs.Decimal.{decimalText}
-use Rattle.print.proofs.Pieces.{put-last, put-more}
+use Rattle.text_print.proofs.PieceLaws.{put-last, put-more}
 use Rattle.log_writer.proofs.keyed.Statement.{statement}
 use Rattle.log_writer.proofs.keyed.Tie as tie
 

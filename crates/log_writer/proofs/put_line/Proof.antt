@@ -2,8 +2,8 @@ use borrow.Author.Needs.{needs}
 use mathlib.Core.Path.{sym, ap, _∙_}
 use Prim.Native.Nat.{ℕ, _+_}
 use native.Mathlib.Omega.{arith}
-use Rattle.line.specs.Printed.{lineText}
-use Rattle.print.proofs.Stores.{written, kept}
+use Rattle.log_line.specs.Printed.{lineText}
+use Rattle.text_print.proofs.StoreLaws.{written, kept}
 use Rattle.log_writer.proofs.put_line.Statement.{statement}
 use Rattle.log_writer.proofs.put_line.Tie as tie
 

@@ -2,8 +2,8 @@ use borrow.Author.Needs.{needs}
 use mathlib.Core.List.{_++_}
 use Rattle.text.specs.Ascii.{bytes}
 use Rattle.text.specs.Hex.{hexText}
-use Rattle.print.proofs.Pieces.{put-last, put-more}
-use Rattle.log_writer.proofs.Pieces.{write-text}
+use Rattle.text_print.proofs.PieceLaws.{put-last, put-more}
+use Rattle.log_writer.proofs.PieceLaws.{write-text}
 use Rattle.log_writer.proofs.write_line.Statement.{statement}
 use Rattle.log_writer.proofs.write_line.Tie as tie
 

@@ -1,7 +1,7 @@
 use borrow.Author.Needs.{needs}
 use mathlib.Core.List.{_++_}
 use Rattle.text.specs.Ascii.{bytes}
-use Rattle.print.specs.Printed.{Put}
+use Rattle.text_print.specs.Printed.{Put}
 use Rattle.perch_place.proofs.Pieces.{room-first, room-rest, put-then}
 use Rattle.perch_check.specs.Report.{numberLine, passedText}
 use Rattle.perch_check.proofs.passed.Statement.{statement}

@@ -1,7 +1,7 @@
 use borrow.Author.Needs.{needs}
 use mathlib.Core.List.{_++_}
 use Rattle.text.specs.Ascii.{bytes}
-use Rattle.print.proofs.Pieces.{put-last, put-more}
+use Rattle.text_print.proofs.PieceLaws.{put-last, put-more}
 use Rattle.text.specs.Decimal.{decimalText}
 use Rattle.perch_check.specs.Reasons.{reasonText}
 use Rattle.perch_check.specs.Report.{reasonLine}

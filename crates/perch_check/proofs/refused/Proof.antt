@@ -1,7 +1,7 @@
 use borrow.Author.Needs.{needs}
 use mathlib.Core.List.{_++_}
-use Rattle.print.specs.Printed.{Put}
-use Rattle.print.proofs.Pieces.{put-last, put-more}
+use Rattle.text_print.specs.Printed.{Put}
+use Rattle.text_print.proofs.PieceLaws.{put-last, put-more}
 use Rattle.perch_place.specs.Place.{lineNumber, column}
 use Rattle.perch_place.specs.Shown.{shownLine, markLine}
 use Rattle.perch_place.proofs.Pieces.{room-first, room-rest, put-then}

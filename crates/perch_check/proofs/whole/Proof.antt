@@ -5,8 +5,8 @@ use native.Mathlib.Omega.{arith}
 use Prim.Native.Nat.{_+_, _≤_}
 use lib.ListN.{length}
 use Rattle.text.specs.Ascii.{bytes}
-use Rattle.print.specs.Printed.{Put}
-use Rattle.print.proofs.Pieces.{put-last}
+use Rattle.text_print.specs.Printed.{Put}
+use Rattle.text_print.proofs.PieceLaws.{put-last}
 use Rattle.perch_place.proofs.Pieces.{room-first, room-rest, put-then}
 use Rattle.perch_check.specs.Report.{passedText, refusedText, checkText}
 use Rattle.perch_check.proofs.Sizes.{whole-room, text-passed, text-refused}

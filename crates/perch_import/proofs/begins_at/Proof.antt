@@ -1,6 +1,6 @@
 use borrow.Author.Needs.{needs}
 use mathlib.Core.Path.{sym, _∙_}
-use Rattle.perch_import.proofs.Files.{begins-early, begins-offset}
+use Rattle.perch_import.proofs.FileLaws.{begins-early, begins-offset}
 use Rattle.perch_import.proofs.begins_at.Statement.{statement}
 use Rattle.perch_import.proofs.begins_at.Tie as tie
 

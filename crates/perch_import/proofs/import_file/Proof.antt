@@ -1,7 +1,7 @@
 use borrow.Author.Needs.{needs}
 use mathlib.Core.Path.{refl, sym, _∙_}
 use Rattle.perch_import.specs.File.{broughtOf, leftIn}
-use Rattle.perch_import.proofs.Files.{from-inside}
+use Rattle.perch_import.proofs.FileLaws.{from-inside}
 use Rattle.perch_import.proofs.import_file.Statement.{statement}
 use Rattle.perch_import.proofs.import_file.Tie as tie
 

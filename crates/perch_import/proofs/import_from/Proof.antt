@@ -1,7 +1,7 @@
 use borrow.Author.Needs.{needs}
 use native.Mathlib.Omega.{arith}
 use lib.ListN.{length}
-use Rattle.perch_import.proofs.Files.{part-is, place-in}
+use Rattle.perch_import.proofs.FileLaws.{part-is, place-in}
 use Rattle.perch_import.proofs.import_from.Statement.{statement}
 use Rattle.perch_import.proofs.import_from.Tie as tie
 

@@ -1,9 +1,9 @@
 use borrow.Author.Needs.{needs}
 use mathlib.Core.Path.{refl, _∙_}
 use native.Mathlib.Omega.{arith}
-use Rattle.print.proofs.Stores.{written, kept}
+use Rattle.text_print.proofs.StoreLaws.{written, kept}
 use Rattle.perch_import.specs.File.{refusedText}
-use Rattle.perch_import.proofs.Files.{refused-long}
+use Rattle.perch_import.proofs.FileLaws.{refused-long}
 use Rattle.perch_import.proofs.refusal.Statement.{statement}
 use Rattle.perch_import.proofs.refusal.Tie as tie
 

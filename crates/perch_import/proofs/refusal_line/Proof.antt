@@ -2,7 +2,7 @@ use borrow.Author.Needs.{needs}
 use mathlib.Core.List.{_++_}
 use Rattle.text.specs.Ascii.{bytes}
 use Rattle.text.specs.Decimal.{decimalText}
-use Rattle.print.proofs.Pieces.{put-last, put-more}
+use Rattle.text_print.proofs.PieceLaws.{put-last, put-more}
 use Rattle.perch_import.specs.File.{refusedText}
 use Rattle.perch_import.proofs.refusal_line.Statement.{statement}
 use Rattle.perch_import.proofs.refusal_line.Tie as tie

@@ -1,6 +1,6 @@
 use borrow.Author.Needs.{needs}
 use mathlib.Core.Path.{sym, _∙_}
-use Rattle.perch_import.proofs.Files.{start-none, start-cut, start-from, start-outside}
+use Rattle.perch_import.proofs.FileLaws.{start-none, start-cut, start-from, start-outside}
 use Rattle.perch_import.proofs.start.Statement.{statement}
 use Rattle.perch_import.proofs.start.Tie as tie
 

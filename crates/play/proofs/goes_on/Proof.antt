@@ -1,6 +1,6 @@
 use native.Mathlib.Omega.{arith}
 use borrow.Author.Tests.{ltb-true, ltb-false}
-use Rattle.play.proofs.Goings.{no-flag}
+use Rattle.play.proofs.LoopLaws.{no-flag}
 use Rattle.play.proofs.goes_on.Statement.{statement}
 use Rattle.play.proofs.goes_on.Tie as tie
 

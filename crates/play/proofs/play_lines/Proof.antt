@@ -1,7 +1,7 @@
 use native.Mathlib.Omega.{arith}
 use Prim.Native.Nat.{_-_}
-use Rattle.steps.proofs.Takings.{step-took}
-use Rattle.play.proofs.Goings.{Standing, standing-start, standing-on, standing-answer}
+use Rattle.play_step.proofs.TakenLaws.{step-took}
+use Rattle.play.proofs.LoopLaws.{Standing, standing-start, standing-on, standing-answer}
 use Rattle.play.proofs.play_lines.Statement.{statement}
 use Rattle.play.proofs.play_lines.Tie as tie
 

@@ -1,7 +1,7 @@
 use mathlib.Core.Path.{sym, _∙_}
 use native.Mathlib.Omega.{arith}
 use borrow.Author.Needs.{needs}
-use Rattle.ran.proofs.Answers.{number-fine, refused, worked-out}
+use Rattle.run_answer.proofs.AnswerLaws.{number-fine, refused, worked-out}
 use Rattle.run.proofs.run.Statement.{statement}
 use Rattle.run.proofs.run.Tie as tie
 

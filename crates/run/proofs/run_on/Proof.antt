@@ -4,10 +4,10 @@ use native.Mathlib.Omega.{arith}
 use borrow.Author.Needs.{needs}
 use Rattle.chip.specs.Level.{stateLevel}
 use Rattle.chip.specs.Range.{Bytes}
-use Rattle.chip.proofs.Ranges.{state-in, state-back}
-use Rattle.ran.specs.Run.{roomOf}
-use Rattle.ran.specs.Held.{Held}
-use Rattle.ran.proofs.Runs.{held-start, held-length, held-few, held-ranged, held-same, held-mark, held-end, held-early}
+use Rattle.chip.proofs.RangeLaws.{state-in, state-back}
+use Rattle.run_answer.specs.Run.{roomOf}
+use Rattle.run_answer.specs.Held.{Held}
+use Rattle.run_answer.proofs.RunLaws.{held-start, held-length, held-few, held-ranged, held-same, held-mark, held-end, held-early}
 use Rattle.run.proofs.run_on.Statement.{statement}
 use Rattle.run.proofs.run_on.Tie as tie
 

@@ -2,10 +2,10 @@ use Prim.Native.Nat.{ℕ, _+_, _-_, _/_, _≤_, _<_}
 use mathlib.Core.Path.{_≡_, refl, ap, _∙_}
 use native.Mathlib.Omega.{arith}
 use Rattle.chip.specs.Range.{Bytes}
-use Rattle.lags.specs.declared.Lags.{Lags}
-use Rattle.ran.specs.Run.{roomOf}
+use Rattle.leap_stretch.specs.declared.Lags.{Lags}
+use Rattle.run_answer.specs.Run.{roomOf}
 use Rattle.run.specs.Segment.{Worked}
-use Rattle.run.proofs.Events.{worked-start, worked-on, worked-event, worked-stop, past, event-now}
+use Rattle.run.proofs.StretchLaws.{worked-start, worked-on, worked-event, worked-stop, past, event-now}
 use Rattle.run.proofs.segment_on.Statement.{statement}
 use Rattle.run.proofs.segment_on.Tie as tie
 

@@ -2,11 +2,11 @@ use Prim.Native.Nat.{ℕ, _+_, _-_, _/_, _≤_, _<_}
 use mathlib.Core.Path.{_≡_, refl, ap, _∙_}
 use native.Mathlib.Omega.{arith}
 use Rattle.chip.specs.Range.{Bytes}
-use Rattle.lags.specs.declared.Lags.{Lags}
-use Rattle.lags.proofs.Waits.{sounds-renewed}
-use Rattle.ran.specs.Run.{roomOf}
+use Rattle.leap_stretch.specs.declared.Lags.{Lags}
+use Rattle.leap_stretch.proofs.WaitLaws.{sounds-renewed}
+use Rattle.run_answer.specs.Run.{roomOf}
 use Rattle.run.specs.Segment.{Standing, Worked}
-use Rattle.run.proofs.Events.{worked-none, worked-on, worked-event, past, event-now}
+use Rattle.run.proofs.StretchLaws.{worked-none, worked-on, worked-event, past, event-now}
 use Rattle.run.proofs.sounds_on.Statement.{statement}
 use Rattle.run.proofs.sounds_on.Tie as tie
 

@@ -3,11 +3,11 @@ use mathlib.Core.Path.{_≡_, refl, ap, _∙_}
 use native.Mathlib.Omega.{arith}
 use Rattle.chip.specs.Range.{Bytes}
 use Rattle.chip.specs.declared.State.{State}
-use Rattle.lags.specs.declared.Lags.{Lags}
-use Rattle.lags.proofs.Waits.{voices-renewed}
-use Rattle.ran.specs.Run.{roomOf}
+use Rattle.leap_stretch.specs.declared.Lags.{Lags}
+use Rattle.leap_stretch.proofs.WaitLaws.{voices-renewed}
+use Rattle.run_answer.specs.Run.{roomOf}
 use Rattle.run.specs.Segment.{Standing, Worked}
-use Rattle.run.proofs.Events.{worked-none, worked-event, past, event-now}
+use Rattle.run.proofs.StretchLaws.{worked-none, worked-event, past, event-now}
 use Rattle.run.proofs.voices_on.Statement.{statement}
 use Rattle.run.proofs.voices_on.Tie as tie
 

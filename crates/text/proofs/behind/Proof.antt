@@ -2,7 +2,7 @@ use mathlib.Core.Path.{sym}
 use borrow.Author.Needs.{needs}
 use native.Mathlib.Omega.{arith}
 use lib.ListN.{drop-of-length-le}
-use Rattle.text.proofs.Keys.{take-rest}
+use Rattle.text.proofs.KeyLaws.{take-rest}
 use Rattle.text.proofs.behind.Statement.{statement}
 use Rattle.text.proofs.behind.Tie as tie
 

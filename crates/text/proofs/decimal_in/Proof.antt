@@ -6,7 +6,7 @@ use Prim.Native.Nat.{ℕ}
 use Rattle.text.specs.declared.Number.the-variants.{Is}
 use Rattle.text.specs.Numbers.{within}
 use Rattle.text.specs.Decimal.{decimal, digits}
-use Rattle.text.proofs.Bounds.{within-capped}
+use Rattle.text.proofs.NumberLaws.{within-capped}
 use Rattle.text.proofs.decimal_in.Statement.{statement}
 use Rattle.text.proofs.decimal_in.Tie as tie
 

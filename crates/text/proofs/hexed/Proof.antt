@@ -5,7 +5,7 @@ use mathlib.Core.Path.{_≡_, refl, sym, ap, _∙_}
 use native.Mathlib.Omega.{arith}
 use lib.ListN.{length, drop}
 use Rattle.text.specs.Hex.{hexDigits}
-use Rattle.text.proofs.Hexes.{value-low, hex-one, hex-other, hex-end, hex-next, hex-fits}
+use Rattle.text.proofs.HexLaws.{value-low, hex-one, hex-other, hex-end, hex-next, hex-fits}
 use Rattle.text.proofs.hexed.Statement.{statement}
 use Rattle.text.proofs.hexed.Tie as tie
 

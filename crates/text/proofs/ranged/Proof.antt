@@ -1,6 +1,6 @@
 use mathlib.Core.Path.{sym}
 use borrow.Author.Needs.{needs}
-use Rattle.text.proofs.Bounds.{within-low, within-high, within-yes}
+use Rattle.text.proofs.NumberLaws.{within-low, within-high, within-yes}
 use Rattle.text.proofs.ranged.Statement.{statement}
 use Rattle.text.proofs.ranged.Tie as tie
 

@@ -5,7 +5,7 @@ use mathlib.Core.Path.{_≡_, refl, sym, _∙_}
 use native.Mathlib.Omega.{arith}
 use lib.ListN.{length, drop}
 use Rattle.text.specs.Key.{startsWith}
-use Rattle.text.proofs.Keys.{starts-short, starts-same, starts-other, starts-none}
+use Rattle.text.proofs.KeyLaws.{starts-short, starts-same, starts-other, starts-none}
 use Rattle.text.proofs.starts.Statement.{statement}
 use Rattle.text.proofs.starts.Tie as tie
 

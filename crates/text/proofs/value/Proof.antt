@@ -6,7 +6,7 @@ use native.Mathlib.Omega.{arith}
 use lib.ListN.{length, drop}
 use Rattle.text.specs.Numbers.{capped}
 use Rattle.text.specs.Decimal.{digits}
-use Rattle.text.proofs.Decimals.{digit-high, cap-digits, digits-one, digits-other, digits-end}
+use Rattle.text.proofs.DecimalLaws.{digit-high, cap-digits, digits-one, digits-other, digits-end}
 use Rattle.text.proofs.value.Statement.{statement}
 use Rattle.text.proofs.value.Tie as tie
 

@@ -1,7 +1,7 @@
 use borrow.Author.Needs.{needs}
 use mathlib.Core.Path.{sym, _∙_}
 use Rattle.text.specs.Ascii.{bytes}
-use Rattle.print.proofs.Pieces.{put-last}
+use Rattle.text_print.proofs.PieceLaws.{put-last}
 use Rattle.perch_place.proofs.Spelled.{blank-one, blank-four}
 use Rattle.perch_place.proofs.shown.blank_byte.Statement.{statement}
 use Rattle.perch_place.proofs.shown.blank_byte.Tie as tie

@@ -3,7 +3,7 @@ use mathlib.Core.Path.{sym, _∙_}
 use mathlib.Core.List.{[], _∷_}
 use Rattle.text.specs.Ascii.{bytes}
 use Rattle.text.specs.Hex.{hexText}
-use Rattle.print.proofs.Pieces.{put-last, put-more}
+use Rattle.text_print.proofs.PieceLaws.{put-last, put-more}
 use Rattle.perch_place.proofs.Spelled.{shown-itself, shown-escaped}
 use Rattle.perch_place.proofs.shown.shown_byte.Statement.{statement}
 use Rattle.perch_place.proofs.shown.shown_byte.Tie as tie

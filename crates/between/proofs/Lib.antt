@@ -1,2 +1,0 @@
-pub mod Betweens
-pub mod Quiets

@@ -1,0 +1,201 @@
+// The chip's operations on a state that is 91 bytes lent in place (crate `c_state`). An answer is one 64-bit number: its number, and above
+// its low byte its value. Bytes that are no state in range are refused, and stay.
+ghost use mathlib.Core.Path.{_≡_};
+ghost use lib.Dec.{eqb};
+ghost use Rattle.arith.specs.Pick.{pick};
+ghost use Rattle.c_state.specs.Bytes.{flagByte};
+ghost use Rattle.c_state.specs.Encoded.{encoded};
+ghost use Rattle.c_chip.specs.Boundary.{packed, bytesAfter, powerNumber, powerBytes, bytesIn, writeFrom, statusFrom, lineFrom, levelFrom, fractionFrom, noState, clockFrom};
+use chip::State;
+use chip_api::Asserted;
+use chip_api::Mixed;
+use chip_api::Moved;
+use chip_api::Status;
+
+// A number and a value in one.
+fn pack(number: u8, value: u16) -> u64
+    ensures { λ r. ⌜ r ≡ packed number value ⌝ }
+{
+    number as u64 + 256 * value as u64
+}
+
+// The state written to the bytes, where the number says that it is done.
+pub fn store(number: u8, s: State, b: &mut [u8])
+    ensures { λ r. ⌜ now (b .exit) ≡ pick (eqb number 0) (encoded s (now (b .entry))) (now (b .entry)) ⌝ }
+{
+    if number == 0 {
+        c_state::encode(s, b);
+    }
+}
+
+fn power_number(b: &[u8]) -> u8
+    ensures { λ r. ⌜ r ≡ powerNumber (now (b .entry)) ⌝ }
+{
+    if b.len() == 91 { 0 } else { 2 }
+}
+
+// Makes the bytes the state at power-on, whatever they held. Refused: 2, for another length.
+pub fn power_on(state: &mut [u8]) -> u64
+    ensures { λ r. ⌜ r ≡ packed (powerNumber (now (state .entry))) 0 ⌝ }
+    ensures { λ r. ⌜ now (state .exit) ≡ powerBytes (now (state .entry)) ⌝ }
+{
+    let number = power_number(state);
+    let s = chip_api::power_on();
+    store(number, s, state);
+    pack(number, 0)
+}
+
+fn bytes_in(b: &[u8]) -> bool
+    ensures { λ r. ⌜ r ≡ bytesIn (now (b .entry)) ⌝ }
+{
+    let right = c_state::is_state(b);
+    let s = c_state::decode(b);
+    let within = chip_api::in_range(s);
+    arith::both_of(right, within)
+}
+
+// Value 1 where the bytes are a state in range, else 0. Nothing is refused.
+pub fn in_range(state: &[u8]) -> u64
+    ensures { λ r. ⌜ r ≡ packed 0 (flagByte (bytesIn (now (state .entry)))) ⌝ }
+{
+    let within = bytes_in(state);
+    let value = arith::pick_u16(within, 1, 0);
+    pack(0, value)
+}
+
+fn write_from(b: &[u8], register: u16, value: u8) -> Moved
+    ensures { λ r. ⌜ r ≡ writeFrom register value (now (b .entry)) ⌝ }
+{
+    let s = c_state::decode(b);
+    if c_state::is_state(b) {
+        return chip_api::write(s, register, value);
+    }
+    Moved {
+        number: 2,
+        state: s,
+    }
+}
+
+// Writes a value to a register. Refused: 2, 4.
+pub fn write(state: &mut [u8], register: u16, value: u8) -> u64
+    ensures { λ r. ⌜ r ≡ packed (writeFrom register value (now (state .entry)) .number) 0 ⌝ }
+    ensures { λ r. ⌜ now (state .exit) ≡ bytesAfter (writeFrom register value (now (state .entry)) .number) (writeFrom register value (now (state .entry)) .state) (now (state .entry)) ⌝ }
+{
+    let m = write_from(state, register, value);
+    let s = m.state;
+    store(m.number, s, state);
+    pack(m.number, 0)
+}
+
+fn status_from(b: &[u8]) -> Status
+    ensures { λ r. ⌜ r ≡ statusFrom (now (b .entry)) ⌝ }
+{
+    let s = c_state::decode(b);
+    if c_state::is_state(b) {
+        return chip_api::read_status(s);
+    }
+    Status {
+        number: 2,
+        byte: 0,
+        state: s,
+    }
+}
+
+// Reads $4015, which clears the frame flag; the value is the byte read. Refused: 2.
+pub fn read_status(state: &mut [u8]) -> u64
+    ensures { λ r. ⌜ r ≡ packed (statusFrom (now (state .entry)) .number) (statusFrom (now (state .entry)) .byte) ⌝ }
+    ensures { λ r. ⌜ now (state .exit) ≡ bytesAfter (statusFrom (now (state .entry)) .number) (statusFrom (now (state .entry)) .state) (now (state .entry)) ⌝ }
+{
+    let m = status_from(state);
+    let s = m.state;
+    store(m.number, s, state);
+    let byte = arith::wide_u16(m.byte);
+    pack(m.number, byte)
+}
+
+fn line_from(b: &[u8]) -> Asserted
+    ensures { λ r. ⌜ r ≡ lineFrom (now (b .entry)) ⌝ }
+{
+    let s = c_state::decode(b);
+    if c_state::is_state(b) {
+        return chip_api::line(s);
+    }
+    Asserted {
+        number: 2,
+        asserted: false,
+    }
+}
+
+// Value 1 where the interrupt line is asserted. Refused: 2.
+pub fn line(state: &[u8]) -> u64
+    ensures { λ r. ⌜ r ≡ packed (lineFrom (now (state .entry)) .number) (flagByte (lineFrom (now (state .entry)) .asserted)) ⌝ }
+{
+    let m = line_from(state);
+    let value = arith::pick_u16(m.asserted, 1, 0);
+    pack(m.number, value)
+}
+
+fn level_from(b: &[u8]) -> Mixed
+    ensures { λ r. ⌜ r ≡ levelFrom (now (b .entry)) ⌝ }
+{
+    let s = c_state::decode(b);
+    if c_state::is_state(b) {
+        return chip_api::level(s);
+    }
+    Mixed {
+        number: 2,
+        level: 0,
+    }
+}
+
+// The mixed level. Refused: 2.
+pub fn level(state: &[u8]) -> u64
+    ensures { λ r. ⌜ r ≡ packed (levelFrom (now (state .entry)) .number) (levelFrom (now (state .entry)) .level) ⌝ }
+{
+    let m = level_from(state);
+    pack(m.number, m.level)
+}
+
+// The mixed level over 32,768; 0.0 where the bytes are no state in range.
+pub fn level_f32(state: &[u8]) -> f32
+    ensures { λ r. ⌜ r ≡ fractionFrom (now (state .entry)) ⌝ }
+{
+    let s = c_state::decode(state);
+    if c_state::is_state(state) {
+        let m = chip_api::level_f32(s);
+        return m.fraction;
+    }
+    0.0
+}
+
+// The number where sample memory is asked for and the bytes are no state.
+pub fn no_state(memory: &[u8]) -> u8
+    ensures { λ r. ⌜ r ≡ noState (now (memory .entry)) ⌝ }
+{
+    if memory.len() == 32768 { 2 } else { 1 }
+}
+
+fn clock_from(b: &[u8], memory: &[u8]) -> Moved
+    ensures { λ r. ⌜ r ≡ clockFrom (now (memory .entry)) (now (b .entry)) ⌝ }
+{
+    let s = c_state::decode(b);
+    if c_state::is_state(b) {
+        return chip_api::clock(s, memory);
+    }
+    let number = no_state(memory);
+    Moved {
+        number: number,
+        state: s,
+    }
+}
+
+// Works one clock. Refused: 1, 2.
+pub fn clock(state: &mut [u8], memory: &[u8]) -> u64
+    ensures { λ r. ⌜ r ≡ packed (clockFrom (now (memory .entry)) (now (state .entry)) .number) 0 ⌝ }
+    ensures { λ r. ⌜ now (state .exit) ≡ bytesAfter (clockFrom (now (memory .entry)) (now (state .entry)) .number) (clockFrom (now (memory .entry)) (now (state .entry)) .state) (now (state .entry)) ⌝ }
+{
+    let m = clock_from(state, memory);
+    let s = m.state;
+    store(m.number, s, state);
+    pack(m.number, 0)
+}

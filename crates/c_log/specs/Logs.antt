@@ -1,0 +1,49 @@
+-- Logs at the boundary: the check, item k and a loop's body, each answer in one number. A refusal has its place, and value 0.
+use Prim.Native.Nat.{ℕ, _+_, _*_, _^_}
+use mathlib.Core.List.{List}
+use lib.ListN.{length}
+use lib.Dec.{eqb}
+use Rattle.arith.specs.Pick.{pick}
+use Rattle.bus.specs.declared.Access.{Access}
+use Rattle.bus.specs.declared.Access.the-variants.{Write, Read}
+use Rattle.log_line.specs.declared.Act.{Act}
+use Rattle.log_line.specs.declared.Act.the-variants.{Wait}
+use Rattle.log_judge.specs.Lines.{nextLine}
+use Rattle.log_judge.specs.Whole.{checkOf}
+use Rattle.log_parts.specs.declared.Found.{Found}
+use Rattle.log_parts.specs.declared.Found.the-variants.{Is, Refused}
+use Rattle.log_parts.specs.Items.{itemOf}
+use Rattle.log_parts.specs.Bodies.{bodyCheckOf, bodyOf}
+
+-- "number + 2^8 x place + 2^32 x value"
+abbrev pub logPacked : ℕ → ℕ → ℕ → ℕ
+logPacked number place value = number + 2 ^ 8 * place + 2 ^ 32 * value
+
+-- the check: its value is the clocks in all
+abbrev pub checkPacked : List ℕ → ℕ
+checkPacked log = logPacked (checkOf log .number) (checkOf log .place) (checkOf log .clocks)
+
+-- "kind x 2^24 + what it holds": 1, a wait and its clocks; 2, a write, its register and its value; 3, a read
+abbrev pub accessValue : Access → ℕ
+accessValue (Write register value) = 2 * 2 ^ 24 + 256 * register + value
+accessValue Read = 3 * 2 ^ 24
+
+abbrev pub actValue : Act → ℕ
+actValue (Wait n) = 1 * 2 ^ 24 + n
+actValue (Act.Access x) = accessValue x
+
+abbrev pub foundPacked : Found → ℕ
+foundPacked (Is a) = logPacked 0 0 (actValue a)
+foundPacked (Refused number place) = logPacked number place 0
+
+-- item k
+abbrev pub itemPacked : List ℕ → ℕ → ℕ
+itemPacked log k = foundPacked (itemOf log k)
+
+-- a loop's body: "where they start + 2^16 x how many they are", the first byte being the one behind the loop line
+unfoldable pub bodyValue : List ℕ → ℕ → ℕ
+bodyValue log offset =
+    pick (eqb (bodyCheckOf log offset .number) 0) (nextLine log offset + 2 ^ 16 * length (bodyOf log offset)) 0
+
+abbrev pub bodyPacked : List ℕ → ℕ → ℕ
+bodyPacked log offset = logPacked (bodyCheckOf log offset .number) (bodyCheckOf log offset .place) (bodyValue log offset)

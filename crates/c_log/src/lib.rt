@@ -1,0 +1,83 @@
+// What is asked of a log, each answer in one 64-bit number: whether it passes, its items, and the bodies of its loops.
+ghost use mathlib.Core.Path.{_≡_};
+ghost use Prim.Native.Nat.{_^_, _≤_, _<_};
+ghost use Rattle.log_judge.specs.Tree.{actClocks};
+ghost use Rattle.log_parts.specs.Bodies.{bodyCheckOf};
+ghost use Rattle.c_log.specs.Logs.{logPacked, checkPacked, accessValue, actValue, itemPacked, bodyValue, bodyPacked};
+use bus::Access;
+use log_judge::Reading;
+use log_line::Act;
+use log_parts::Found;
+
+// An answer about a log in one number.
+fn pack_log(number: u8, place: usize, value: u64) -> u64
+    requires { ⌜ (place ≤ 60000) × (value < 2 ^ 32) ⌝ }
+    ensures { λ r. ⌜ r ≡ logPacked number place value ⌝ }
+{
+    number as u64 + 256 * place as u64 + 4294967296 * value
+}
+
+// Checks a log; the value is its clocks in all. Refused: 4 to 10.
+pub fn check(log: &[u8]) -> u64
+    ensures { λ r. ⌜ r ≡ checkPacked (now (log .entry)) ⌝ }
+{
+    let c = log_check::check(log);
+    pack_log(c.number, c.place, c.clocks)
+}
+
+fn access_value(x: Access) -> u64
+    ensures { λ r. ⌜ (r ≡ accessValue x) × (r < 2 ^ 32) ⌝ }
+{
+    match x {
+        Access::Write(register, value) => 33554432 + 256 * register as u64 + value as u64,
+        Access::Read => 50331648,
+    }
+}
+
+// An act in one number: its kind, and what it holds.
+fn act_value(a: Act) -> u64
+    requires { ⌜ actClocks a ≤ 1000000 ⌝ }
+    ensures { λ r. ⌜ (r ≡ actValue a) × (r < 2 ^ 32) ⌝ }
+{
+    match a {
+        Act::Wait(n) => 16777216 + n as u64,
+        Act::Access(x) => access_value(x),
+    }
+}
+
+// Item k, counted from 0; the value is the act. Refused: as the log, then 11.
+pub fn item(log: &[u8], k: u64) -> u64
+    ensures { λ r. ⌜ r ≡ itemPacked (now (log .entry)) k ⌝ }
+{
+    let f = log_parts::item(log, k);
+    match f {
+        Found::Is(a) => pack_log(0, 0, act_value(a)),
+        Found::Refused(number, place) => pack_log(number, place, 0),
+    }
+}
+
+// Where a loop's body starts, and how long it is; 0 where that is refused.
+fn body_value(log: &[u8], offset: usize, number: u8) -> u64
+    requires { ⌜ number ≡ bodyCheckOf (now log) offset .number ⌝ }
+    ensures { λ r. ⌜ (r ≡ bodyValue (now (log .entry)) offset) × (r < 2 ^ 32) ⌝ }
+{
+    if number != 0 {
+        return 0;
+    }
+    let r = log_read::read(log, offset);
+    let Reading::Item(_, start) = r else {
+        return 0;
+    };
+    let part = log_parts::body(log, offset);
+    start as u64 + 65536 * part.len() as u64
+}
+
+// The bytes between the loop line that begins at the offset and its `done`, as a part of the log. Refused: as the log, then 12.
+pub fn body(log: &[u8], offset: u64) -> u64
+    ensures { λ r. ⌜ r ≡ bodyPacked (now (log .entry)) offset ⌝ }
+{
+    let at = offset as usize;
+    let a = log_parts::body_check(log, at);
+    let value = body_value(log, at, a.number);
+    pack_log(a.number, a.place, value)
+}

@@ -1,0 +1,128 @@
+-- THE PIECES THAT A CALLER JOINS ARE THE WHOLE TEXT, for any list of calls of `play_on` behind a `begin`. Assumes nothing.
+use Prim.Native.Nat.{ℕ, zero, suc, _+_, _*_, _/_, _%_, _^_, _≤_, _<_}
+use mathlib.Core.Path.{_≡_, refl, ap, _∙_}
+use mathlib.Core.Bool.{Bool, true, false}
+use mathlib.Core.List.{List, _++_}
+use native.Mathlib.Omega.{arith}
+use borrow.Author.Tests.{eq-eqb, ne-eqb}
+use lib.ListN.{length, getD, take, replicate}
+use lib.Dec.{eqb}
+use Rattle.arith.specs.Pick.{pick}
+use Rattle.c_state.specs.Bytes.{flagByte}
+use Rattle.chip_api.specs.Answer.{isMemory}
+use Rattle.play_model.specs.declared.Player.{Player}
+use Rattle.play.specs.declared.Played.{Played}
+use Rattle.play_model.specs.Turns.{freshPlayer, endedPlayer}
+use Rattle.play.specs.Playing.{PlayedOn}
+use Rattle.play.specs.Calls as play
+use Rattle.play.specs.Whole.{playNumber, begunOf}
+use Rattle.play.proofs.Whole.{Beginning, pieces-whole, never-halted, gets-line}
+use Rattle.c_player.specs.Player.{playerBytes, playerAt, isPlayer, PlayerFits}
+use Rattle.c_player.proofs.CodeLaws.{written-read, player-right}
+use Rattle.c_play.specs.Players.{playerAfter, beginNumber, beginBytes, PlayedFrom, Continued}
+use Rattle.c_play.specs.Pieces.{writtenOf, overOf, Pieces, none, piece}
+
+-- what the answer of a piece says
+
+written-is : (t : Bool) (l : ℕ) → writtenOf (0 + 2 ^ 8 * flagByte t + 2 ^ 32 * l) ≡ l
+written-is true l = omega arith
+written-is false l = omega arith
+
+over-is : (t : Bool) (l : ℕ) → overOf (0 + 2 ^ 8 * flagByte t + 2 ^ 32 * l) ≡ t
+over-is true l = eq-eqb ((0 + 2 ^ 8 * 1 + 2 ^ 32 * l) / 2 ^ 8 % 2) 1 (omega arith)
+over-is false l = ne-eqb ((0 + 2 ^ 8 * 0 + 2 ^ 32 * l) / 2 ^ 8 % 2) 1 (λ h. omega arith)
+
+-- the player at the beginning
+
+zeros : (n i : ℕ) → getD {A = ℕ} (replicate n 0) i 0 ≡ 0
+zeros zero i = refl
+zeros (suc n) zero = refl
+zeros (suc n) (suc i) = zeros n i
+
+fresh-fits : PlayerFits freshPlayer
+unfolding freshPlayer
+fresh-fits =
+    record {
+      phase = omega arith;
+      wait = omega arith;
+      time = omega arith;
+      last = omega arith;
+      at = omega arith;
+      depth = omega arith;
+      starts = (refl, λ i. omega (arith, zeros 8 i));
+      left = (refl, λ i. omega (arith, zeros 8 i));
+    }
+
+module _ (log memory : List ℕ) where
+  begun-fresh : (b : List ℕ) → beginNumber log memory b ≡ 0 → (playNumber log memory ≡ 0) × (beginBytes log memory b ≡ playerBytes freshPlayer)
+  unfolding beginNumber begunOf
+  begun-fresh b e = by (eqb (length b) 190) e
+    where
+      refused : (t : Bool) → pick {A = ℕ} t 2 1 ≡ 0 → ⊥
+      refused true h = omega arith
+      refused false h = omega arith
+
+      by : (t : Bool) → pick t (playNumber log memory) (pick (isMemory memory) 2 1) ≡ 0
+          → (playNumber log memory ≡ 0) × (playerAfter (pick t (playNumber log memory) (pick (isMemory memory) 2 1)) (pick (eqb (playNumber log memory) 0) freshPlayer endedPlayer) b ≡ playerBytes freshPlayer)
+      by true h = (h, rw (eq-eqb (playNumber log memory) 0 h))
+      by false h = absurd (refused (isMemory memory) h)
+
+  -- bytes of a player are played as the player
+  playing : (b text text′ : List ℕ) (q : Player) (r : Played) → b ≡ playerBytes q → PlayerFits q → PlayedFrom log memory b text text′ r → PlayedOn log memory q text text′ r
+  playing b text text′ q r e f d =
+      let i : isPlayer b ≡ true = ap isPlayer e ∙ player-right q (f .starts .0) (f .left .0) in
+      let a : playerAt b ≡ q = ap playerAt e ∙ written-read q f in
+      rw a at (rw i at d)
+
+  -- a list of calls with bytes is a list of calls with the players that they stand for
+  pub record Held (b joined : List ℕ) (over : Bool) : Type 0 where
+    pub player : Player
+    pub count : ℕ
+    pub calls : play.Calls log memory freshPlayer joined count player over
+    pub bytes : b ≡ playerBytes player
+    pub fits : PlayerFits player
+    pub passes : playNumber log memory ≡ 0
+
+  -- a call goes on from there, and is not refused; and a text of 23 bytes or more gets a line, or the player is over
+  pub record Gone (b′ joined text text′ : List ℕ) (answer : ℕ) : Type 0 where
+    pub done : answer ≡ 0 + 2 ^ 8 * flagByte (overOf answer) + 2 ^ 32 * writtenOf answer
+    pub line : 23 ≤ length text → overOf answer ≡ false → 0 < writtenOf answer
+    pub held : Held b′ (joined ++ take (writtenOf answer) text′) (overOf answer)
+
+  gone : (b b′ joined text text′ : List ℕ) (answer : ℕ) → Held b joined false → Continued log memory b b′ text text′ answer → Gone b′ joined text text′ answer
+  gone b b′ joined text text′ answer h k =
+      let r = k .played in
+      let does = playing b text text′ (h .player) r (h .bytes) (h .fits) (k .does) in
+      let zero = never-halted log memory (h .passes) (h .calls) text text′ r does .0 in
+      let says : answer ≡ 0 + 2 ^ 8 * flagByte (r .over) + 2 ^ 32 * r .length = rw zero at (k .says) in
+      let w : writtenOf answer ≡ r .length = ap (λ (x : ℕ). writtenOf x) says ∙ written-is (r .over) (r .length) in
+      let o : overOf answer ≡ r .over = ap (λ (x : ℕ). overOf x) says ∙ over-is (r .over) (r .length) in
+      record {
+        done = rw (o, w) says;
+        line = rw (o, w) (gets-line log memory (h .passes) (h .calls) text text′ r does);
+        held =
+            rw (o, w)
+            (record {
+              player = r .player;
+              count = _;
+              calls = play.call text text′ r (h .calls) does;
+              bytes = k .keeps ∙ rw (eq-eqb (r .number) 0 zero);
+              fits = k .fits;
+              passes = h .passes;
+            });
+      }
+
+  pub held : {b joined : List ℕ} {over : Bool} → Pieces log memory b joined over → Held b joined over
+  held (none b e) =
+      let begun = begun-fresh b (omega arith) in
+      record { player = freshPlayer; count = 0; calls = play.none; bytes = begun .1; fits = fresh-fits; passes = begun .0 }
+  held (piece {b = b} {joined = joined} b′ text text′ answer p k) = gone b b′ joined text text′ answer (held p) k .held
+
+  -- THE PIECES JOINED ARE A BEGINNING OF THE WHOLE TEXT, AND ALL OF IT WHEN THE LAST CALL SAID OVER
+  pub pieces-joined : {b joined : List ℕ} {over : Bool} (p : Pieces log memory b joined over) → Beginning log memory (held p .passes) joined over
+  pieces-joined p = pieces-whole log memory (held p .passes) (held p .calls)
+
+  -- NO CALL IS REFUSED, AND A TEXT OF 23 BYTES OR MORE GETS A LINE UNTIL THE PLAYER IS OVER
+  pub piece-on : {b joined : List ℕ} → Pieces log memory b joined false → (b′ text text′ : List ℕ) (answer : ℕ) → Continued log memory b b′ text text′ answer
+      → Gone b′ joined text text′ answer
+  piece-on {b = b} {joined = joined} p b′ text text′ answer k = gone b b′ joined text text′ answer (held p) k

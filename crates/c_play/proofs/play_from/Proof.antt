@@ -1,0 +1,43 @@
+use mathlib.Core.Path.{refl, sym}
+use native.Mathlib.Omega.{arith}
+use borrow.Author.Needs.{needs}
+use lib.Seq.{length-take-le}
+use Rattle.c_play.proofs.PlayerLaws.{played-whole, played-fits}
+use Rattle.c_play.proofs.play_from.Statement.{statement}
+use Rattle.c_play.proofs.play_from.Tie as tie
+
+slice-aggregate-play-on : tie.Need-slice-aggregate-play-on
+slice-aggregate-play-on c = sym (length-take-le _ _ (c .before .most .ensures .0))
+
+returns : tie.Need-returns
+returns c =
+    let start = c .before .before .before .before .before .before .before .before .before .before .before .before .args in
+    let size = c .before .before .before .before .most in
+    let went = c .before .before .play-on in
+    let is = c .before .before .before .before .before .before .is-player .ensures in
+    let read = c .before .before .before .before .before .before .before .decode .ensures in
+    let l = length-take-le (size .result) (start .text .now) (size .ensures .0) in
+    let fits = played-fits _ _ _ _ _ _ (went .ensures) in (
+      rw (← is, c .before .before .before .before .before .if1 .taken, ← read)
+          (played-whole (start .log .now) (start .memory .now) _ (start .text .now) _ (size .result) (went .result) (size .ensures .0) (size .ensures .2) (went .kept .1 .1 .1 .0) (went .ensures)),
+      omega (arith, size .ensures .1),
+    )
+
+returns-2 : tie.Need-returns-2
+returns-2 c =
+    (rw (← c .before .before .is-player .ensures, c .before .if1 .left, c .no-state .ensures, c .before .before .before .decode .ensures) (record { answer = refl; stays = refl }), omega arith)
+
+pub play-from-spec : {M : Type 1} → statement M
+play-from-spec =
+    tie.close
+    (tie.spec
+    (λ c κs. tt)
+    (λ c κs. tt)
+    (λ c κs. tt)
+    (λ c. search needs)
+    slice-aggregate-play-on
+    (λ c κs. tt)
+    (λ c. search needs)
+    returns
+    (λ c κs. tt)
+    returns-2)

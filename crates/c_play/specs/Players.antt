@@ -1,0 +1,57 @@
+-- The player at the boundary. A player crosses as 190 bytes (crate `c_player`), which the caller keeps between two pieces.
+use Prim.Native.Nat.{ℕ, _+_, _*_, _^_, _<_}
+use mathlib.Core.Path.{_≡_}
+use mathlib.Core.List.{List}
+use lib.ListN.{length}
+use lib.Dec.{eqb}
+use Rattle.arith.specs.Pick.{pick}
+use Rattle.c_state.specs.Bytes.{flagByte}
+use Rattle.text_print.specs.Printed.{placed}
+use Rattle.play_model.specs.declared.Player.{Player}
+use Rattle.play.specs.declared.Played.{Played}
+use Rattle.play_text.specs.Notes.{refusalText}
+use Rattle.play.specs.Playing.{Where, Untouched, PlayedOn}
+use Rattle.play.specs.Whole.{begunOf}
+use Rattle.c_player.specs.Player.{playerBytes, playerAt, isPlayer, PlayerFits}
+use Rattle.c_chip.specs.Boundary.{noState}
+use Rattle.c_log.specs.Logs.{logPacked}
+
+-- the bytes after an answer: done, those of its player; refused, as they were
+abbrev pub playerAfter : ℕ → Player → List ℕ → List ℕ
+playerAfter number p b = pick (eqb number 0) (playerBytes p) b
+
+-- a beginning: 1, then 2 (the bytes lent aren't 190), then the log's number with its place
+unfoldable pub beginNumber : List ℕ → List ℕ → List ℕ → ℕ
+beginNumber log memory b = pick (eqb (length b) 190) (begunOf log memory .number) (noState memory)
+
+unfoldable pub beginPlace : List ℕ → List ℕ → List ℕ → ℕ
+beginPlace log memory b = pick (eqb (length b) 190) (begunOf log memory .place) 0
+
+abbrev pub beginPacked : List ℕ → List ℕ → List ℕ → ℕ
+beginPacked log memory b = logPacked (beginNumber log memory b) (beginPlace log memory b) 0
+
+abbrev pub beginBytes : List ℕ → List ℕ → List ℕ → List ℕ
+beginBytes log memory b = playerAfter (beginNumber log memory b) (begunOf log memory .player) b
+
+-- "number + 2^8 x over + 2^32 x bytes written"; the place of a refusal is not handed out
+abbrev pub piecePacked : Played → ℕ
+piecePacked r = r .number + 2 ^ 8 * flagByte (r .over) + 2 ^ 32 * r .length
+
+-- a piece: 1, then 2 (bytes that are no player's, or hold a state out of range), then what the player comes to
+abbrev pub PlayedFrom : List ℕ → List ℕ → List ℕ → List ℕ → List ℕ → Played → Type 0
+PlayedFrom log memory b before after r =
+    Where (isPlayer b) (PlayedOn log memory (playerAt b) before after r) (Untouched (playerAt b) (noState memory) 0 before after r)
+
+-- WHAT `play_on` PROMISES of its answer, the player's bytes b and the text. How full the piece gets is left free, as in `play`.
+pub record Continued (log memory b b′ text text′ : List ℕ) (answer : ℕ) : Type 0 where
+  pub played : Played
+  pub does : PlayedFrom log memory b text text′ played
+  pub says : answer ≡ piecePacked played
+  pub small : played .number < 2 ^ 8
+  -- done, the bytes are those of the player behind the lines, and stand for it; refused, they stay
+  pub keeps : b′ ≡ playerAfter (played .number) (played .player) b
+  pub fits : PlayerFits (played .player)
+
+-- a refusal's text: "2^32 x bytes written"
+abbrev pub refusalPacked : ℕ → ℕ → List ℕ → ℕ
+refusalPacked number place text = 2 ^ 32 * placed text 0 (refusalText number place)

@@ -1,0 +1,104 @@
+// The player in pieces, a player being 190 bytes lent in place (crate `c_player`), which the caller keeps between two pieces. Bytes
+// that are no player's are refused, and stay.
+ghost use mathlib.Core.Path.{_≡_};
+ghost use Prim.Native.Nat.{_≤_, _<_};
+ghost use lib.Dec.{eqb};
+ghost use Rattle.arith.specs.Pick.{pick};
+ghost use Rattle.text_print.specs.Printed.{printed};
+ghost use Rattle.play_text.specs.Notes.{refusalText};
+ghost use Rattle.c_player.specs.Player.{playerEncoded};
+ghost use Rattle.c_log.specs.Logs.{logPacked};
+ghost use Rattle.c_play.specs.Players.{beginPacked, beginBytes, piecePacked, PlayedFrom, Continued, refusalPacked};
+use play::Played;
+use play_model::Player;
+
+// The player written to the bytes, where the number says that it is done.
+fn store_player(number: u8, p: Player, b: &mut [u8])
+    ensures { λ r. ⌜ now (b .exit) ≡ pick (eqb number 0) (playerEncoded p (now (b .entry))) (now (b .entry)) ⌝ }
+{
+    if number == 0 {
+        c_player::encode(p, b);
+    }
+}
+
+// A beginning's answer in one number: that of a log, with value 0.
+fn pack_begun(number: u8, place: usize) -> u64
+    requires { ⌜ place ≤ 60000 ⌝ }
+    ensures { λ r. ⌜ r ≡ logPacked number place 0 ⌝ }
+{
+    number as u64 + 256 * place as u64
+}
+
+// Makes the bytes a player at the log's beginning, whatever they held. Refused: 1; 2, for another length; as the log.
+pub fn begin(player: &mut [u8], log: &[u8], memory: &[u8]) -> u64
+    ensures { λ r. ⌜ r ≡ beginPacked (now (log .entry)) (now (memory .entry)) (now (player .entry)) ⌝ }
+    ensures { λ r. ⌜ now (player .exit) ≡ beginBytes (now (log .entry)) (now (memory .entry)) (now (player .entry)) ⌝ }
+{
+    if player.len() != 190 {
+        let number = c_chip::no_state(memory);
+        return pack_begun(number, 0);
+    }
+    let g = play::begin(log, memory);
+    let p = g.player;
+    store_player(g.number, p, player);
+    pack_begun(g.number, g.place)
+}
+
+// As many bytes of a text as the answer can count.
+fn most(length: usize) -> usize
+    ensures { λ r. ⌜ (r ≤ length) × (r ≤ 4294967295) × (r < 23 → r ≡ length) ⌝ }
+{
+    if length < 4294967295 {
+        length
+    } else {
+        4294967295
+    }
+}
+
+fn play_from(b: &[u8], log: &[u8], memory: &[u8], text: &mut [u8]) -> Played
+    ensures { λ r. ⌜ PlayedFrom (now (log .entry)) (now (memory .entry)) (now (b .entry)) (now (text .entry)) (now (text .exit)) r × (r .length ≤ 4294967295) ⌝ }
+{
+    let p = c_player::decode(b);
+    if c_player::is_player(b) {
+        let end = most(text.len());
+        return play::play_on(p, log, memory, &mut text[..end]);
+    }
+    let number = c_chip::no_state(memory);
+    Played {
+        number: number,
+        place: 0,
+        player: p,
+        length: 0,
+        over: false,
+    }
+}
+
+// A piece's answer in one number.
+fn pack_piece(r: Played) -> u64
+    requires { ⌜ r .length ≤ 4294967295 ⌝ }
+    ensures { λ n. ⌜ n ≡ piecePacked r ⌝ }
+{
+    let over = arith::pick_u16(r.over, 1, 0);
+    r.number as u64 + 256 * over as u64 + 4294967296 * r.length as u64
+}
+
+// Writes the player's next lines to the text, whole lines only and to its first 4,294,967,295 bytes at most, and moves the player
+// behind them. Refused: 1; 2; then as the line or the wait that the player comes to, whose place in the log is not handed out.
+pub fn play_on(player: &mut [u8], log: &[u8], memory: &[u8], text: &mut [u8]) -> u64
+    ensures { λ r. ⌜ Continued (now (log .entry)) (now (memory .entry)) (now (player .entry)) (now (player .exit)) (now (text .entry)) (now (text .exit)) r ⌝ }
+{
+    let m = play_from(player, log, memory, text);
+    let p = m.player;
+    store_player(m.number, p, player);
+    pack_piece(m)
+}
+
+// Writes the text of a refusal where it fits, else nothing. Of a place of more than ten digits it writes the last ten.
+pub fn refusal_text(number: u8, place: u64, text: &mut [u8]) -> u64
+    ensures { λ r. ⌜ r ≡ refusalPacked number place (now (text .entry)) ⌝ }
+    ensures { λ r. ⌜ now (text .exit) ≡ printed (now (text .entry)) 0 (refusalText number place) ⌝ }
+{
+    let at = place as usize;
+    let n = play_text::refusal(number, at, text);
+    4294967296 * n as u64
+}

@@ -1,0 +1,5 @@
+pub mod BackLaws
+pub mod CodeLaws
+pub mod PartLaws
+pub mod PlaceLaws
+pub mod WideLaws

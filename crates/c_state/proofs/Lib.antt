@@ -1,0 +1,4 @@
+pub mod BackLaws
+pub mod CodeLaws
+pub mod FlagLaws
+pub mod PlaceLaws

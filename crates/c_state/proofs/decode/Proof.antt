@@ -1,0 +1,10 @@
+use Rattle.c_state.specs.Bytes.{stateOf}
+use Rattle.c_state.proofs.decode.Statement.{statement}
+use Rattle.c_state.proofs.decode.Tie as tie
+
+returns : tie.Need-returns
+unfolding stateOf
+returns c = simp (c .frame-at .ensures, c .before .dmc-at .ensures, c .before .before .noise-at .ensures, c .before .before .before .triangle-at .ensures, c .before .before .before .before .square-at2 .ensures, c .before .before .before .before .before .square-at .ensures)
+
+pub decode-spec : {M : Type 1} → statement M
+decode-spec = tie.close (tie.spec (λ c κs. tt) (λ c κs. tt) (λ c κs. tt) (λ c κs. tt) (λ c κs. tt) (λ c κs. tt) returns)

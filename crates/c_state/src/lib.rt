@@ -1,0 +1,153 @@
+// A state as 91 bytes, for callers in other languages: the fields in document 01's order, low byte first, a flag as 0 or 1.
+ghost use mathlib.Core.Path.{_≡_};
+ghost use lib.ListN.{getD};
+ghost use Rattle.c_state.specs.Bytes.{flagPlaces, flagsRight, isState, stateOf};
+ghost use Rattle.c_state.specs.Encoded.{encoded};
+
+mod field;
+mod reader;
+mod writer;
+
+use chip::State;
+
+// The places of the flags.
+const FLAGS: [usize; 32] = [
+    1,
+    2,
+    4,
+    5,
+    8,
+    14,
+    16,
+    20,
+    22,
+    23,
+    25,
+    26,
+    29,
+    35,
+    37,
+    41,
+    42,
+    45,
+    52,
+    53,
+    54,
+    56,
+    60,
+    61,
+    67,
+    68,
+    80,
+    83,
+    84,
+    85,
+    86,
+    90,
+];
+
+// The place of any flag k, counted from 0. The whole table is copied at each look-up.
+fn far_place(k: usize) -> usize
+    ensures { λ r. ⌜ r ≡ getD flagPlaces k 0 ⌝ }
+{
+    if k < 32 { FLAGS[k] } else { 0 }
+}
+
+// The same, by a `match` of numbers, which is one look-up.
+fn flag_place(k: usize) -> usize
+    ensures { λ r. ⌜ r ≡ getD flagPlaces k 0 ⌝ }
+{
+    match k {
+        0 => 1,
+        1 => 2,
+        2 => 4,
+        3 => 5,
+        4 => 8,
+        5 => 14,
+        6 => 16,
+        7 => 20,
+        8 => 22,
+        9 => 23,
+        10 => 25,
+        11 => 26,
+        12 => 29,
+        13 => 35,
+        14 => 37,
+        15 => 41,
+        16 => 42,
+        17 => 45,
+        18 => 52,
+        19 => 53,
+        20 => 54,
+        21 => 56,
+        22 => 60,
+        23 => 61,
+        24 => 67,
+        25 => 68,
+        26 => 80,
+        27 => 83,
+        28 => 84,
+        29 => 85,
+        30 => 86,
+        31 => 90,
+        _ => far_place(k),
+    }
+}
+
+// Whether every flag is 0 or 1.
+fn flags_right(b: &[u8]) -> bool
+    ensures { λ r. ⌜ r ≡ flagsRight (now (b .entry)) flagPlaces ⌝ }
+{
+    let mut k = 0;
+    while k < 32 {
+        let at = flag_place(k);
+        let flag = field::byte_at(b, at);
+        if 1 < flag {
+            return false;
+        }
+        k += 1;
+    }
+    true
+}
+
+// Whether bytes are a state's: 91 of them, and every flag 0 or 1.
+pub fn is_state(b: &[u8]) -> bool
+    ensures { λ r. ⌜ r ≡ isState (now (b .entry)) ⌝ }
+{
+    let right = flags_right(b);
+    arith::both_of(b.len() == 91, right)
+}
+
+// The state that bytes stand for.
+pub fn decode(b: &[u8]) -> State
+    ensures { λ r. ⌜ r ≡ stateOf (now (b .entry)) ⌝ }
+{
+    let square1 = reader::square_at(b, 0);
+    let square2 = reader::square_at(b, 21);
+    let triangle = reader::triangle_at(b, 42);
+    let noise = reader::noise_at(b, 53);
+    let dmc = reader::dmc_at(b, 67);
+    let frame = reader::frame_at(b, 85);
+    State {
+        square1: square1,
+        square2: square2,
+        triangle: triangle,
+        noise: noise,
+        dmc: dmc,
+        frame: frame,
+    }
+}
+
+// Writes a state to bytes. Other than 91 bytes stay as they are.
+pub fn encode(s: State, b: &mut [u8])
+    ensures { λ r. ⌜ now (b .exit) ≡ encoded s (now (b .entry)) ⌝ }
+{
+    if b.len() == 91 {
+        writer::put_square(s.square1, b, 0);
+        writer::put_square(s.square2, b, 21);
+        writer::put_triangle(s.triangle, b, 42);
+        writer::put_noise(s.noise, b, 53);
+        writer::put_dmc(s.dmc, b, 67);
+        writer::put_frame(s.frame, b, 85);
+    }
+}

@@ -1,0 +1,62 @@
+-- Document 01, "Numbers an answer can carry": what the chip's operations answer. "Lowest number first"; "A refusal returns its number ..,
+-- the state .. as given, 0 or no for the rest".
+use Prim.Native.Nat.{ℕ}
+use mathlib.Core.Bool.{Bool, true, false}
+use mathlib.Core.List.{List}
+use lib.ListN.{length}
+use lib.Dec.{eqb}
+use lib.IntN.{pos}
+use lib.Ieee.{Float, fin}
+use Rattle.arith.specs.Pick.{pick}
+use Rattle.bus.specs.Register.{isRegister}
+use Rattle.chip_mixer.specs.Fraction.{fractionOf}
+use Rattle.chip.specs.Clock.{chipClock}
+use Rattle.chip.specs.Level.{stateLevel}
+use Rattle.chip.specs.Range.{inRange}
+use Rattle.chip.specs.Status.{statusByte, statusRead, lineAsserted}
+use Rattle.chip.specs.Write.{registerWritten}
+use Rattle.chip.specs.declared.State.{State}
+use Rattle.chip_api.specs.declared.Moved.{Moved}
+use Rattle.chip_api.specs.declared.Status.{Status}
+use Rattle.chip_api.specs.declared.Asserted.{Asserted}
+use Rattle.chip_api.specs.declared.Mixed.{Mixed}
+use Rattle.chip_api.specs.declared.Scaled.{Scaled}
+
+-- an answer with a number and a state
+abbrev pub moved : ℕ → State → Moved
+moved number s = record { number = number; state = s }
+
+-- refusal 1: "sample memory isn't 32,768 bytes"
+abbrev pub isMemory : List ℕ → Bool
+isMemory memory = eqb (length memory) 32768
+
+-- a write: 2, then 4, then the state with the register written
+unfoldable pub writeAnswer : ℕ → ℕ → State → Moved
+writeAnswer register value s =
+    pick (inRange s) (pick (isRegister register) (moved 0 (registerWritten register value s)) (moved 4 s)) (moved 2 s)
+
+-- a status read: 2, then the byte and the state with the frame flag cleared
+unfoldable pub statusAnswer : State → Status
+statusAnswer s =
+    pick (inRange s) (record { number = 0; byte = statusByte s; state = statusRead s }) (record { number = 2; byte = 0; state = s })
+
+-- the interrupt line: 2, then whether it is asserted
+unfoldable pub lineAnswer : State → Asserted
+lineAnswer s = pick (inRange s) (record { number = 0; asserted = lineAsserted s }) (record { number = 2; asserted = false })
+
+-- the level: 2, then the level
+unfoldable pub levelAnswer : State → Mixed
+levelAnswer s = pick (inRange s) (record { number = 0; level = stateLevel s }) (record { number = 2; level = 0 })
+
+-- 0.0
+abbrev pub nought : Float
+nought = fin false 0 (pos 0)
+
+-- the level as a float: 2, then the level over 32,768
+unfoldable pub fractionAnswer : State → Scaled
+fractionAnswer s =
+    pick (inRange s) (record { number = 0; fraction = fractionOf (stateLevel s) }) (record { number = 2; fraction = nought })
+
+-- one clock: 1, then 2, then the state a clock later
+unfoldable pub clockAnswer : List ℕ → State → Moved
+clockAnswer memory s = pick (isMemory memory) (pick (inRange s) (moved 0 (chipClock memory s)) (moved 2 s)) (moved 1 s)

@@ -1,0 +1,103 @@
+-- Document 01, "Register bits" and "Units": writes to the DMC's registers and its bit of $4015.
+use Prim.Native.Nat.{ℕ, _%_}
+use mathlib.Core.Bool.{Bool, true, false}
+use lib.Dec.{eqb}
+use Rattle.arith.specs.Pick.{pick, both}
+use Rattle.arith.specs.Bit.{bitSet}
+use Rattle.chip_dmc.specs.Clock.{restarted}
+use Rattle.chip_dmc.specs.declared.Registers.{Registers}
+use Rattle.chip_dmc.specs.declared.Output.{Output}
+use Rattle.chip_dmc.specs.declared.Reader.{Reader}
+use Rattle.chip_dmc.specs.declared.Dmc.{Dmc}
+
+abbrev pub withInterrupt : Reader → Bool → Reader
+withInterrupt r flag =
+    record { address = r .address; remaining = r .remaining; buffer = r .buffer; full = r .full; interrupt = flag }
+
+abbrev pub withRemaining : Reader → ℕ → Reader
+withRemaining r left =
+    record { address = r .address; remaining = left; buffer = r .buffer; full = r .full; interrupt = r .interrupt }
+
+-- "$4010 interrupt enable 7, loop 6, index 3-0"; "$4010 with interrupt enable clear clears the flag."
+unfoldable pub dmcWrite0 : ℕ → Dmc → Dmc
+dmcWrite0 value d =
+    record {
+      registers =
+          record {
+            enable = bitSet value 7;
+            looped = bitSet value 6;
+            index = value % 16;
+            start = d .registers .start;
+            size = d .registers .size;
+          };
+      output = d .output;
+      reader = withInterrupt (d .reader) (both (bitSet value 7) (d .reader .interrupt));
+    }
+
+-- "$4011 sets the level from its low seven bits."
+unfoldable pub dmcWrite1 : ℕ → Dmc → Dmc
+dmcWrite1 value d =
+    record {
+      registers = d .registers;
+      output =
+          record {
+            timer = d .output .timer;
+            level = value % 128;
+            shift = d .output .shift;
+            bits = d .output .bits;
+            silence = d .output .silence;
+          };
+      reader = d .reader;
+    }
+
+-- "$4012 address byte"
+unfoldable pub dmcWrite2 : ℕ → Dmc → Dmc
+dmcWrite2 value d =
+    record {
+      registers =
+          record {
+            enable = d .registers .enable;
+            looped = d .registers .looped;
+            index = d .registers .index;
+            start = value;
+            size = d .registers .size;
+          };
+      output = d .output;
+      reader = d .reader;
+    }
+
+-- "$4013 length byte"
+unfoldable pub dmcWrite3 : ℕ → Dmc → Dmc
+dmcWrite3 value d =
+    record {
+      registers =
+          record {
+            enable = d .registers .enable;
+            looped = d .registers .looped;
+            index = d .registers .index;
+            start = d .registers .start;
+            size = value;
+          };
+      output = d .output;
+      reader = d .reader;
+    }
+
+-- one of $4010..$4013, by its place from 0
+unfoldable pub dmcWrite : ℕ → ℕ → Dmc → Dmc
+dmcWrite place value d =
+    pick (eqb place 0) (dmcWrite0 value d)
+    (pick (eqb place 1) (dmcWrite1 value d)
+    (pick (eqb place 2) (dmcWrite2 value d) (dmcWrite3 value d)))
+
+-- "bit 4 set restarts if remaining is 0, clear sets remaining 0"
+unfoldable pub switched : Bool → Registers → Reader → Reader
+switched on s r = pick on (pick (eqb (r .remaining) 0) (restarted s r) r) (withRemaining r 0)
+
+-- $4015 "clears the DMC flag"
+unfoldable pub dmcEnabled : Bool → Dmc → Dmc
+dmcEnabled on d =
+    record {
+      registers = d .registers;
+      output = d .output;
+      reader = switched on (d .registers) (withInterrupt (d .reader) false);
+    }

@@ -1,0 +1,2 @@
+pub mod LeapLaws
+pub mod RangeLaws

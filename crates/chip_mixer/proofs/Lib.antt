@@ -1,0 +1,2 @@
+pub mod FractionLaws
+pub mod LevelLaws

@@ -1,0 +1,53 @@
+// The mixer: one level out of 32,768 from what the five channels give.
+ghost use mathlib.Core.Path.{_≡_};
+ghost use mathlib.Core.Bool.{false};
+ghost use Prim.Native.Nat.{_+_, _%_, _≤_};
+ghost use lib.IntN.{pos};
+ghost use lib.Ieee as Ieee;
+ghost use lib.Ieee.{binary32};
+ghost use lib.Ieee.Exact.{HasValue};
+ghost use Rattle.chip_mixer.specs.Mixer.{squaresLevel, weight, restLevel, mixed};
+ghost use Rattle.chip_mixer.specs.Fraction.{scale, fractionOf};
+
+// A: the squares' share, by the sum of what they give.
+fn squares(sum: u64) -> u64
+    requires { ⌜ sum ≤ 30 ⌝ }
+    ensures { λ r. ⌜ r ≡ squaresLevel sum ⌝ }
+{
+    32768 * 2397 * sum / (203200 + 2500 * sum)
+}
+
+// N: the weight of triangle, noise and DMC.
+fn weight_of(t: u64, n: u64, d: u64) -> u64
+    requires { ⌜ (t ≤ 15) × (n ≤ 15) × (d ≤ 127) ⌝ }
+    ensures { λ r. ⌜ r ≡ weight t n d ⌝ }
+{
+    t * (12241 * 22638) + (n * (8227 * 22638) + d * (8227 * 12241))
+}
+
+// B: the share of triangle, noise and DMC.
+fn rest(t: u64, n: u64, d: u64) -> u64
+    requires { ⌜ (t ≤ 15) × (n ≤ 15) × (d ≤ 127) ⌝ }
+    ensures { λ r. ⌜ r ≡ restLevel t n d ⌝ }
+{
+    let w = weight_of(t, n, d);
+    32768 * 15979 * w / (100 * (8227 * 12241 * 22638) + 10000 * w)
+}
+
+// The level.
+pub fn mix(a: u32, b: u32, t: u32, n: u32, d: u32) -> u16
+    ensures { λ r. ⌜ r ≡ mixed a b t n d ⌝ }
+{
+    let s = squares((a % 16) as u64 + (b % 16) as u64);
+    let r = rest((t % 16) as u64, (n % 16) as u64, (d % 128) as u64);
+    (s + r) as u16
+}
+
+// A level over 32,768. It is exact, and times 32,768 it is the level again.
+pub fn fraction(level: u16) -> f32
+    ensures value { λ r. ⌜ r ≡ fractionOf level ⌝ }
+    ensures exact { λ r. ⌜ HasValue r false level 32768 ⌝ }
+    ensures back { λ r. ⌜ Ieee.mul binary32 r scale ≡ Ieee.ofInt binary32 (pos level) ⌝ }
+{
+    (level as f32) / 32768.0
+}

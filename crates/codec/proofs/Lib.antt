@@ -1,4 +1,0 @@
-pub mod Back
-pub mod Codes
-pub mod Flags
-pub mod Placed

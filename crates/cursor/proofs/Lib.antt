@@ -1,3 +1,0 @@
-pub mod Answers
-pub mod Walk
-pub mod Whole

@@ -1,1 +1,0 @@
-// A machine that says things one small step at a time: definitions and laws alone.

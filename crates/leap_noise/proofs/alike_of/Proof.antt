@@ -1,0 +1,14 @@
+use Prim.Native.Nat.{_+_, _/_, _%_}
+use mathlib.Core.Path.{sym, _∙_}
+use borrow.Author.Needs.{needs}
+use Rattle.leap_noise.proofs.AheadLaws.{alike-zeros, zeros-capped}
+use Rattle.leap_noise.proofs.alike_of.Statement.{statement}
+use Rattle.leap_noise.proofs.alike_of.Tie as tie
+
+returns : tie.Need-returns
+returns c =
+    let r = c .before .args .register in
+    c .capped .ensures ∙ zeros-capped 14 2 (r / 2 + r % 2) ∙ sym (alike-zeros 14 r)
+
+pub alike-of-spec : {M : Type 1} → statement M
+alike-of-spec = tie.close (tie.spec (λ c. search needs) (λ c κs. tt) returns)

@@ -1,0 +1,3 @@
+pub mod LeapLaws
+pub mod PackedLaws
+pub mod TurnLaws

@@ -1,0 +1,171 @@
+-- A stretch whose channels lag: what is kept is the machine. Assumes nothing.
+use Prim.Native.Nat.{ℕ, _+_, _-_, _≤_, _<_}
+use mathlib.Core.Path.{_≡_, refl, sym, ap, _∙_}
+use mathlib.Core.Bool.{Bool, true, false}
+use mathlib.Core.List.{List}
+use native.Mathlib.Omega.{arith}
+use lib.Dec.{ltb}
+use borrow.Author.Tests.{ltb-true, ltb-false}
+use Rattle.arith.specs.Iterate.{iterate}
+use Rattle.arith.specs.Pick.{pick}
+use Rattle.divider.specs.Divider.{forever}
+use Rattle.chip_mixer.specs.Mixer.{mixed}
+use Rattle.chip_frame.specs.Leap.{frameBefore}
+use Rattle.chip_frame.proofs.LeapLaws.{before-most}
+use Rattle.chip.specs.Clock.{chipClock}
+use Rattle.chip.specs.Level.{stateLevel}
+use Rattle.chip.specs.Range.{Bytes}
+use Rattle.chip.specs.Table.{noisePeriod, dmcPeriod}
+use Rattle.chip.specs.declared.State.{State}
+use Rattle.chip.proofs.RangeLaws.{StateRanged, noise-period-range, dmc-period-range}
+use Rattle.leap_chip.specs.Between.{stateWith}
+use Rattle.leap_chip.proofs.BetweenLaws.{between}
+use Rattle.leap_square.specs.declared.SquareLag.{SquareLag}
+use Rattle.leap_triangle.specs.declared.TriangleLag.{TriangleLag}
+use Rattle.leap_noise.specs.declared.lag.NoiseLag.{NoiseLag}
+use Rattle.leap_dmc.specs.declared.lag.DmcLag.{DmcLag}
+use Rattle.leap_stretch.specs.Lagged.{sooner, lagsAt, lagsOf, renewed, stateAt}
+use Rattle.leap_stretch.specs.declared.Lags.{Lags}
+use Rattle.leap_stretch.proofs.SquareLaws.{SquareKept, square-start, square-renewed, square-out, square-at}
+use Rattle.leap_stretch.proofs.TriangleLaws.{TriangleKept, triangle-start, triangle-renewed, triangle-out, triangle-at}
+use Rattle.leap_stretch.proofs.NoiseLaws.{NoiseKept, noise-start, noise-renewed, noise-out, noise-at}
+use Rattle.leap_stretch.proofs.DmcLaws.{DmcKept, dmc-start, dmc-renewed, dmc-out, dmc-at}
+
+-- the sooner of two
+pub sooner-most : (x y : ℕ) → (sooner x y ≤ x) × (sooner x y ≤ y)
+unfolding sooner
+sooner-most x y = go (ltb x y) refl
+  where
+    go : (t : Bool) → ltb x y ≡ t → (pick t x y ≤ x) × (pick t x y ≤ y)
+    go true e = let h : x < y = ltb-true x y e in omega arith
+    go false e = let h : y ≤ x = ltb-false x y e in omega arith
+
+pub sooner-past : (k x y : ℕ) → k < x → k < y → k < sooner x y
+unfolding sooner
+sooner-past k x y h q = go (ltb x y)
+  where
+    go : (t : Bool) → k < pick t x y
+    go true = h
+    go false = q
+
+-- THE INVARIANT: at clock `l .now` of a stretch that began in s
+pub record Lagging (memory : List ℕ) (s : State) (l : Lags) : Type 0 where
+  pub square1 : SquareKept false (s .square1) (l .now) (l .square1)
+  pub square2 : SquareKept true (s .square2) (l .now) (l .square2)
+  pub triangle : TriangleKept (s .triangle) (l .now) (l .triangle)
+  pub noise : NoiseKept (noisePeriod (s .noise .index)) (s .noise) (l .now) (l .noise)
+  pub dmc : DmcKept memory (dmcPeriod (s .dmc .registers .index)) (s .dmc) (l .now) (l .dmc)
+  pub next :
+      l .next ≡ sooner (sooner (l .square1 .next) (l .square2 .next)) (sooner (sooner (l .triangle .next) (l .noise .next)) (l .dmc .next))
+  pub level : l .level ≡ mixed (l .square1 .out) (l .square2 .out) (l .triangle .out) (l .noise .out) (l .dmc .out)
+
+-- the start of a stretch
+pub lagging-start : (memory : List ℕ) (s : State) → Lagging memory s (lagsOf s)
+unfolding lagsOf lagsAt
+lagging-start memory s =
+    record {
+      square1 = square-start false (s .square1);
+      square2 = square-start true (s .square2);
+      triangle = triangle-start (s .triangle);
+      noise = noise-start (noisePeriod (s .noise .index)) (s .noise);
+      dmc = dmc-start memory (dmcPeriod (s .dmc .registers .index)) (s .dmc);
+      next = refl;
+      level = refl;
+    }
+
+module _ (memory : List ℕ) (s : State) (l : Lags) (g : Lagging memory s l) where
+  -- the next event is past now, and no channel's own is before it
+  pub next-past : l .now < l .next
+  next-past =
+      rw (g .next)
+      (sooner-past (l .now) (sooner (l .square1 .next) (l .square2 .next)) (sooner (sooner (l .triangle .next) (l .noise .next)) (l .dmc .next))
+      (sooner-past (l .now) (l .square1 .next) (l .square2 .next) (g .square1 .follows .ahead) (g .square2 .follows .ahead))
+      (sooner-past (l .now) (sooner (l .triangle .next) (l .noise .next)) (l .dmc .next)
+      (sooner-past (l .now) (l .triangle .next) (l .noise .next) (g .triangle .follows .ahead) (g .noise .follows .ahead))
+      (g .dmc .follows .ahead)))
+
+  -- what each channel's next change is at least
+  pub record Soonest (a b t n d : ℕ) : Type 0 where
+    pub square1 : l .next ≤ a
+    pub square2 : l .next ≤ b
+    pub triangle : l .next ≤ t
+    pub noise : l .next ≤ n
+    pub dmc : l .next ≤ d
+
+  pub next-most : Soonest (l .square1 .next) (l .square2 .next) (l .triangle .next) (l .noise .next) (l .dmc .next)
+  next-most =
+      let ab = sooner-most (l .square1 .next) (l .square2 .next) in
+      let tn = sooner-most (l .triangle .next) (l .noise .next) in
+      let tnd = sooner-most (sooner (l .triangle .next) (l .noise .next)) (l .dmc .next) in
+      let all = sooner-most (sooner (l .square1 .next) (l .square2 .next)) (sooner (sooner (l .triangle .next) (l .noise .next)) (l .dmc .next)) in
+      let e = g .next in
+      record {
+        square1 = omega (arith, ab .0, all .0);
+        square2 = omega (arith, ab .1, all .0);
+        triangle = omega (arith, tn .0, tnd .0, all .1);
+        noise = omega (arith, tn .1, tnd .0, all .1);
+        dmc = omega (arith, tnd .1, all .1);
+      }
+
+module _ (memory : List ℕ) (bytes : Bytes memory) (s : State) (r : StateRanged s) (l : Lags) (g : Lagging memory s l) where
+  abbrev noise-n : ℕ
+  noise-n = noisePeriod (s .noise .index)
+
+  abbrev dmc-n : ℕ
+  dmc-n = dmcPeriod (s .dmc .registers .index)
+
+  -- ONE EVENT
+  pub lagging-renewed : l .next ≤ forever → Lagging memory s (renewed memory l (l .next))
+  unfolding renewed lagsAt
+  lagging-renewed f =
+      let p = next-past memory s l g in
+      let m = next-most memory s l g in
+      let pn = noise-period-range (s .noise .index) in
+      let pd = dmc-period-range (s .dmc .registers .index) in
+      record {
+        square1 = square-renewed false (s .square1) (r .square1) (l .now) (l .square1) (g .square1) (l .next) (omega arith) (m .square1) f;
+        square2 = square-renewed true (s .square2) (r .square2) (l .now) (l .square2) (g .square2) (l .next) (omega arith) (m .square2) f;
+        triangle = triangle-renewed (s .triangle) (r .triangle) (l .now) (l .triangle) (g .triangle) (l .next) (omega arith) (m .triangle) f;
+        noise = noise-renewed noise-n (pn .0) (pn .1) (s .noise) (r .noise) (l .now) (l .noise) (g .noise) (l .next) (omega arith) (m .noise) f;
+        dmc = dmc-renewed memory bytes dmc-n (pd .0) (pd .1) (s .dmc) (r .dmc) (l .now) (l .dmc) (g .dmc) (l .next) (omega arith) (m .dmc) f;
+        next = refl;
+        level = refl;
+      }
+
+  module _ (k : ℕ) (from : l .now ≤ k) (to : k < l .next) (few : k ≤ frameBefore (s .frame)) where
+    -- the kept level is the level, up to the next event
+    pub lagging-level : stateLevel (iterate (chipClock memory) k s) ≡ l .level
+    unfolding stateLevel stateWith
+    lagging-level =
+        let m = next-most memory s l g in
+        let pn = noise-period-range (s .noise .index) in
+        let pd = dmc-period-range (s .dmc .registers .index) in
+        let a = square-out false (s .square1) (r .square1) (l .now) (l .square1) (g .square1) k from (omega (arith, m .square1)) in
+        let b = square-out true (s .square2) (r .square2) (l .now) (l .square2) (g .square2) k from (omega (arith, m .square2)) in
+        let t = triangle-out (s .triangle) (r .triangle) (l .now) (l .triangle) (g .triangle) k from (omega (arith, m .triangle)) in
+        let n = noise-out noise-n (pn .0) (pn .1) (s .noise) (r .noise) (l .now) (l .noise) (g .noise) k from (omega (arith, m .noise)) in
+        let d = dmc-out memory bytes dmc-n (pd .0) (pd .1) (s .dmc) (r .dmc) (l .now) (l .dmc) (g .dmc) k from (omega (arith, m .dmc)) in
+        ap stateLevel (between memory s (r .frame) k few) ∙ rw (a, b, t, n, d) (sym (g .level))
+
+    -- the state brought to clock k is the machine's
+    pub lagging-state : stateAt s l k ≡ iterate (chipClock memory) k s
+    unfolding stateAt
+    lagging-state =
+        let m = next-most memory s l g in
+        let pn = noise-period-range (s .noise .index) in
+        let pd = dmc-period-range (s .dmc .registers .index) in
+        let a = square-at false (s .square1) (r .square1) (l .now) (l .square1) (g .square1) k from in
+        let b = square-at true (s .square2) (r .square2) (l .now) (l .square2) (g .square2) k from in
+        let t = triangle-at (s .triangle) (r .triangle) (l .now) (l .triangle) (g .triangle) k from in
+        let n = noise-at noise-n (pn .0) (pn .1) (s .noise) (r .noise) (l .now) (l .noise) (g .noise) k from in
+        let d = dmc-at memory bytes dmc-n (pd .0) (pd .1) (s .dmc) (r .dmc) (l .now) (l .dmc) (g .dmc) k from (omega (arith, m .dmc)) in
+        rw (a, b, t, n, d) (sym (between memory s (r .frame) k few))
+
+-- at the event the kept level is the machine's
+pub event-level : (memory : List ℕ) (bytes : Bytes memory) (s : State) (r : StateRanged s) (l : Lags) (g : Lagging memory s l)
+    → l .next ≤ frameBefore (s .frame) → stateLevel (iterate (chipClock memory) (l .next) s) ≡ renewed memory l (l .next) .level
+unfolding renewed lagsAt
+event-level memory bytes s r l g few =
+    let f : l .next ≤ forever = omega (arith, before-most (s .frame)) in
+    let e = lagging-renewed memory bytes s r l g f in
+    lagging-level memory bytes s r (renewed memory l (l .next)) e (l .next) (omega arith) (next-past memory s (renewed memory l (l .next)) e) few

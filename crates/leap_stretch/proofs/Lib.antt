@@ -1,0 +1,9 @@
+pub mod DmcLaws
+pub mod LaggedLaws
+pub mod NoiseLaws
+pub mod QuietLaws
+pub mod SquareLaws
+pub mod TriangleLaws
+pub mod TurnLaws
+pub mod WaitLaws
+pub mod LagLaws

@@ -1,0 +1,68 @@
+-- In the quiet state a stretch is one leap: no event comes before its end. Assumes nothing.
+use Prim.Native.Nat.{ℕ, _+_, _≤_, _<_}
+use mathlib.Core.Path.{_≡_, refl, sym, ap, _∙_}
+use mathlib.Core.Bool.{Bool, true, false}
+use native.Mathlib.Nat.{sub-zero}
+use native.Mathlib.Omega.{arith}
+use borrow.Author.Tests.{eq-eqb}
+use Rattle.divider.specs.Divider.{forever}
+use Rattle.chip_square.specs.Square.{squareAmount}
+use Rattle.leap_square.specs.Leap.{squareStill}
+use Rattle.leap_square.specs.Lag.{squareLag, squareBeatAt}
+use Rattle.chip_square.specs.declared.Square.{Square}
+use Rattle.leap_square.specs.declared.Beat as square1
+use Rattle.chip_triangle.specs.Triangle.{runs}
+use Rattle.leap_triangle.specs.Leap.{triangleGate, triangleStill}
+use Rattle.leap_triangle.specs.Lag.{triangleLag, triangleBeatAt}
+use Rattle.chip_triangle.specs.declared.Triangle.{Triangle}
+use Rattle.leap_triangle.specs.declared.Beat as triangle1
+use Rattle.chip_noise.specs.Noise.{noiseAmount}
+use Rattle.leap_noise.specs.Leap.{noiseStill}
+use Rattle.leap_noise.specs.Lag.{noiseLag, noiseShifterAt}
+use Rattle.chip_noise.specs.declared.Noise.{Noise}
+use Rattle.chip_noise.specs.declared.Shifter.{Shifter}
+use Rattle.leap_dmc.specs.Leap.{dmcStill}
+use Rattle.leap_dmc.specs.Lag.{dmcLag, dmcAt}
+use Rattle.leap_dmc.proofs.LeapLaws.{DmcIdle, idle-forever}
+use Rattle.chip_frame.specs.Leap.{frameBefore}
+use Rattle.chip_frame.proofs.LeapLaws.{before-most}
+use Rattle.chip.specs.Table.{dmcPeriod}
+use Rattle.chip.specs.declared.State.{State}
+use Rattle.leap_chip.specs.Quiet.{Quiet, quietAfter}
+use Rattle.leap_stretch.specs.Lagged.{sooner, lagsAt, lagsOf, stateAt}
+use Rattle.leap_stretch.proofs.LaggedLaws.{sooner-past}
+
+square-still : (second : Bool) (q : Square) → q .length .count ≡ 0 → (row : ℕ) (b : square1.Beat) → squareStill row (squareAmount second q) b ≡ forever
+unfolding squareStill squareAmount
+square-still second q z row b = rw (eq-eqb (q .length .count) 0 z)
+
+triangle-still : (t : Triangle) → t .length .count ≡ 0 → (b : triangle1.Beat) → triangleStill (triangleGate t) b ≡ forever
+unfolding triangleStill triangleGate runs
+triangle-still t z b = rw z
+
+noise-still : (c : Noise) → c .length .count ≡ 0 → (n : ℕ) (h : Shifter) → noiseStill (noiseAmount c) n h ≡ forever
+unfolding noiseStill noiseAmount
+noise-still c z n h = rw (eq-eqb (c .length .count) 0 z)
+
+-- THE RUN PASSES A QUIET STRETCH IN ONE LEAP: its next event is past every clock before the next frame step
+pub quiet-leaps : (s : State) → Quiet s → frameBefore (s .frame) < lagsOf s .next
+unfolding lagsOf lagsAt squareLag triangleLag noiseLag dmcLag
+quiet-leaps s q =
+    let m = before-most (s .frame) in
+    let i : DmcIdle (s .dmc) = record { silence = q .silence; full = q .buffer; remaining = q .remaining } in
+    let far : (x : ℕ) → x ≡ forever → frameBefore (s .frame) < 0 + x + 1 = λ x e. omega arith in
+    let a = far _ (square-still false (s .square1) (q .square1) _ _) in
+    let b = far _ (square-still true (s .square2) (q .square2) _ _) in
+    let t = far _ (triangle-still (s .triangle) (q .triangle) _) in
+    let n = far _ (noise-still (s .noise) (q .noise) _ _) in
+    let d = far _ (idle-forever (dmcPeriod (s .dmc .registers .index)) (s .dmc) i) in
+    sooner-past _ _ _ (sooner-past _ _ _ a b) (sooner-past _ _ _ (sooner-past _ _ _ t n) d)
+
+gate-shut : (t : Triangle) → t .length .count ≡ 0 → triangleGate t ≡ 0
+unfolding triangleGate runs
+gate-shut t z = rw z
+
+-- and the state that it makes of k clocks of it is the law's
+pub quiet-passed : (s : State) → Quiet s → (k : ℕ) → stateAt s (lagsOf s) k ≡ quietAfter k s
+unfolding stateAt lagsOf lagsAt squareLag triangleLag noiseLag dmcLag squareBeatAt triangleBeatAt noiseShifterAt dmcAt quietAfter
+quiet-passed s q k = rw (sub-zero k, gate-shut (s .triangle) (q .triangle))

@@ -1,0 +1,75 @@
+-- Helper: nobody has to believe this; what the code keeps of a stretch; proved to be the chip at each clock (proofs/LaggedLaws).
+-- A stretch between two frame steps, each channel brought up only when what it gives may change. Clocks count from the stretch's start.
+use Prim.Native.Nat.{ℕ}
+use mathlib.Core.Bool.{true, false}
+use mathlib.Core.List.{List}
+use lib.Dec.{ltb}
+use Rattle.arith.specs.Pick.{pick}
+use Rattle.chip_square.specs.Square.{squareAmount}
+use Rattle.leap_square.specs.Leap.{beatOf, withBeat, dutyRow}
+use Rattle.leap_square.specs.Lag.{squareLag, squareRenewed, squareBeatAt}
+use Rattle.leap_triangle.specs.Leap.{triangleGate, triangleBeatOf, triangleWithBeat}
+use Rattle.leap_triangle.specs.Lag.{triangleLag, triangleRenewed, triangleBeatAt}
+use Rattle.chip_noise.specs.Noise.{noiseAmount}
+use Rattle.leap_noise.specs.Lag.{noiseLag, noiseRenewed, noiseShifterAt}
+use Rattle.leap_dmc.specs.Lag.{dmcLag, dmcRenewed, dmcAt}
+use Rattle.chip_frame.specs.Leap.{framePassed}
+use Rattle.chip_mixer.specs.Mixer.{mixed}
+use Rattle.chip.specs.Table.{noisePeriod, dmcPeriod}
+use Rattle.leap_chip.specs.Between.{stateWith}
+use Rattle.leap_square.specs.declared.SquareLag.{SquareLag}
+use Rattle.leap_triangle.specs.declared.TriangleLag.{TriangleLag}
+use Rattle.leap_noise.specs.declared.lag.NoiseLag.{NoiseLag}
+use Rattle.leap_dmc.specs.declared.lag.DmcLag.{DmcLag}
+use Rattle.chip.specs.declared.State.{State}
+use Rattle.leap_stretch.specs.declared.Lags.{Lags}
+
+unfoldable pub sooner : ℕ → ℕ → ℕ
+sooner x y = pick (ltb x y) x y
+
+-- the five channels as they are kept at clock `now`: the next event is the soonest change, the level is made from what they give
+unfoldable pub lagsAt : SquareLag → SquareLag → TriangleLag → NoiseLag → DmcLag → ℕ → Lags
+lagsAt a b t n d now =
+    record {
+      square1 = a;
+      square2 = b;
+      triangle = t;
+      noise = n;
+      dmc = d;
+      now = now;
+      next = sooner (sooner (a .next) (b .next)) (sooner (sooner (t .next) (n .next)) (d .next));
+      level = mixed (a .out) (b .out) (t .out) (n .out) (d .out);
+    }
+
+-- at the start of a stretch
+unfoldable pub lagsOf : State → Lags
+lagsOf s =
+    lagsAt (squareLag (dutyRow (s .square1 .duty)) (squareAmount false (s .square1)) (beatOf (s .square1 .sequencer)) 0)
+    (squareLag (dutyRow (s .square2 .duty)) (squareAmount true (s .square2)) (beatOf (s .square2 .sequencer)) 0)
+    (triangleLag (triangleGate (s .triangle)) (triangleBeatOf (s .triangle .sequencer)) 0)
+    (noiseLag (noisePeriod (s .noise .index)) (s .noise .mode) (noiseAmount (s .noise)) (s .noise .shifter) 0)
+    (dmcLag (dmcPeriod (s .dmc .registers .index)) (s .dmc) 0)
+    0
+
+-- the event at clock e: whoever is due is brought up to it
+unfoldable pub renewed : List ℕ → Lags → ℕ → Lags
+renewed memory l e =
+    lagsAt (squareRenewed (l .square1) e) (squareRenewed (l .square2) e) (triangleRenewed (l .triangle) e) (noiseRenewed (l .noise) e)
+    (dmcRenewed memory (l .dmc) e) e
+
+-- Helper: the same event with the DMC left as it is, which is right where it isn't due
+unfoldable pub soundsRenewed : Lags → ℕ → Lags
+soundsRenewed l e =
+    lagsAt (squareRenewed (l .square1) e) (squareRenewed (l .square2) e) (triangleRenewed (l .triangle) e) (noiseRenewed (l .noise) e) (l .dmc) e
+
+-- Helper: the same event with noise and DMC left as they are
+unfoldable pub voicesRenewed : Lags → ℕ → Lags
+voicesRenewed l e =
+    lagsAt (squareRenewed (l .square1) e) (squareRenewed (l .square2) e) (triangleRenewed (l .triangle) e) (l .noise) (l .dmc) e
+
+-- the whole state at clock k of a stretch that began in s
+unfoldable pub stateAt : State → Lags → ℕ → State
+stateAt s l k =
+    stateWith (withBeat (s .square1 .sequencer) (squareBeatAt (l .square1) k)) (withBeat (s .square2 .sequencer) (squareBeatAt (l .square2) k))
+    (triangleWithBeat (s .triangle .sequencer) (triangleBeatAt (l .triangle) k)) (noiseShifterAt (l .noise) k) (dmcAt (l .dmc) k)
+    (framePassed k (s .frame)) s

@@ -1,0 +1,2 @@
+pub mod Lagged
+pub mod Lag

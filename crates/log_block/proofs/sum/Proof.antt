@@ -1,0 +1,13 @@
+use borrow.Author.Needs.{needs}
+use Rattle.log_judge.proofs.TotalLaws.{totals≡}
+use Rattle.log_block.proofs.sum.Statement.{statement}
+use Rattle.log_block.proofs.sum.Tie as tie
+
+returns : tie.Need-returns
+returns c =
+    totals≡ (c .before .before .before .before .before .before .cap .ensures) (c .before .before .before .cap2 .ensures) (c .cap3 .ensures)
+
+pub sum-spec : {M : Type 1} → statement M
+sum-spec =
+    tie.close
+    (tie.spec (λ c. search needs) (λ c κs. search needs) (λ c. search needs) (λ c κs. search needs) (λ c. search needs) (λ c κs. search needs) returns)

@@ -1,0 +1,84 @@
+// The check of a whole log.
+use log_block::read_block;
+use log_judge::Block;
+use log_judge::Checked;
+use log_judge::Reading;
+use log_judge::Totals;
+use log_read::number;
+use log_read::place;
+use log_read::read;
+use log_read::start;
+ghost use mathlib.Core.Path.{_≡_};
+ghost use lib.ListN.{length};
+ghost use Rattle.log_judge.specs.Whole.{refusal, checkOf};
+ghost use Rattle.log_judge.specs.Closing.{totalled, limited, closing};
+
+// The answer of a refusal.
+fn refusal(number: u8, place: usize) -> Checked
+    ensures { λ r. ⌜ r ≡ refusal number place ⌝ }
+{
+    Checked {
+        number,
+        place,
+        clocks: 0,
+        turns: 0,
+        items: 0,
+    }
+}
+
+// A log with these totals passes.
+fn passed(t: Totals) -> Checked
+    ensures { λ r. ⌜ r ≡ totalled t ⌝ }
+{
+    Checked {
+        number: 0,
+        place: 0,
+        clocks: t.clocks,
+        turns: t.turns,
+        items: t.items,
+    }
+}
+
+// 9, then 10, of a log whose `stop` stands at a place with a number.
+fn weighed(t: Totals, place: usize, n: u64) -> Checked
+    ensures { λ r. ⌜ r ≡ limited t place n ⌝ }
+{
+    if 2000000000 < t.clocks {
+        return refusal(9, place);
+    }
+    if 1000000 < t.turns {
+        return refusal(9, place);
+    }
+    if n == t.clocks {
+        return passed(t);
+    }
+    refusal(10, place)
+}
+
+// A log whose lines came to a block: nothing may stand behind `stop`.
+fn closed(length: usize, b: Block) -> Checked
+    ensures { λ r. ⌜ r ≡ closing length b ⌝ }
+{
+    match b {
+        Block::Closed(_, next, _) => refusal(18, next),
+        Block::Stopped(place, next, n, t) => {
+            if next < length {
+                refusal(19, next)
+            } else {
+                weighed(t, place, n as u64)
+            }
+        }
+        Block::Refused(number, place) => refusal(number, place),
+    }
+}
+
+// Whether a log passes, and its totals; or the first thing that is wrong with it.
+pub fn check(log: &[u8]) -> Checked
+    ensures { λ r. ⌜ r ≡ checkOf (now (log .entry)) ⌝ }
+{
+    let r = read(log, 0);
+    let Reading::Item(_, _) = r else {
+        return refusal(number(r), place(r));
+    };
+    closed(log.len(), read_block(log, start(log), 0))
+}

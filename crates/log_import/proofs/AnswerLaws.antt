@@ -1,0 +1,94 @@
+-- Number 0: the stream ends, within the totals, and the buffer holds its log. Assumes nothing.
+use Prim.Native.Nat.{ℕ, _≤_}
+use mathlib.Core.Path.{_≡_, refl}
+use mathlib.Core.Bool.{Bool, true, false}
+use mathlib.Core.List.{List}
+use native.Mathlib.Omega.{arith}
+use lib.Dec.{ltb}
+use borrow.Author.Tests.{ltb-false, eq-eqb, ne-eqb}
+use lib.ListN.{length}
+use lib.Seq.{sets}
+use Rattle.arith.specs.Pick.{pick, either}
+use Rattle.log_judge.specs.Tree.{turns}
+use Rattle.log_import.specs.declared.Said.{Said}
+use Rattle.log_import.specs.Stream.{Stream, ended, refused, streamOf}
+use Rattle.log_import.specs.Import.{stood, samplesIn, refusal, weighed, answer, clocksFor, treeFor, textFor, textOf, importOf, bufferOf}
+use Rattle.log_import.specs.Measure.{Ready}
+use Rattle.log_import.proofs.BoundLaws.{either-false}
+use Rattle.log_import.proofs.FaultLaws.{Refused, refused-place, numbered}
+
+-- a weight by its two tests
+module _ (room c t n : ℕ) where
+  pub weighed-heavy : either (ltb 2000000000 c) (ltb 1000000 t) ≡ true → refusal 9 0 ≡ weighed room c t n
+  unfolding weighed
+  weighed-heavy e = rw e
+
+  pub weighed-long : either (ltb 2000000000 c) (ltb 1000000 t) ≡ false → either (ltb room n) (ltb 60000 n) ≡ true → refusal 28 0 ≡ weighed room c t n
+  unfolding weighed
+  weighed-long e f = rw (e, f)
+
+  pub weighed-done : either (ltb 2000000000 c) (ltb 1000000 t) ≡ false → either (ltb room n) (ltb 60000 n) ≡ false → record { number = 0; place = 0; length = n } ≡ weighed room c t n
+  unfolding weighed
+  weighed-done e f = rw (e, f)
+
+-- what number 0 says of a weight
+pub record Weighed (room c t n : ℕ) : Type 0 where
+  pub clocks : c ≤ 2000000000
+  pub turns : t ≤ 1000000
+  pub short : n ≤ 60000
+  pub fits : n ≤ room
+
+pub weighed-of : (room c t n : ℕ) → weighed room c t n .number ≡ 0 → Weighed room c t n
+unfolding weighed
+weighed-of room c t n h = by (either (ltb 2000000000 c) (ltb 1000000 t)) refl (either (ltb room n) (ltb 60000 n)) refl h
+  where
+    by : (a : Bool) → either (ltb 2000000000 c) (ltb 1000000 t) ≡ a → (b : Bool) → either (ltb room n) (ltb 60000 n) ≡ b
+        → pick a (refusal 9 0) (pick b (refusal 28 0) (record { number = 0; place = 0; length = n })) .number ≡ 0 → Weighed room c t n
+    by true ea b eb h = absurd (omega arith)
+    by false ea true eb h = absurd (omega arith)
+    by false ea false eb h =
+        let a = either-false (ltb 2000000000 c) (ltb 1000000 t) ea in
+        let b = either-false (ltb room n) (ltb 60000 n) eb in
+        record { clocks = ltb-false 2000000000 c (a .0); turns = ltb-false 1000000 t (a .1); short = ltb-false 60000 n (b .1); fits = ltb-false room n (b .0) }
+
+-- what number 0 says of a stream
+pub record Imports (room : ℕ) (x : Stream) : Type 0 where
+  pub said : List Said
+  pub is : x ≡ ended said
+  pub weight : Weighed room (clocksFor said) (turns (treeFor said)) (length (textFor said))
+
+imports-of : (room size : ℕ) (x : Stream) → Refused size x → answer room x .number ≡ 0 → Imports room x
+unfolding answer
+imports-of room size (refused k p) n h = let z = numbered size k p n .0 in absurd (omega arith)
+imports-of room size (ended l) n h = record { said = l; is = refl; weight = weighed-of room (clocksFor l) (turns (treeFor l)) (length (textFor l)) h }
+
+pub imports : (s : List ℕ) (room : ℕ) → importOf s room .number ≡ 0 → Imports room (streamOf s)
+unfolding importOf
+imports s room h = imports-of room (length s) (streamOf s) (refused-place s) h
+
+text-ended : (l : List Said) → textOf (ended l) ≡ textFor l
+unfolding textOf
+text-ended l = refl
+
+clocks-said : (l : List Said) → clocksFor l ≡ stood (samplesIn l)
+unfolding clocksFor
+clocks-said l = refl
+
+pub ready : (s out : List ℕ) → importOf s (length out) .number ≡ 0 → Ready (streamOf s) out
+ready s out h =
+    let i = imports s (length out) h in
+    let w = i .weight in
+    record {
+      said = i .said;
+      is = i .is;
+      small = rw (clocks-said (i .said)) at (w .clocks);
+      fits = rw (i .is, text-ended (i .said)) (w .fits);
+    }
+
+pub buffer-written : (s out : List ℕ) (out′ : List ℕ) → importOf s (length out) .number ≡ 0 → out′ ≡ sets out 0 (textOf (streamOf s)) → out′ ≡ bufferOf s out
+unfolding bufferOf
+buffer-written s out out′ h e = rw (eq-eqb (importOf s (length out) .number) 0 h) e
+
+pub buffer-kept : (s out : List ℕ) → (importOf s (length out) .number ≡ 0 → ⊥) → out ≡ bufferOf s out
+unfolding bufferOf
+buffer-kept s out h = rw (ne-eqb (importOf s (length out) .number) 0 h)

@@ -1,0 +1,171 @@
+-- The check that the code makes is the one that is defined line by line. Assumes nothing.
+use mathlib.Core.Path.{_≡_, refl, ap, sym, _∙_}
+use mathlib.Core.List.{List, [], _∷_}
+use mathlib.Core.Bool.{Bool, true, false}
+use Prim.Native.Nat.{ℕ, _+_, _≤_, _<_, min}
+use native.Mathlib.Omega.{arith}
+use native.Mathlib.Nat.{mul-le-mul}
+use borrow.Author.Tests.{ltb-true, ltb-false, lt-ltb, le-ltb}
+use lib.ListN.{length, length-append}
+use lib.Dec.{eqb, ltb}
+use Rattle.arith.specs.Pick.{pick}
+use Rattle.log_line.specs.declared.Line.{Line}
+use Rattle.log_line.specs.declared.Line.the-variants.{Header, One, Loop, Done, Stop, Bad}
+use Rattle.log_line.specs.Said.{lineOf}
+use Rattle.log_judge.specs.declared.Checked.{Checked}
+use Rattle.log_judge.specs.declared.Reading.{Reading}
+use Rattle.log_judge.specs.declared.Reading.the-variants.{Item, Refused}
+use Rattle.log_judge.specs.Lines.{linesOf, bytesAt, nextLine, startOf}
+use Rattle.log_judge.specs.Reading.{taken, readIn, readAt}
+use Rattle.log_judge.specs.Judge.{right, wrong, first, among, over, placed, verdict, behind, ending, unless, judge, judged}
+use Rattle.log_judge.specs.Tree.{Tree, end, act, loop, acts, clocks, turns}
+use Rattle.log_judge.specs.Whole.{grow, blocks, innermost, treeOf, Stopping, stopHere, stopFrom, stopOf, refusal, passed, heavy, weighed, unlessWrong, checkOf}
+use Rattle.log_judge.specs.Block.{Got, closed, stopped, refused, readBlock, totals, answer}
+use Rattle.log_judge.specs.Closing.{totalled, limited, closing}
+use Rattle.log_judge.proofs.PlaceLaws.{Had, had-at, had-says, bytes-long, next-le, next-pos, read-some, read-long}
+use Rattle.log_spot.specs.declared.Stand.{Stand as Standing}
+use Rattle.log_spot.specs.declared.Stand.the-variants.{First, Among}
+use Rattle.log_spot.specs.declared.Found.{Found}
+use Rattle.log_spot.specs.declared.Found.the-variants.{Right, Wrong}
+use Rattle.log_spot.specs.Fault.{spotOf}
+use Rattle.log_spot.proofs.Standing.{first-header}
+use Rattle.log_judge.proofs.TotalLaws.{length-times}
+use Rattle.log_judge.proofs.Derived.{Ending, closes, stops, Reads, an-act, a-loop, a-done, a-stop, Derived, derived, inside-loop}
+use Rattle.log_judge.proofs.JudgeLaws.{linesFrom, judgeAt, lines-at, judge-at, judge-none, after, bridge}
+
+-- the lines from a place on stand for what is read there
+
+abbrev pub blocksBehind : List ℕ → Ending → List Tree
+blocksBehind log (closes p q) = blocks (linesFrom log q)
+blocksBehind log (stops p q n) = blocks (linesFrom log q)
+
+abbrev pub stopBehind : List ℕ → Ending → Stopping
+stopBehind log (closes p q) = stopFrom q (linesFrom log q)
+stopBehind log (stops p q n) = record { place = p; number = n }
+
+module _ {st : Standing} {log : List ℕ} {at : ℕ} {l : Line} {next : ℕ} (h : Had st log at l next) where
+  pub blocks-at : blocks (linesFrom log at) ≡ grow l (blocks (linesFrom log next))
+  unfolding blocks
+  blocks-at = rw (lines-at log at (h .inside), had-says h, h .on)
+
+  pub stop-at : stopFrom at (linesFrom log at) ≡ stopHere at l (stopFrom next (linesFrom log next))
+  unfolding stopFrom
+  stop-at = rw (lines-at log at (h .inside), had-says h, h .on, bytes-long log at)
+
+pub blocks-of : {log : List ℕ} {at d : ℕ} {t : Tree} {e : Ending} → Reads log at d t e → blocks (linesFrom log at) ≡ t ∷ blocksBehind log e
+unfolding grow
+blocks-of {log} {at} {d} (an-act {a = a} l r) = blocks-at (had-at log at _ _ l) ∙ ap (grow (One a)) (blocks-of r)
+blocks-of {log} {at} {d} (a-loop {n = n} {b = b} l i k r r′) = blocks-at (had-at log at _ _ l) ∙ ap (grow (Loop n)) (blocks-of r ∙ ap (λ (ts : List Tree). b ∷ ts) (blocks-of r′))
+blocks-of {log} {at} {d} (a-done l h) = blocks-at (had-at log at _ _ l)
+blocks-of {log} {at} (a-stop l) = blocks-at (had-at log at _ _ l)
+
+pub stop-of : {log : List ℕ} {at d : ℕ} {t : Tree} {e : Ending} → Reads log at d t e → stopFrom at (linesFrom log at) ≡ stopBehind log e
+unfolding stopHere
+stop-of {log} {at} {d} (an-act l r) = stop-at (had-at log at _ _ l) ∙ stop-of r
+stop-of {log} {at} {d} (a-loop l i k r r′) = stop-at (had-at log at _ _ l) ∙ (stop-of r ∙ stop-of r′)
+stop-of {log} {at} {d} (a-done l h) = stop-at (had-at log at _ _ l)
+stop-of {log} {at} (a-stop l) = stop-at (had-at log at _ _ l)
+
+-- totals that were cut off are weighed as those of the tree
+
+-- a block has no more acts than turns
+pub acts-le : (t : Tree) → length (acts t) ≤ turns t
+unfolding acts turns
+acts-le end = omega arith
+acts-le (act a t) = let h = acts-le t in omega arith
+acts-le (loop n b t) =
+    let h = acts-le t in
+    let i = acts-le b in
+    let m = mul-le-mul {n₁ = n} {m₁ = length (acts b)} {n₂ = n} {m₂ = 1 + turns b} (omega arith) (omega arith) in
+    rw (length-append, length-times) (omega arith)
+
+checked≡ : {c u a c′ u′ a′ : ℕ} → c ≡ c′ → u ≡ u′ → a ≡ a′
+    → _≡_ {A = Checked} (record { number = 0; place = 0; clocks = c; turns = u; items = a }) (record { number = 0; place = 0; clocks = c′; turns = u′; items = a′ })
+checked≡ p q r i = record { number = 0; place = 0; clocks = p i; turns = q i; items = r i }
+
+limited-is : (t : Tree) (p n : ℕ) → limited (totals t) p n ≡ weighed t (record { place = p; number = n })
+unfolding totals weighed heavy
+limited-is t p n = go (ltb 2000000000 (clocks t)) refl (ltb 1000000 (turns t)) refl
+  where
+    go : (a : Bool) → ltb 2000000000 (clocks t) ≡ a → (b : Bool) → ltb 1000000 (turns t) ≡ b → limited (totals t) p n ≡ weighed t (record { place = p; number = n })
+    go true e b f =
+        let h = ltb-true 2000000000 (clocks t) e in
+        rw (e, lt-ltb 2000000000 (min 2000000001 (clocks t)) (omega arith))
+    go false e true f =
+        let h = ltb-false 2000000000 (clocks t) e in
+        let k = ltb-true 1000000 (turns t) f in
+        rw (e, f, le-ltb 2000000000 (min 2000000001 (clocks t)) (omega arith), lt-ltb 1000000 (min 1000001 (turns t)) (omega arith))
+    go false e false f =
+        let h = ltb-false 2000000000 (clocks t) e in
+        let k = ltb-false 1000000 (turns t) f in
+        let m : min 2000000001 (clocks t) ≡ clocks t = omega arith in
+        let i = acts-le t in
+        let done : totalled (totals t) ≡ passed t = checked≡ m (omega arith) (omega arith) in
+        rw (e, f, le-ltb 2000000000 (min 2000000001 (clocks t)) (omega arith), le-ltb 1000000 (min 1000001 (turns t)) (omega arith))
+        (rw m (ap (λ (x : Checked). pick (eqb n (clocks t)) x (refusal 10 p)) (rw m at done)))
+
+-- behind `stop` nothing may stand
+pub over-at : (log : List ℕ) (q : ℕ) → judgeAt log over q ≡ pick (ltb q (length log)) (wrong 19 q) right
+unfolding verdict behind ending unless
+over-at log q = go (ltb q (length log)) refl
+  where
+    go : (b : Bool) → ltb q (length log) ≡ b → judgeAt log over q ≡ pick b (wrong 19 q) right
+    go true e = judge-at log q over (ltb-true q (length log) e)
+    go false e = judge-none log q over (ltb-false q (length log) e)
+
+closing-is : (log : List ℕ) (at : ℕ) (g : Got) → Derived log at 0 g
+    → closing (length log) (answer g) ≡ unlessWrong (after log 0 g) (weighed (innermost (blocks (linesFrom log at))) (stopFrom at (linesFrom log at)))
+unfolding after answer unlessWrong innermost
+closing-is log at (closed t p q) r = absurd (let z = inside-loop r in omega arith)
+closing-is log at (stopped t p q n) r = rw (over-at log q, blocks-of r, stop-of r) (go (ltb q (length log)))
+  where
+    go : (b : Bool) → pick b (refusal 19 q) (limited (totals t) p n) ≡ unlessWrong (pick b (wrong 19 q) right) (weighed t (record { place = p; number = n }))
+    go true = refl
+    go false = limited-is t p n
+closing-is log at (refused k p) r = refl
+
+-- the check, from what reading at 0 finds
+abbrev pub CheckedBy : List ℕ → Reading → Type 0
+CheckedBy log (Item l p) = closing (length log) (answer (readBlock log (startOf log) 0)) ≡ checkOf log
+CheckedBy log (Refused k p) = refusal k p ≡ checkOf log
+
+module _ (log : List ℕ) (short : length log ≤ 60000) (some : 0 < length log) where
+  pub check-short : checkOf log ≡ unlessWrong (judged log) (weighed (treeOf log) (stopOf log))
+  unfolding checkOf
+  check-short = rw (le-ltb 60000 (length log) short)
+
+  pub judged-first : judged log ≡ unless (placed 0 (spotOf First (bytesAt log 0))) (judgeAt log (among 0) (nextLine log 0))
+  unfolding judged verdict behind
+  judged-first = judge-at log 0 first some
+
+  headed : spotOf First (bytesAt log 0) ≡ Right Header → closing (length log) (answer (readBlock log (startOf log) 0)) ≡ checkOf log
+  unfolding treeOf stopOf grow stopHere startOf placed unless
+  headed e =
+      let h : Had First log 0 Header (nextLine log 0) = record { short = short; inside = some; found = e; on = refl } in
+      let next = nextLine log 0 in
+      let z : 0 < next = next-pos log 0 some in
+      let f : judged log ≡ after log 0 (readBlock log next 0) = judged-first ∙ rw e (bridge log next 0 short z (next-le log 0 (omega arith))) in
+      closing-is log next (readBlock log next 0) (derived log next 0) ∙ sym (check-short ∙ rw (f, blocks-at h, stop-at h) refl)
+
+  first-by : (f : Found) → spotOf First (bytesAt log 0) ≡ f → CheckedBy log (taken 0 (nextLine log 0) f)
+  unfolding placed unless unlessWrong
+  first-by (Right l) e = headed (e ∙ ap Right (first-header (bytesAt log 0) l e))
+  first-by (Wrong k i) e = sym (check-short ∙ rw (judged-first, e) refl)
+
+short-by : (log : List ℕ) → length log ≤ 60000 → CheckedBy log (readAt log 0)
+unfolding readAt readIn checkOf judged judge linesOf ending unlessWrong
+short-by [] h = refl
+short-by (c ∷ s) h =
+    let z : 0 < length (c ∷ s) = omega arith in
+    rw (read-some First (c ∷ s) 0 h z) (first-by (c ∷ s) h z (spotOf First (bytesAt (c ∷ s) 0)) refl)
+
+long-by : (log : List ℕ) → 60000 < length log → CheckedBy log (readAt log 0)
+unfolding checkOf readAt
+long-by log h = rw (read-long First log 0 h, lt-ltb 60000 (length log) h) refl
+
+pub checked-by : (log : List ℕ) → CheckedBy log (readAt log 0)
+checked-by log = go (ltb 60000 (length log)) refl
+  where
+    go : (b : Bool) → ltb 60000 (length log) ≡ b → CheckedBy log (readAt log 0)
+    go true e = long-by log (ltb-true 60000 (length log) e)
+    go false e = short-by log (ltb-false 60000 (length log) e)

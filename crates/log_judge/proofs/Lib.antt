@@ -1,0 +1,7 @@
+pub mod PlaceLaws
+pub mod TotalLaws
+pub mod Descent
+pub mod Derived
+pub mod JudgeLaws
+pub mod CheckLaws
+pub mod Limits

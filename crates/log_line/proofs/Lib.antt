@@ -1,0 +1,5 @@
+pub mod BodyLaws
+pub mod FeedLaws
+pub mod Forth
+pub mod LineLaws
+pub mod Back

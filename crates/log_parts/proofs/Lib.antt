@@ -1,0 +1,5 @@
+pub mod CountLaws
+pub mod HopLaws
+pub mod Listed
+pub mod PartLaws
+pub mod Limits

@@ -1,0 +1,4 @@
+pub mod ActLaws
+pub mod PlaceLaws
+pub mod Passing
+pub mod TextLaws

@@ -1,0 +1,71 @@
+use Prim.Native.Nat.{_+_, _-_, _≤_}
+use denote.Ref.{now}
+use lib.ListN.{length, drop}
+use mathlib.Core.Path.{_≡_, refl}
+use native.Mathlib.Omega.{arith}
+use Rattle.log_judge.proofs.PlaceLaws.{len-feed, len-more, len-none}
+use Rattle.log_judge.specs.Lines.{lineLen}
+use Rattle.log_read.proofs.line_end.Statement.{statement}
+use Rattle.log_read.proofs.line_end.Tie as tie
+
+abbrev Inv-loop : tie.InvT-loop
+Inv-loop log at i₀ i = (at ≤ i) × (i ≤ length log) × (at + lineLen (drop at log) ≡ i + lineLen (drop i log))
+
+abbrev μ-loop : tie.MeasureT-loop
+μ-loop log at i₀ i = length log - i
+
+loop-holds : tie.Need-loop-holds Inv-loop μ-loop
+loop-holds c =
+    (omega arith, omega arith, refl)
+
+shared-slice-read-if1 : tie.Need-shared-slice-read-if1 Inv-loop μ-loop
+shared-slice-read-if1 c =
+    omega arith
+
+add-result : tie.Need-add-result Inv-loop μ-loop
+add-result c =
+    omega arith
+
+returns : tie.Need-returns Inv-loop μ-loop
+returns c =
+    let log = now (c .before .before .before .before .args .log) in
+    let i = c .before .before .before .loop .i in
+    let f = len-feed log i (omega arith) (c .if1 .taken) in
+    (omega arith, omega arith)
+
+add-i : tie.Need-add-i Inv-loop μ-loop
+add-i c =
+    omega arith
+
+loop-less : tie.Need-loop-less Inv-loop μ-loop
+loop-less c =
+    omega arith
+
+loop-again : tie.Need-loop-again Inv-loop μ-loop
+loop-again c =
+    let log = now (c .before .before .before .before .args .log) in
+    let i = c .before .before .before .loop .i in
+    let f = len-more log i (omega arith) (c .if1 .left) in
+    (omega arith, omega arith, omega arith)
+
+returns-2 : tie.Need-returns-2 Inv-loop μ-loop
+returns-2 c =
+    let log = now (c .before .before .args .log) in
+    let i = c .before .loop .i in
+    let f = len-none log i (omega arith) in
+    (omega arith, omega arith)
+
+pub line-end-spec : {M : Type 1} → statement M
+line-end-spec =
+    tie.close
+    (tie.spec
+    Inv-loop
+    μ-loop
+    loop-holds
+    shared-slice-read-if1
+    add-result
+    returns
+    add-i
+    loop-less
+    loop-again
+    returns-2)

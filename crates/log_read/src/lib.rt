@@ -1,0 +1,104 @@
+// One line of a log, read at any place.
+use log_judge::Reading;
+use log_spot::Found;
+use log_spot::Stand;
+ghost use mathlib.Core.Path.{_≡_};
+ghost use Prim.Native.Nat.{_+_, _≤_};
+ghost use lib.ListN.{length, drop};
+ghost use Rattle.log_judge.specs.Lines.{lineLen, startOf};
+ghost use Rattle.log_judge.specs.Reading.{numberOf, placeOf, taken, Reaches, standing, readIn, readAt};
+
+// The number of a reading: 0, or the refusal's.
+pub fn number(r: Reading) -> u8
+    ensures { λ n. ⌜ n ≡ numberOf r ⌝ }
+{
+    match r {
+        Reading::Item(_, _) => 0,
+        Reading::Refused(k, _) => k,
+    }
+}
+
+// The place of a reading: 0, or the refusal's.
+pub fn place(r: Reading) -> usize
+    ensures { λ p. ⌜ p ≡ placeOf r ⌝ }
+{
+    match r {
+        Reading::Item(_, _) => 0,
+        Reading::Refused(_, p) => p,
+    }
+}
+
+// Where the line that begins at a place ends: behind its line feed, or at the log's end.
+fn line_end(log: &[u8], at: usize) -> usize
+    requires { ⌜ at ≤ length (now log) ⌝ }
+    ensures { λ r. ⌜ (r ≡ at + lineLen (drop at (now (log .entry)))) × (r ≤ length (now (log .entry))) ⌝ }
+{
+    let mut i = at;
+    while i < log.len() {
+        if log[i] == 10 {
+            return i + 1;
+        }
+        i += 1;
+    }
+    i
+}
+
+// Where the lines behind `log=1` begin.
+pub fn start(log: &[u8]) -> usize
+    ensures { λ r. ⌜ r ≡ startOf (now (log .entry)) ⌝ }
+{
+    line_end(log, 0)
+}
+
+// A line that is right is an item; the place of a fault is behind the line's own.
+fn item_of(at: usize, next: usize, f: Found) -> Reading
+    requires { ⌜ Reaches at 60000 f ⌝ }
+    ensures { λ r. ⌜ r ≡ taken at next f ⌝ }
+{
+    match f {
+        Found::Right(l) => Reading::Item(l, next),
+        Found::Wrong(k, i) => Reading::Refused(k, at + i),
+    }
+}
+
+// The line that begins at a place, by how it stands.
+pub fn read_in(log: &[u8], at: usize, stand: Stand) -> Reading
+    ensures { λ r. ⌜ r ≡ readIn stand (now (log .entry)) at ⌝ }
+{
+    if 60000 < log.len() {
+        return Reading::Refused(5, 0);
+    }
+    if log.len() <= at {
+        return Reading::Refused(18, log.len());
+    }
+    let e = line_end(log, at);
+    item_of(at, e, log_spot::spot(&log[at..e], stand))
+}
+
+// The line that begins at a place, where no depth is known.
+pub fn read(log: &[u8], at: usize) -> Reading
+    ensures { λ r. ⌜ r ≡ readAt (now (log .entry)) at ⌝ }
+{
+    if at == 0 {
+        return read_in(log, at, Stand::First);
+    }
+    read_in(log, at, Stand::Alone)
+}
+
+// How a line stands that begins at a place, with so many loops open.
+fn stand_of(at: usize, depth: u64) -> Stand
+    ensures { λ r. ⌜ r ≡ standing at depth ⌝ }
+{
+    if at == 0 {
+        Stand::First
+    } else {
+        Stand::Among(depth)
+    }
+}
+
+// The line that begins at a place, with so many loops open.
+pub fn read_inside(log: &[u8], at: usize, depth: u64) -> Reading
+    ensures { λ r. ⌜ r ≡ readIn (standing at depth) (now (log .entry)) at ⌝ }
+{
+    read_in(log, at, stand_of(at, depth))
+}

@@ -1,0 +1,138 @@
+-- What the judgement of a whole log needs of one line's answer. Assumes nothing.
+use mathlib.Core.Path.{_≡_, refl, ap, sym, _∙_, subst}
+use mathlib.Core.List.{List}
+use mathlib.Core.Bool.{Bool, true, false, false≢true}
+use Prim.Native.Nat.{ℕ, _≤_, _<_}
+use native.Mathlib.Omega.{arith}
+use borrow.Author.Tests.{ltb-true, eqb-true, lt-ltb, eq-eqb}
+use lib.ListN.{length}
+use Rattle.log_line.specs.declared.Act.{Act}
+use Rattle.log_line.specs.declared.Line.{Line}
+use Rattle.log_line.specs.declared.Line.the-variants.{Header, One, Loop, Done, Stop, Bad}
+use Rattle.log_line.specs.Said.{lineOf}
+use Rattle.log_spot.specs.declared.Stand.{Stand}
+use Rattle.log_spot.specs.declared.Stand.the-variants.{First, Among, Alone}
+use Rattle.log_spot.specs.declared.Whole.the-variants.{Start}
+use Rattle.log_spot.specs.declared.Found.the-variants.{Right, Wrong}
+use Rattle.log_spot.specs.Begins.{keysOf, begins, reach}
+use Rattle.log_spot.specs.Fault.{keyed, wholeOf, spotted, spotOf}
+use Rattle.log_spot.specs.Fronts.{allowed}
+use Rattle.log_spot.proofs.ReachLaws.{reach-length}
+use Rattle.log_spot.proofs.RangeLaws.{far-enough}
+use Rattle.log_spot.proofs.FaultLaws.{zero-one, Came, fine, start, feed, key, range, shape, came, Fair, fair, may-fine, Starts, starts, by-four, by-seven, by-done, by-stop}
+
+-- a line that is right says so, and is right wherever it is allowed
+
+pub record Told (st : Stand) (s : List ℕ) (l : Line) : Type 0 where
+  pub says : lineOf s ≡ l
+  pub may : allowed (keysOf st) l ≡ true
+
+pub told : (st : Stand) (s : List ℕ) (l : Line) → spotOf st s ≡ Right l → Told st s l
+told st s l e = go (came st s)
+  where
+    go : Came st s (spotOf st s) → Told st s l
+    go (fine w r) =
+        let q : lineOf s ≡ l = cc in
+        record { says = q; may = ap (allowed (keysOf st)) (sym q) ∙ fair (keysOf st) (lineOf s) w .may }
+    go (start n w r) = zero-one (cc)
+    go (feed w h r) = zero-one (cc)
+    go (key h r) = zero-one (cc)
+    go (range h i c r) = zero-one (cc)
+    go (shape h r) = zero-one (cc)
+
+pub tell : (st : Stand) (s : List ℕ) (l : Line) → lineOf s ≡ l → allowed (keysOf st) l ≡ true → spotOf st s ≡ Right l
+unfolding spotOf spotted
+tell st s l e a = rw (e, may-fine (keysOf st) l a)
+
+-- which lines can be right where
+
+pub data Goes (d : ℕ) : Line → Type 0 where
+  act : {a : Act} → Goes d (One a)
+  opens : {n : ℕ} → d < 8 → Goes d (Loop n)
+  closes : 0 < d → Goes d Done
+  ends : {n : ℕ} → d ≡ 0 → Goes d (Stop n)
+
+goes-by : (d : ℕ) (l : Line) → allowed (keysOf (Among d)) l ≡ true → Goes d l
+unfolding keysOf allowed
+goes-by d Header a = absurd (false≢true a)
+goes-by d (One x) a = act
+goes-by d (Loop n) a = opens (ltb-true d 8 a)
+goes-by d Done a = closes (ltb-true 0 d a)
+goes-by d (Stop n) a = ends (eqb-true d 0 a)
+goes-by d (Bad n) a = absurd (false≢true a)
+
+pub goes : (d : ℕ) (s : List ℕ) (l : Line) → spotOf (Among d) s ≡ Right l → Goes d l
+goes d s l e = goes-by d l (told (Among d) s l e .may)
+
+pub goes-may : {d : ℕ} {l : Line} → Goes d l → allowed (keysOf (Among d)) l ≡ true
+unfolding keysOf allowed
+goes-may act = refl
+goes-may {d} (opens h) = lt-ltb d 8 h
+goes-may {d} (closes h) = lt-ltb 0 d h
+goes-may {d} (ends h) = eq-eqb d 0 h
+
+first-by : (l : Line) → allowed (keysOf First) l ≡ true → l ≡ Header
+unfolding keysOf allowed
+first-by Header a = refl
+first-by (One x) a = absurd (false≢true a)
+first-by (Loop n) a = absurd (false≢true a)
+first-by Done a = absurd (false≢true a)
+first-by (Stop n) a = absurd (false≢true a)
+first-by (Bad n) a = absurd (false≢true a)
+
+pub first-header : (s : List ℕ) (l : Line) → spotOf First s ≡ Right l → l ≡ Header
+first-header s l e = first-by l (told First s l e .may)
+
+alone-by : (d : ℕ) (l : Line) → Goes d l → allowed (keysOf Alone) l ≡ true
+unfolding keysOf allowed
+alone-by d l act = refl
+alone-by d l (opens h) = refl
+alone-by d l (closes h) = refl
+alone-by d l (ends h) = refl
+
+-- what is right at some depth is right where none is known
+pub alone : (d : ℕ) (s : List ℕ) (l : Line) → spotOf (Among d) s ≡ Right l → spotOf Alone s ≡ Right l
+alone d s l e = tell Alone s l (told (Among d) s l e .says) (alone-by d l (goes d s l e))
+
+-- a fault's number and byte are within bounds
+
+pub record Bounded (s : List ℕ) (n i : ℕ) : Type 0 where
+  pub low : 4 ≤ n
+  pub high : n ≤ 17
+  pub place : i ≤ length s
+
+pub bounded : (st : Stand) (s : List ℕ) (n i : ℕ) → spotOf st s ≡ Wrong n i → Bounded s n i
+bounded st s n i e = go (came st s)
+  where
+    started : Starts (keysOf st) (lineOf s) n → i ≡ 0 → Bounded s n i
+    started (by-four h a b) z = record { low = omega arith; high = omega arith; place = omega arith }
+    started (by-seven h m a b c) z = record { low = omega arith; high = omega arith; place = omega arith }
+    started (by-done h a b c) z = record { low = omega arith; high = omega arith; place = omega arith }
+    started (by-stop h m a b c) z = record { low = omega arith; high = omega arith; place = omega arith }
+
+    go : Came st s (spotOf st s) → Bounded s n i
+    go (fine w r) = zero-one (cc)
+    go (start m w r) =
+        let q : m ≡ n = cc in
+        let z : i ≡ 0 = cc in
+        started (starts (keysOf st) (lineOf s) n (w ∙ ap Start q)) z
+    go (feed w h r) =
+        let q : n ≡ 17 = cc in
+        let p : i ≡ reach (begins (keysOf st)) s = cc in
+        let l = reach-length (begins (keysOf st)) s in
+        record { low = omega arith; high = omega arith; place = omega arith }
+    go (key h r) =
+        let q : n ≡ 14 = cc in
+        let p : i ≡ reach (begins (keysOf st)) s = cc in
+        let l = reach-length (begins (keysOf st)) s in
+        record { low = omega arith; high = omega arith; place = omega arith }
+    go (range h a c r) =
+        let q : n ≡ 16 = cc in
+        let p : i ≡ 5 = cc in
+        let l = far-enough s c in
+        record { low = omega arith; high = omega arith; place = omega arith }
+    go (shape h r) =
+        let q : n ≡ 15 = cc in
+        let p : i ≡ reach (begins (keysOf st)) s = cc in
+        let l = reach-length (begins (keysOf st)) s in
+        record { low = omega arith; high = omega arith; place = omega arith }

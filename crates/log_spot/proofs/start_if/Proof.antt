@@ -1,0 +1,16 @@
+use borrow.Author.Needs.{needs}
+use Rattle.log_spot.proofs.start_if.Statement.{statement}
+use Rattle.log_spot.proofs.start_if.Tie as tie
+use Rattle.log_spot.proofs.start_if.Reads as reads
+use Rattle.log_spot.proofs.start_if.Lts as lts
+
+-- src/lib.rt:335:1
+returns : tie.Need-returns
+returns c = simp (c .if1 .taken)
+
+-- src/lib.rt:335:1
+returns-2 : tie.Need-returns-2
+returns-2 c = search needs
+
+pub start-if-spec : {M : Type 1} → statement M
+start-if-spec = tie.close (tie.spec returns returns-2)

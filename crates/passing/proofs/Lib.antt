@@ -1,4 +1,0 @@
-pub mod Acts
-pub mod Anywhere
-pub mod Passing
-pub mod Written

@@ -1,0 +1,87 @@
+// What C and Rust call: the operations of the crates `c_chip`, `c_run`, `c_log`, `c_play` and `c_import` under C names. A state is 91 bytes
+// lent in place (crate `c_state`), a slice is a pointer and a length, and an answer is one 64-bit number: its number, and above its low
+// byte its value. Bytes that are no state in range are refused, and stay.
+ghost use mathlib.Core.Path.{_≡_};
+ghost use Rattle.c_state.specs.Bytes.{flagByte};
+ghost use Rattle.c_chip.specs.Boundary.{packed, bytesAfter, powerNumber, powerBytes, bytesIn, writeFrom, statusFrom, lineFrom, levelFrom, fractionFrom, clockFrom};
+
+pub mod imports;
+pub mod logs;
+pub mod pieces;
+pub mod runs;
+
+// How many bytes a state is.
+#[no_mangle]
+pub extern "C" fn perch_state_size() -> usize
+    ensures { λ r. ⌜ r ≡ 91 ⌝ }
+{
+    91
+}
+
+// Makes the bytes the state at power-on, whatever they held. Refused: 2, for another length.
+#[no_mangle]
+pub extern "C" fn perch_power_on(state: &mut [u8]) -> u64
+    ensures { λ r. ⌜ r ≡ packed (powerNumber (now (state .entry))) 0 ⌝ }
+    ensures { λ r. ⌜ now (state .exit) ≡ powerBytes (now (state .entry)) ⌝ }
+{
+    c_chip::power_on(state)
+}
+
+// Value 1 where the bytes are a state in range, else 0. Nothing is refused.
+#[no_mangle]
+pub extern "C" fn perch_in_range(state: &[u8]) -> u64
+    ensures { λ r. ⌜ r ≡ packed 0 (flagByte (bytesIn (now (state .entry)))) ⌝ }
+{
+    c_chip::in_range(state)
+}
+
+// Writes a value to a register. Refused: 2, 4.
+#[no_mangle]
+pub extern "C" fn perch_write(state: &mut [u8], register: u16, value: u8) -> u64
+    ensures { λ r. ⌜ r ≡ packed (writeFrom register value (now (state .entry)) .number) 0 ⌝ }
+    ensures { λ r. ⌜ now (state .exit) ≡ bytesAfter (writeFrom register value (now (state .entry)) .number) (writeFrom register value (now (state .entry)) .state) (now (state .entry)) ⌝ }
+{
+    c_chip::write(state, register, value)
+}
+
+// Reads $4015, which clears the frame flag; the value is the byte read. Refused: 2.
+#[no_mangle]
+pub extern "C" fn perch_read_status(state: &mut [u8]) -> u64
+    ensures { λ r. ⌜ r ≡ packed (statusFrom (now (state .entry)) .number) (statusFrom (now (state .entry)) .byte) ⌝ }
+    ensures { λ r. ⌜ now (state .exit) ≡ bytesAfter (statusFrom (now (state .entry)) .number) (statusFrom (now (state .entry)) .state) (now (state .entry)) ⌝ }
+{
+    c_chip::read_status(state)
+}
+
+// Value 1 where the interrupt line is asserted. Refused: 2.
+#[no_mangle]
+pub extern "C" fn perch_line(state: &[u8]) -> u64
+    ensures { λ r. ⌜ r ≡ packed (lineFrom (now (state .entry)) .number) (flagByte (lineFrom (now (state .entry)) .asserted)) ⌝ }
+{
+    c_chip::line(state)
+}
+
+// The mixed level. Refused: 2.
+#[no_mangle]
+pub extern "C" fn perch_level(state: &[u8]) -> u64
+    ensures { λ r. ⌜ r ≡ packed (levelFrom (now (state .entry)) .number) (levelFrom (now (state .entry)) .level) ⌝ }
+{
+    c_chip::level(state)
+}
+
+// The mixed level over 32,768; 0.0 where the bytes are no state in range.
+#[no_mangle]
+pub extern "C" fn perch_level_f32(state: &[u8]) -> f32
+    ensures { λ r. ⌜ r ≡ fractionFrom (now (state .entry)) ⌝ }
+{
+    c_chip::level_f32(state)
+}
+
+// Works one clock. Refused: 1, 2.
+#[no_mangle]
+pub extern "C" fn perch_clock(state: &mut [u8], memory: &[u8]) -> u64
+    ensures { λ r. ⌜ r ≡ packed (clockFrom (now (memory .entry)) (now (state .entry)) .number) 0 ⌝ }
+    ensures { λ r. ⌜ now (state .exit) ≡ bytesAfter (clockFrom (now (memory .entry)) (now (state .entry)) .number) (clockFrom (now (memory .entry)) (now (state .entry)) .state) (now (state .entry)) ⌝ }
+{
+    c_chip::clock(state, memory)
+}

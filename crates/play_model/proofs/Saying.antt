@@ -1,0 +1,154 @@
+-- A PLAYER AT THE BEGINNING OF A LOG THAT PASSES SAYS JUST THE LINES OF WHAT THE LOG SOUNDS LIKE. Assumes nothing.
+use Prim.Native.Nat.{ℕ, zero, suc, _+_, _-_, _*_, _≤_, _<_}
+use mathlib.Core.Path.{_≡_, refl, _∙_, subst}
+use mathlib.Core.Bool.{Bool, true, false}
+use mathlib.Core.List.{List, [], _∷_, _++_, map}
+use native.Mathlib.Omega.{arith}
+use lib.Dec.{eqb}
+use borrow.Author.Tests.{eq-eqb, eqb-true}
+use Rattle.arith.specs.Pick.{pick}
+use Rattle.bus.specs.declared.Access.the-variants as bus
+use Rattle.log_line.specs.declared.Act.{Act}
+use Rattle.log_line.specs.declared.Act.the-variants as line
+use Rattle.log_judge.specs.Tree.{acts, actClocks}
+use Rattle.log_judge.specs.Whole.{treeOf, checkOf}
+use Rattle.log_passing.proofs.ActLaws.{Every, every-acts, clocksIn, clocks-listed}
+use Rattle.log_passing.proofs.Passing.{clear, stands}
+use Rattle.machine.specs.Saying.{over, on, says, Gives, ends, goes, gives}
+use Rattle.log_cursor.specs.declared.Cursor.{Cursor}
+use Rattle.log_cursor.specs.Stepping.{beginning, stepOf}
+use Rattle.log_cursor.proofs.Whole.{cursor-gives}
+use Rattle.chip.specs.Level.{stateLevel}
+use Rattle.chip.specs.Range.{powerOn}
+use Rattle.chip.specs.Status.{statusByte, statusRead}
+use Rattle.chip.specs.Write.{registerWritten}
+use Rattle.chip.specs.declared.State.{State}
+use Rattle.play_text.specs.declared.Note.{Note}
+use Rattle.play_text.specs.declared.Note.the-variants.{Play, Level, Read, Stop}
+use Rattle.play_model.specs.declared.Player.{Player}
+use Rattle.play_model.specs.Sound.{heard, waited, notesFrom, notesOf}
+use Rattle.play_model.specs.Turns.{go, playerOf, freshPlayer, accessed, acted, stepSaid, cursorTurn, phaseTurn, turnOf, Goes}
+use Rattle.play_model.specs.Stretch.{noteAt}
+use Rattle.play_model.proofs.LevelLaws.{all, waited-all, last-all, done-all}
+use Rattle.play_model.proofs.TellLaws.{Tells, by-rest, by-tell, by-end, goes-tells}
+use Rattle.play_model.proofs.TurnLaws.{turn-cursor, turn-phase}
+use Rattle.play_model.proofs.WaitLaws.{waits}
+
+-- a read leaves the level
+level-read : (s : State) → stateLevel (statusRead s) ≡ stateLevel s
+unfolding stateLevel statusRead
+level-read s = refl
+
+heard-same : (t last : ℕ) (s : State) → stateLevel s ≡ last → heard t last s ≡ []
+unfolding heard
+heard-same t last s e = rw (eq-eqb (stateLevel s) last e)
+
+-- what an act is
+
+acted-wait : (p : Player) (n : ℕ) (c : Cursor) → acted p (line.Wait n) c ≡ go on (playerOf 2 n (p .time) (p .last) (p .state) c)
+unfolding acted
+acted-wait p n c = refl
+
+acted-write : (p : Player) (r v : ℕ) (c : Cursor) → acted p (line.Access (bus.Write r v)) c ≡ accessed p (registerWritten r v (p .state)) c
+unfolding acted
+acted-write p r v c = refl
+
+acted-read : (p : Player) (c : Cursor)
+    → acted p (line.Access bus.Read) c ≡ go (says (Read (p .time) (statusByte (p .state)))) (playerOf 2 0 (p .time) (p .last) (statusRead (p .state)) c)
+unfolding acted
+acted-read p c = refl
+
+module _ (log memory : List ℕ) where
+  abbrev pub Told : Player → List Note → ℕ → Type 0
+  Told p l k = Tells (turnOf log memory) p l k
+
+  -- the player's turns at the log's lines
+  module _ (t last : ℕ) (s : State) (c : Cursor) where
+    here-turn : turnOf log memory (playerOf 2 0 t last s c) ≡ stepSaid (playerOf 2 0 t last s c) (stepOf log c .said) (stepOf log c .state)
+    unfolding cursorTurn
+    here-turn = turn-cursor log memory (playerOf 2 0 t last s c) refl refl
+
+    turn-over : stepOf log c .said ≡ over → turnOf log memory (playerOf 2 0 t last s c) ≡ go (says (Stop t)) (playerOf 3 0 t last s (stepOf log c .state))
+    unfolding stepSaid
+    turn-over e = here-turn ∙ rw e refl
+
+    turn-on : stepOf log c .said ≡ on → turnOf log memory (playerOf 2 0 t last s c) ≡ go on (playerOf 2 0 t last s (stepOf log c .state))
+    unfolding stepSaid
+    turn-on e = here-turn ∙ rw e refl
+
+    turn-act : (a : Act) → stepOf log c .said ≡ says a → turnOf log memory (playerOf 2 0 t last s c) ≡ acted (playerOf 2 0 t last s c) a (stepOf log c .state)
+    unfolding stepSaid
+    turn-act a e = here-turn ∙ rw e refl
+
+  turn-end : (t last : ℕ) (s : State) (c : Cursor) → turnOf log memory (playerOf 3 0 t last s c) ≡ go over (playerOf 3 0 t last s c)
+  unfolding phaseTurn
+  turn-end t last s c = turn-phase log memory (playerOf 3 0 t last s c) (λ e. absurd (let z : _≡_ {A = ℕ} 3 2 = e in omega arith))
+
+  -- a wait
+  wait-told : (n t : ℕ) (s : State) (c : Cursor) (l : List Act) (k : ℕ) → 1 ≤ n → n ≤ 1000000 → t + n ≤ 2000000000 → k + 1 < 4000010
+      → ((s′ : State) → Told (playerOf 2 0 (t + n) (stateLevel s′) s′ c) (notesFrom memory (t + n) (stateLevel s′) s′ l) k)
+      → Told (playerOf 2 n t (stateLevel s) s c) (waited memory n t (stateLevel s) s (λ t last s. notesFrom memory t last s l)) (k + 1)
+  wait-told n t s c l k z a b m rest =
+      let w = waits log memory n n t (stateLevel s) s c z a b in
+      let d = done-all memory n t s in
+      let q : n - all memory n t s .done ≡ 0 = omega arith in
+      let g : Goes (turnOf log memory) (playerOf 2 n t (stateLevel s) s c) (map (noteAt t) (all memory n t s .marks)) (w .turns)
+      (playerOf 2 0 (t + n) (stateLevel (all memory n t s .state)) (all memory n t s .state) c) = rw (q, d, last-all memory n t s) at (w .goes) in
+      rw (waited-all memory n t s (λ t last s. notesFrom memory t last s l))
+      (goes-tells (turnOf log memory) g 1 (w .few) (rest (all memory n t s .state)) m)
+
+  -- an access that led to the state s
+  access-told : (p : Player) (t last : ℕ) (s : State) (c : Cursor) (notes : List Note) (k m : ℕ)
+      → turnOf log memory p ≡ accessed (playerOf 2 0 t last (p .state) (p .cursor)) s c → Told (playerOf 2 0 t (stateLevel s) s c) notes k → k < 4000010 → k < m
+      → Told p (heard t last s ++ notes) m
+  unfolding accessed heard
+  access-told p t last s c notes k m turn told low less = by (eqb (stateLevel s) last) refl turn
+    where
+      by : (z : Bool) → eqb (stateLevel s) last ≡ z
+          → turnOf log memory p ≡ pick z (go on (playerOf 2 0 t last s c)) (go (says (Level t (stateLevel s))) (playerOf 2 0 t (stateLevel s) s c))
+          → Told p (pick z [] (Level t (stateLevel s) ∷ []) ++ notes) m
+      by true e u = by-rest (turnOf log memory) m u (subst (λ (x : ℕ). Told (playerOf 2 0 t x s c) notes k) (eqb-true (stateLevel s) last e) told) less
+      by false e u = by-tell (turnOf log memory) m u told low
+
+  -- the acts that a cursor stands for: at most two turns that say nothing for each of its steps
+  acts-told : {c : Cursor} {l : List Act} {f : ℕ} → Gives (stepOf log) c l f → f ≤ 2000002 → (t : ℕ) (s : State) → Every l → t + clocksIn l ≤ 2000000000
+      → Told (playerOf 2 0 t (stateLevel s) s c) (notesFrom memory t (stateLevel s) s l) (2 * f)
+  unfolding notesFrom clocksIn actClocks
+  acts-told {c = c} (ends f e p) h t s w b =
+      by-tell (turnOf log memory) (2 * f) (turn-over t (stateLevel s) s c e) (by-end (turnOf log memory) 0 (turn-end t (stateLevel s) s (stepOf log c .state))) (omega arith)
+  acts-told {c = c} (goes {k = k} f e g p) h t s w b =
+      by-rest (turnOf log memory) (2 * f) (turn-on t (stateLevel s) s c e) (acts-told g (omega arith) t s w b) (omega arith)
+  acts-told {c = c} (gives {a = line.Wait n} {l = l} {k = k} f e g p) h t s w b =
+      by-rest (turnOf log memory) (2 * f) (turn-act t (stateLevel s) s c (line.Wait n) e ∙ acted-wait (playerOf 2 0 t (stateLevel s) s c) n (stepOf log c .state))
+      (wait-told n t s (stepOf log c .state) l (2 * k) (w .0 .0) (w .0 .1) (omega arith) (omega arith) (λ s′. acts-told g (omega arith) (t + n) s′ (w .1) (omega arith)))
+      (omega arith)
+  acts-told {c = c} (gives {a = line.Access (bus.Write r v)} {l = l} {k = k} f e g p) h t s w b =
+      access-told (playerOf 2 0 t (stateLevel s) s c) t (stateLevel s) (registerWritten r v s) (stepOf log c .state) (notesFrom memory t (stateLevel (registerWritten r v s)) (registerWritten r v s) l) (2 * k) (2 * f)
+      (turn-act t (stateLevel s) s c (line.Access (bus.Write r v)) e ∙ acted-write (playerOf 2 0 t (stateLevel s) s c) r v (stepOf log c .state))
+      (acts-told g (omega arith) t (registerWritten r v s) (w .1) (omega arith)) (omega arith) (omega arith)
+  acts-told {c = c} (gives {a = line.Access bus.Read} {l = l} {k = k} f e g p) h t s w b =
+      let told : Told (playerOf 2 0 t (stateLevel s) (statusRead s) (stepOf log c .state))
+      (heard t (stateLevel s) (statusRead s) ++ notesFrom memory t (stateLevel (statusRead s)) (statusRead s) l) (2 * k) =
+      rw (heard-same t (stateLevel s) (statusRead s) (level-read s))
+      (subst (λ (x : ℕ). Told (playerOf 2 0 t x (statusRead s) (stepOf log c .state)) (notesFrom memory t (stateLevel (statusRead s)) (statusRead s) l) (2 * k)) (level-read s)
+      (acts-told g (omega arith) t (statusRead s) (w .1) (omega arith))) in
+      by-tell (turnOf log memory) (2 * f) (turn-act t (stateLevel s) s c (line.Access bus.Read) e ∙ acted-read (playerOf 2 0 t (stateLevel s) s c) (stepOf log c .state)) told (omega arith)
+
+  -- the first two lines
+  turn-play : turnOf log memory freshPlayer ≡ go (says Play) (playerOf 1 0 0 0 powerOn beginning)
+  unfolding freshPlayer phaseTurn
+  turn-play = turn-phase log memory freshPlayer (λ e. absurd (let z : _≡_ {A = ℕ} 0 2 = e in omega arith))
+
+  turn-level : turnOf log memory (playerOf 1 0 0 0 powerOn beginning) ≡ go (says (Level 0 (stateLevel powerOn))) (playerOf 2 0 0 (stateLevel powerOn) powerOn beginning)
+  unfolding phaseTurn
+  turn-level = turn-phase log memory (playerOf 1 0 0 0 powerOn beginning) (λ e. absurd (let z : _≡_ {A = ℕ} 1 2 = e in omega arith))
+
+  -- A PLAYER AT THE BEGINNING SAYS THE WHOLE OF IT
+  pub fresh-told : checkOf log .number ≡ 0 → Told freshPlayer (notesOf memory (acts (treeOf log))) 1
+  unfolding notesOf
+  fresh-told h =
+      let few = clear log h .in-clocks in
+      let sum = clocks-listed (treeOf log) in
+      by-tell (turnOf log memory) 1 turn-play
+      (by-tell (turnOf log memory) 1 turn-level (acts-told (cursor-gives log h) (omega arith) 0 powerOn (every-acts (treeOf log) 0 (stands log h .within)) (omega arith)) (omega arith))
+      (omega arith)

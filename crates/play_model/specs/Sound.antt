@@ -1,0 +1,39 @@
+-- What a log sounds like, line by line. Document 01, "The log": the program's lines. Clocks are worked one by one.
+use Prim.Native.Nat.{ℕ, zero, suc, _+_}
+use mathlib.Core.List.{List, [], _∷_, _++_}
+use lib.Dec.{eqb}
+use Rattle.arith.specs.Pick.{pick}
+use Rattle.bus.specs.declared.Access.the-variants as bus
+use Rattle.log_line.specs.declared.Act.{Act}
+use Rattle.log_line.specs.declared.Act.the-variants.{Wait, Access}
+use Rattle.chip.specs.Clock.{chipClock}
+use Rattle.chip.specs.Level.{stateLevel}
+use Rattle.chip.specs.Range.{powerOn}
+use Rattle.chip.specs.Status.{statusByte, statusRead}
+use Rattle.chip.specs.Write.{registerWritten}
+use Rattle.chip.specs.declared.State.{State}
+use Rattle.play_text.specs.declared.Note.{Note}
+use Rattle.play_text.specs.declared.Note.the-variants.{Play, Level, Read, Stop}
+
+-- "a level line appears after a clock or access that leaves the level other than the last written": at time t, in the state s
+unfoldable pub heard : ℕ → ℕ → State → List Note
+heard t last s = pick (eqb (stateLevel s) last) [] (Level t (stateLevel s) ∷ [])
+
+-- n clocks from time t on, and then what follows (after each clock the level is the last written, since another is written at once)
+unfoldable pub waited : List ℕ → ℕ → ℕ → ℕ → State → (ℕ → ℕ → State → List Note) → List Note
+waited memory zero t last s rest = rest t last s
+waited memory (suc n) t last s rest =
+    heard (t + 1) last (chipClock memory s) ++ waited memory n (t + 1) (stateLevel (chipClock memory s)) (chipClock memory s) rest
+
+-- the acts from time t on, in log order: "An access stamped t acts on the state after exactly t clocks, before clock t+1."
+unfoldable pub notesFrom : List ℕ → ℕ → ℕ → State → List Act → List Note
+notesFrom memory t last s [] = Stop t ∷ []
+notesFrom memory t last s (Wait n ∷ acts) = waited memory n t last s (λ t last s. notesFrom memory t last s acts)
+notesFrom memory t last s (Access (bus.Write r v) ∷ acts) =
+    heard t last (registerWritten r v s) ++ notesFrom memory t (stateLevel (registerWritten r v s)) (registerWritten r v s) acts
+notesFrom memory t last s (Access bus.Read ∷ acts) =
+    Read t (statusByte s) ∷ (heard t last (statusRead s) ++ notesFrom memory t (stateLevel (statusRead s)) (statusRead s) acts)
+
+-- `play=1`, the first level at 0, and then what the acts bring, from power-on
+unfoldable pub notesOf : List ℕ → List Act → List Note
+notesOf memory acts = Play ∷ Level 0 (stateLevel powerOn) ∷ notesFrom memory 0 (stateLevel powerOn) powerOn acts

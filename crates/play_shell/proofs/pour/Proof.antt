@@ -1,0 +1,88 @@
+use mathlib.Core.Path.{_≡_}
+use Prim.Native.Nat.{_-_}
+use lib.ListN.{length}
+use borrow.Author.Needs.{needs}
+use Rattle.play_shell.proofs.pour.Statement.{statement}
+use Rattle.play_shell.proofs.pour.Tie as tie
+use Rattle.play_shell.proofs.pour.Reads as reads
+use Rattle.play_shell.proofs.pour.Lts as lts
+use Rattle.play.proofs.play_on.Reads as play-on-reads
+use Rattle.play_shell.proofs.piece.Reads as piece-reads
+
+abbrev Inv-loop : tie.InvT-loop
+Inv-loop log memory out₀ q₀ n₀ out q n = length out ≡ length out₀
+
+abbrev μ-loop : tie.MeasureT-loop
+μ-loop log memory out₀ q₀ n₀ out q n = 1000000000000 - n
+
+-- src/lib.rt:19:5
+loop-holds : tie.Need-loop-holds Inv-loop μ-loop
+loop-holds c = search needs
+
+-- src/lib.rt:20:13
+play-on-requires : tie.Need-play-on-requires Inv-loop μ-loop
+play-on-requires c κs = search needs
+
+-- src/lib.rt:21:13
+piece-requires : tie.Need-piece-requires Inv-loop μ-loop
+piece-requires c κs = search needs
+
+-- src/lib.rt:22:13
+same-length : tie.Need-same-length Inv-loop μ-loop
+same-length c = search needs
+
+-- src/lib.rt:22:13
+returns : tie.Need-returns Inv-loop μ-loop
+returns c = search needs
+
+-- src/lib.rt:25:12
+either-of-requires : tie.Need-either-of-requires Inv-loop μ-loop
+either-of-requires c κs = search needs
+
+-- src/lib.rt:26:13
+same-length-2 : tie.Need-same-length-2 Inv-loop μ-loop
+same-length-2 c = search needs
+
+-- src/lib.rt:25:13
+returns-2 : tie.Need-returns-2 Inv-loop μ-loop
+returns-2 c = search needs
+
+-- src/lib.rt:28:9
+add-n : tie.Need-add-n Inv-loop μ-loop
+add-n c = search needs
+
+-- src/lib.rt:19:5
+loop-less : tie.Need-loop-less Inv-loop μ-loop
+loop-less c = search needs
+
+-- src/lib.rt:19:5
+loop-again : tie.Need-loop-again Inv-loop μ-loop
+loop-again c = search needs
+
+-- src/lib.rt:16:1
+same-length-3 : tie.Need-same-length-3 Inv-loop μ-loop
+same-length-3 c = search needs
+
+-- src/lib.rt:16:1
+returns-3 : tie.Need-returns-3 Inv-loop μ-loop
+returns-3 c = search needs
+
+pub pour-spec : {M : Type 1} → statement M
+pour-spec =
+    tie.close
+    (tie.spec
+    Inv-loop
+    μ-loop
+    loop-holds
+    play-on-requires
+    piece-requires
+    same-length
+    returns
+    either-of-requires
+    same-length-2
+    returns-2
+    add-n
+    loop-less
+    loop-again
+    same-length-3
+    returns-3)

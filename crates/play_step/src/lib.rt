@@ -1,0 +1,140 @@
+// A step of the player over lent bytes: a turn's line, or a stretch of a wait as lines.
+ghost use mathlib.Core.Path.{_≡_};
+ghost use mathlib.Core.Bool.{true};
+ghost use Prim.Native.Nat.{_+_, _-_, _*_, _/_, _≤_, _<_};
+ghost use lib.ListN.{length, getD};
+ghost use lib.Seq.{sets};
+ghost use Rattle.chip.specs.Range.{inRange};
+ghost use Rattle.play_model.specs.Turns.{playerOf};
+ghost use Rattle.play_step.specs.Steps.{takenOf, takenBytes, roomFor, lastIn, stretchOf, stretchText, stretchTaken, waitTaken, waitText, stepTaken, stepBytes};
+use chip::State;
+use play_model::Player;
+use play_turn::Told;
+use play_turn::Went;
+
+// What a step comes to: 0 gone on, 1 over, 2 refused; the player and the bytes written.
+pub struct Taken {
+    pub kind: u8,
+    pub number: u8,
+    pub place: usize,
+    pub player: Player,
+    pub at: usize,
+}
+
+// What a step came to.
+pub fn outcome(kind: u8, number: u8, place: usize, p: Player, at: usize) -> Taken
+    ensures { λ r. ⌜ r ≡ record { kind = kind; number = number; place = place; player = p; at = at } ⌝ }
+{
+    Taken {
+        kind: kind,
+        number: number,
+        place: place,
+        player: p,
+        at: at,
+    }
+}
+
+// A turn's line in the buffer.
+fn take(w: Went, out: &mut [u8], at: usize) -> Taken
+    ensures { λ r. ⌜ r ≡ takenOf (now (out .entry)) at (w .told) (w .player) ⌝ }
+    ensures { λ r. ⌜ now (out .exit) ≡ takenBytes (now (out .entry)) at (w .told) ⌝ }
+{
+    let told = w.told;
+    let p = w.player;
+    match told {
+        Told::Over => outcome(1, 0, 0, p, at),
+        Told::On => outcome(0, 0, 0, p, at),
+        Told::Says(n) => {
+            let next = play_text::put(out, at, n);
+            outcome(0, 0, 0, p, next)
+        }
+        Told::Refused(k, q) => outcome(2, k, q, p, at),
+    }
+}
+
+fn wide(x: u32) -> u64
+    ensures { λ r. ⌜ r ≡ x ⌝ }
+    ensures { λ r. ⌜ r ≤ 4294967295 ⌝ }
+{
+    x as u64
+}
+
+// The last of n levels, or the one before them.
+fn last_level(last: u16, words: &[u32], n: usize) -> u16
+    requires { ⌜ 2 * n ≤ length (now words) ⌝ }
+    requires { ⌜ (0 < n → getD (now words) (2 * n - 1) 0 ≤ 65535) ⌝ }
+    ensures { λ r. ⌜ r ≡ lastIn last n (now (words .entry)) ⌝ }
+{
+    if n == 0 {
+        return last;
+    }
+    let j = 2 * n - 1;
+    words[j] as u16
+}
+
+// The player behind a stretch of its wait.
+fn behind(p: Player, done: u32, last: u16, s: State) -> Player
+    requires { ⌜ (done ≤ p .wait) × (p .time + done ≤ 2000000000) ⌝ }
+    ensures { λ r. ⌜ r ≡ playerOf (p .phase) (p .wait - done) (p .time + done) last s (p .cursor) ⌝ }
+{
+    let mut q = p;
+    q.wait = p.wait - done;
+    q.time = p.time + done;
+    q.last = last;
+    q.state = s;
+    q
+}
+
+// How many records surely fit as lines, at most 256.
+fn room(size: usize, at: usize) -> usize
+    ensures { λ r. ⌜ r ≡ roomFor size at ⌝ }
+{
+    if size < at {
+        return 0;
+    }
+    let n = (size - at) / 23;
+    if n < 256 { n } else { 256 }
+}
+
+// A stretch of a wait, as many records as surely fit.
+fn waited(p: Player, memory: &[u8], out: &mut [u8], at: usize, words: &mut [u32]) -> Taken
+    requires { ⌜ (p .time + p .wait ≤ 2000000000) × (length (now words) ≡ 512) ⌝ }
+    ensures { λ r. ⌜ r ≡ stretchTaken p at (stretchOf (now (memory .entry)) (roomFor (length (now (out .entry))) at) p) ⌝ }
+    ensures { λ r. ⌜ now (out .exit) ≡ sets (now (out .entry)) at (stretchText p (stretchOf (now (memory .entry)) (roomFor (length (now (out .entry))) at) p)) ⌝ }
+{
+    let end = 2 * room(out.len(), at);
+    let s = p.state;
+    let ran = run::run(s, memory, wide(p.wait), &mut words[..end]);
+    let n = ran.records as usize;
+    let next = play_text::level_lines(out, at, p.time, words, n);
+    let last = last_level(p.last, words, n);
+    let after = ran.state;
+    outcome(0, 0, 0, behind(p, ran.done, last, after), next)
+}
+
+// A wait. 3: more than 1,000,000 clocks; 9: over 2,000,000,000 clocks in all.
+fn wait_step(p: Player, memory: &[u8], out: &mut [u8], at: usize) -> Taken
+    ensures { λ r. ⌜ r ≡ waitTaken (now (memory .entry)) (roomFor (length (now (out .entry))) at) p at ⌝ }
+    ensures { λ r. ⌜ now (out .exit) ≡ sets (now (out .entry)) at (waitText (now (memory .entry)) (roomFor (length (now (out .entry))) at) p) ⌝ }
+{
+    if 1000000 < p.wait {
+        return outcome(2, 3, 0, p, at);
+    }
+    if 2000000000 < wide(p.time) + wide(p.wait) {
+        return outcome(2, 9, 0, p, at);
+    }
+    let mut words = [0u32; 512];
+    waited(p, memory, out, at, &mut words)
+}
+
+// A turn of the player, or as many as a stretch of a wait has.
+pub fn step(p: Player, log: &[u8], memory: &[u8], out: &mut [u8], at: usize) -> Taken
+    ensures { λ r. ⌜ r ≡ stepTaken (now (log .entry)) (now (memory .entry)) p (now (out .entry)) at ⌝ }
+    ensures { λ r. ⌜ now (out .exit) ≡ stepBytes (now (log .entry)) (now (memory .entry)) p (now (out .entry)) at ⌝ }
+    ensures { λ r. ⌜ (inRange (p .state) ≡ true → inRange (r .player .state) ≡ true) ⌝ }
+{
+    if p.phase == 2 && p.wait != 0 {
+        return wait_step(p, memory, out, at);
+    }
+    take(play_turn::turn(log, p), out, at)
+}

@@ -1,0 +1,244 @@
+// The turns of a player that waits for nothing: the opening lines, the log's next line, the end.
+ghost use mathlib.Core.Path.{_≡_};
+ghost use lib.Dec.{eqb};
+ghost use Rattle.arith.specs.Pick.{pick};
+ghost use Rattle.play_model.specs.Turns.{playerOf, freshPlayer, endedPlayer, accessed, acted, stepSaid, cursorTurn, phaseTurn};
+ghost use Rattle.play_turn.specs.Turned.{went, foundSaid, Keeps};
+use bus::Access;
+use chip::State;
+use log_cursor::Cursor;
+use log_cursor::Found;
+use log_line::Act;
+use play_model::Player;
+use play_text::Note;
+
+// What a turn says: that all is over; nothing; a line; or a refusal's number and place.
+pub enum Told {
+    Over,
+    On,
+    Says(Note),
+    Refused(u8, usize),
+}
+
+// What a turn says, and the player behind it.
+pub struct Went {
+    pub told: Told,
+    pub player: Player,
+}
+
+// The player at a log's beginning.
+fn fresh() -> Player
+    ensures { λ r. ⌜ r ≡ freshPlayer ⌝ }
+{
+    let s = chip::power_on();
+    let c = log_cursor::start();
+    Player {
+        phase: 0,
+        wait: 0,
+        time: 0,
+        last: 0,
+        state: s,
+        cursor: c,
+    }
+}
+
+// A player with nothing to play.
+fn ended() -> Player
+    ensures { λ r. ⌜ r ≡ endedPlayer ⌝ }
+{
+    let mut p = fresh();
+    p.phase = 3;
+    p
+}
+
+// The player that a log begins with: at its beginning where it can be played, else one with nothing to play.
+pub fn first(passes: bool) -> Player
+    ensures { λ r. ⌜ r ≡ pick passes freshPlayer endedPlayer ⌝ }
+{
+    if passes { fresh() } else { ended() }
+}
+
+// Behind an access that led to the state s.
+fn heard_at(p: Player, s: State, c: Cursor) -> Went
+    ensures { λ r. ⌜ r ≡ went (accessed p s c) ⌝ }
+{
+    let level = s.level();
+    if level == p.last {
+        return Went {
+            told: Told::On,
+            player: Player {
+                phase: 2,
+                wait: 0,
+                time: p.time,
+                last: p.last,
+                state: s,
+                cursor: c,
+            },
+        };
+    }
+    Went {
+        told: Told::Says(Note::Level(p.time, level)),
+        player: Player {
+            phase: 2,
+            wait: 0,
+            time: p.time,
+            last: level,
+            state: s,
+            cursor: c,
+        },
+    }
+}
+
+// A status read.
+fn status_read(p: Player, c: Cursor) -> Went
+    ensures { λ r. ⌜ r ≡ went (acted p (Act.Access Access.Read) c) ⌝ }
+    ensures { λ r. ⌜ Keeps p r ⌝ }
+{
+    let s = p.state;
+    let byte = s.status();
+    let next = s.read();
+    Went {
+        told: Told::Says(Note::Read(p.time, byte)),
+        player: Player {
+            phase: 2,
+            wait: 0,
+            time: p.time,
+            last: p.last,
+            state: next,
+            cursor: c,
+        },
+    }
+}
+
+// A register written.
+fn write_at(p: Player, r: u16, v: u8, c: Cursor) -> Went
+    ensures { λ w. ⌜ w ≡ went (acted p (Act.Access (Access.Write r v)) c) ⌝ }
+    ensures { λ w. ⌜ Keeps p w ⌝ }
+{
+    let s = p.state;
+    heard_at(p, s.written(r, v), c)
+}
+
+// An access of the log.
+fn at_access(p: Player, x: Access, c: Cursor) -> Went
+    ensures { λ r. ⌜ r ≡ went (acted p (Act.Access x) c) ⌝ }
+    ensures { λ r. ⌜ Keeps p r ⌝ }
+{
+    match x {
+        Access::Write(r, v) => write_at(p, r, v, c),
+        Access::Read => status_read(p, c),
+    }
+}
+
+// An act of the log.
+fn at_act(p: Player, a: Act, c: Cursor) -> Went
+    ensures { λ r. ⌜ r ≡ went (acted p a c) ⌝ }
+    ensures { λ r. ⌜ Keeps p r ⌝ }
+{
+    match a {
+        Act::Wait(n) => {
+            let s = p.state;
+            Went {
+                told: Told::On,
+                player: Player {
+                    phase: 2,
+                    wait: n,
+                    time: p.time,
+                    last: p.last,
+                    state: s,
+                    cursor: c,
+                },
+            }
+        }
+        Act::Access(x) => at_access(p, x, c),
+    }
+}
+
+// The player at another place of the log.
+fn at_cursor(p: Player, phase: u8, c: Cursor) -> Player
+    ensures { λ r. ⌜ r ≡ playerOf phase 0 (p .time) (p .last) (p .state) c ⌝ }
+{
+    let s = p.state;
+    Player {
+        phase: phase,
+        wait: 0,
+        time: p.time,
+        last: p.last,
+        state: s,
+        cursor: c,
+    }
+}
+
+// What a step of the cursor found.
+fn stepped_to(p: Player, f: Found, c: Cursor) -> Went
+    ensures { λ r. ⌜ r ≡ went (stepSaid p (foundSaid f) c) ⌝ }
+    ensures { λ r. ⌜ Keeps p r ⌝ }
+{
+    match f {
+        Found::Act(a) => at_act(p, a, c),
+        Found::Moved => Went {
+            told: Told::On,
+            player: at_cursor(p, 2, c),
+        },
+        Found::End => Went {
+            told: Told::Says(Note::Stop(p.time)),
+            player: at_cursor(p, 3, c),
+        },
+        Found::Refused(k, q) => Went {
+            told: Told::Refused(k, q),
+            player: p,
+        },
+    }
+}
+
+// The log's next line.
+fn cursor_turn(log: &[u8], p: Player) -> Went
+    ensures { λ r. ⌜ r ≡ went (cursorTurn (now (log .entry)) p) ⌝ }
+    ensures { λ r. ⌜ Keeps p r ⌝ }
+{
+    let c = p.cursor;
+    let s = log_cursor::step(log, c);
+    let f = s.found;
+    let next = s.cursor;
+    stepped_to(p, f, next)
+}
+
+// The first two lines, and the end.
+fn phase_turn(p: Player) -> Went
+    ensures { λ r. ⌜ r ≡ went (phaseTurn p) ⌝ }
+    ensures { λ r. ⌜ Keeps p r ⌝ }
+{
+    let mut q = p;
+    if p.phase == 0 {
+        q.phase = 1;
+        return Went {
+            told: Told::Says(Note::Play),
+            player: q,
+        };
+    }
+    if p.phase == 1 {
+        let s = p.state;
+        let level = s.level();
+        q.phase = 2;
+        q.last = level;
+        return Went {
+            told: Told::Says(Note::Level(p.time, level)),
+            player: q,
+        };
+    }
+    Went {
+        told: Told::Over,
+        player: p,
+    }
+}
+
+// A turn of a player that waits for nothing.
+pub fn turn(log: &[u8], p: Player) -> Went
+    ensures { λ r. ⌜ r ≡ went (pick (eqb (p .phase) 2) (cursorTurn (now (log .entry)) p) (phaseTurn p)) ⌝ }
+    ensures { λ r. ⌜ Keeps p r ⌝ }
+{
+    if p.phase == 2 {
+        return cursor_turn(log, p);
+    }
+    phase_turn(p)
+}

@@ -1,2 +1,0 @@
-pub mod Lags
-pub mod Readings

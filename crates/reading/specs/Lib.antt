@@ -1,2 +1,0 @@
-pub mod Lag
-pub mod Reading

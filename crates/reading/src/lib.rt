@@ -1,1 +1,0 @@
-// The plain reading, over any machine: definitions and laws, no code.

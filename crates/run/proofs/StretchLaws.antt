@@ -1,0 +1,221 @@
+-- What a stretch's loops hold, and how an event keeps it. Assumes nothing.
+use Prim.Native.Nat.{ℕ, _+_, _-_, _*_, _/_, _≤_, _<_}
+use mathlib.Core.Path.{_≡_, refl, sym, ap, _∙_}
+use mathlib.Core.Bool.{Bool, true, false}
+use mathlib.Core.List.{List}
+use native.Mathlib.Omega.{arith}
+use lib.Dec.{eqb}
+use lib.ListN.{length, length-set}
+use borrow.Author.Tests.{eqb-true, eqb-false}
+use Rattle.arith.specs.Iterate.{iterate}
+use Rattle.arith.specs.Pick.{pick}
+use Rattle.arith.proofs.IterateLaws.{iterate-zero, iterate-add, iterate-more, iterate-keeps}
+use Rattle.divider.specs.Divider.{forever}
+use Rattle.chip_frame.specs.Leap.{frameBefore}
+use Rattle.chip_frame.proofs.LeapLaws.{before-most}
+use Rattle.chip.specs.Clock.{chipClock}
+use Rattle.chip.specs.Level.{stateLevel}
+use Rattle.chip.specs.Range.{inRange, Bytes}
+use Rattle.chip.specs.declared.State.{State}
+use Rattle.chip.proofs.RangeLaws.{StateRanged, state-in, state-back, clock-kept}
+use Rattle.leap_stretch.specs.Lagged.{lagsAt, lagsOf, renewed, stateAt}
+use Rattle.leap_stretch.specs.declared.Lags.{Lags}
+use Rattle.leap_stretch.proofs.LaggedLaws.{Lagging, lagging-start, next-past, lagging-renewed, lagging-level, lagging-state, event-level}
+use Rattle.run_answer.specs.Run.{roomOf, stored}
+use Rattle.run_answer.specs.Held.{Held}
+use Rattle.run_answer.proofs.WordLaws.{stored-in}
+use Rattle.run_answer.proofs.RunLaws.{held-at, held-length, held-leap, held-same, held-mark}
+use Rattle.run.specs.Segment.{Standing, Worked, Segmented}
+use Rattle.run.specs.declared.Segment.{Segment}
+
+-- nothing done yet
+pub worked-none : (memory : List ℕ) (s : State) (end base : ℕ) (words : List ℕ) (l : Lags) (n : ℕ) → Standing memory s end base words l n
+    → Worked memory s end base (l .now) n words words l n
+worked-none memory s end base words l n g =
+    record { standing = g; on = omega arith; same-length = refl; held = λ s₀ words₀ q. q }
+
+-- one part after another
+pub worked-on : (memory : List ℕ) (s : State) (end base from records : ℕ) (before between words : List ℕ) (l₀ l : Lags) (n₀ n : ℕ)
+    → Worked memory s end base from records before between l₀ n₀ → Worked memory s end base (l₀ .now) n₀ between words l n
+    → Worked memory s end base from records before words l n
+worked-on memory s end base from records before between words l₀ l n₀ n a b =
+    record {
+      standing = b .standing;
+      on = omega (arith, a .on, b .on);
+      same-length = b .same-length ∙ a .same-length;
+      held = λ s₀ words₀ q. b .held s₀ words₀ (a .held s₀ words₀ q);
+    }
+
+-- the start of a stretch
+pub standing-start : (memory : List ℕ) (s : State) (end base : ℕ) (words : List ℕ) (n : ℕ) → inRange s ≡ true → end ≤ frameBefore (s .frame)
+    → base + end ≤ 1000000 → n ≤ base → n ≤ length words / 2 → Standing memory s end base words (lagsOf s) n
+unfolding lagsOf lagsAt
+standing-start memory s end base words n r b f h m =
+    record { ranged = r; short = b; far = f; lagging = lagging-start memory s; now = omega arith; most = m; few = omega arith }
+
+pub worked-start : (memory : List ℕ) (s : State) (end base : ℕ) (words : List ℕ) (n : ℕ) → inRange s ≡ true → end ≤ frameBefore (s .frame)
+    → base + end ≤ 1000000 → n ≤ base → n ≤ length words / 2 → Worked memory s end base 0 n words words (lagsOf s) n
+unfolding lagsOf lagsAt
+worked-start memory s end base words n r b f h m =
+    worked-none memory s end base words (lagsOf s) n (standing-start memory s end base words n r b f h m)
+
+module _ (memory : List ℕ) (bytes : Bytes memory) (s : State) (end base from records : ℕ) (before words : List ℕ) (l : Lags) (n : ℕ)
+    (w : Worked memory s end base from records before words l n) where
+  abbrev at : Standing memory s end base words l n
+  at = w .standing
+
+  r : StateRanged s
+  r = state-in s (w .standing .ranged)
+
+  ranged : (k : ℕ) → inRange (iterate (chipClock memory) k s) ≡ true
+  ranged k = state-back _ (iterate-keeps StateRanged (chipClock memory) (clock-kept memory bytes) k s r)
+
+  -- the next event is past now
+  pub past : l .now < l .next
+  past = next-past memory s l (w .standing .lagging)
+
+  -- at any clock up to the next event
+  to : (k : ℕ) → l .now ≤ k → k < l .next → k ≤ end → (s₀ : State) (words₀ : List ℕ)
+      → Held memory s₀ words₀ before (iterate (chipClock memory) from s) (base + from) records
+      → Held memory s₀ words₀ words (iterate (chipClock memory) k s) (base + k) n
+  to k h q m s₀ words₀ x =
+      held-at
+      (sym (iterate-add (chipClock memory) (l .now) (k - l .now) s) ∙ ap (λ (i : ℕ). iterate (chipClock memory) i s) (omega arith))
+      (omega arith)
+      (held-leap memory s₀ words₀ words (iterate (chipClock memory) (l .now) s) (base + l .now) n (w .held s₀ words₀ x) (k - l .now) quiet)
+    where
+      quiet : (i : ℕ) → i ≤ k - l .now
+          → stateLevel (iterate (chipClock memory) i (iterate (chipClock memory) (l .now) s)) ≡ stateLevel (iterate (chipClock memory) (l .now) s)
+      quiet i p =
+          let b = w .standing .short in
+          ap stateLevel (sym (iterate-add (chipClock memory) (l .now) i s))
+          ∙ lagging-level memory bytes s r l (w .standing .lagging) (l .now + i) (omega arith) (omega arith) (omega arith)
+          ∙ sym (lagging-level memory bytes s r l (w .standing .lagging) (l .now) (omega arith) (omega arith) (omega (arith, w .standing .now)))
+
+  -- a stop before the next event
+  pub worked-stop : (k : ℕ) → l .now ≤ k → k < l .next → k ≤ end → from ≡ 0
+      → Segmented memory s end base records before words (record { state = stateAt s l k; clocks = k; records = n; level = l .level })
+  worked-stop k h q m z =
+      let b = w .standing .short in
+      rw (lagging-state memory bytes s r l (w .standing .lagging) k h q (omega arith))
+      (record {
+        most = m;
+        level = sym (lagging-level memory bytes s r l (w .standing .lagging) k h q (omega arith));
+        ranged = ranged k;
+        held =
+            λ s₀ words₀ x.
+            to k h q m s₀ words₀
+            (held-at (sym (iterate-zero (chipClock memory) s) ∙ ap (λ (i : ℕ). iterate (chipClock memory) i s) (sym z)) (omega arith) x);
+      })
+
+  module _ (e : l .next ≤ end) where
+    reach : l .next ≤ forever
+    reach = omega (arith, before-most (s .frame), w .standing .short)
+
+    brink : State
+    brink = iterate (chipClock memory) (l .next - 1) s
+
+    over-brink : chipClock memory brink ≡ iterate (chipClock memory) (l .next) s
+    unfolding brink
+    over-brink =
+        let p = past in
+        sym (iterate-more (chipClock memory) (l .next - 1) s) ∙ ap (λ (i : ℕ). iterate (chipClock memory) i s) (omega arith)
+
+    level-brink : stateLevel brink ≡ l .level
+    unfolding brink
+    level-brink =
+        let p = past in
+        let b = w .standing .short in
+        lagging-level memory bytes s r l (w .standing .lagging) (l .next - 1) (omega arith) (omega arith) (omega arith)
+
+    level-over : stateLevel (chipClock memory brink) ≡ renewed memory l (l .next) .level
+    level-over =
+        let b = w .standing .short in
+        ap stateLevel over-brink ∙ event-level memory bytes s r l (w .standing .lagging) (omega arith)
+
+    held-brink : (s₀ : State) (words₀ : List ℕ)
+        → Held memory s₀ words₀ before (iterate (chipClock memory) from s) (base + from) records
+        → Held memory s₀ words₀ words brink (base + (l .next - 1)) n
+    unfolding brink
+    held-brink = let p = past in to (l .next - 1) (omega arith) (omega arith) (omega arith)
+
+    count-over : base + (l .next - 1) + 1 ≡ base + l .next
+    count-over = let p = past in omega arith
+
+    -- an event that leaves the level
+    worked-same : renewed memory l (l .next) .level ≡ l .level
+        → Worked memory s end base from records before words (renewed memory l (l .next)) n
+    unfolding renewed lagsAt
+    worked-same q =
+        let p = past in
+        record {
+          standing =
+              record {
+                ranged = w .standing .ranged;
+                short = w .standing .short;
+                far = w .standing .far;
+                lagging = lagging-renewed memory bytes s r l (w .standing .lagging) reach;
+                now = e;
+                most = w .standing .most;
+                few = omega (arith, w .standing .few);
+              };
+          on = omega (arith, w .on);
+          same-length = w .same-length;
+          held =
+              λ s₀ words₀ x.
+              held-at over-brink count-over
+              (held-same memory s₀ words₀ words brink (base + (l .next - 1)) n (held-brink s₀ words₀ x) (level-over ∙ q ∙ sym level-brink));
+        }
+
+    changes : (renewed memory l (l .next) .level ≡ l .level → ⊥) → stateLevel (chipClock memory brink) ≡ stateLevel brink → ⊥
+    changes q z = q (sym level-over ∙ z ∙ level-brink)
+
+    -- an event with its record
+    worked-mark : (renewed memory l (l .next) .level ≡ l .level → ⊥) → n < roomOf words
+        → Worked memory s end base from records before (stored words n (base + l .next) (renewed memory l (l .next) .level))
+        (renewed memory l (l .next)) (n + 1)
+    unfolding renewed lagsAt
+    worked-mark q m =
+        let p = past in
+        let same : length (stored words n (base + l .next) (renewed memory l (l .next) .level)) ≡ length words =
+        ap length (stored-in words n (base + l .next) (renewed memory l (l .next) .level) (omega arith)) ∙ simp length-set refl
+        in
+        record {
+          standing =
+              record {
+                ranged = w .standing .ranged;
+                short = w .standing .short;
+                far = w .standing .far;
+                lagging = lagging-renewed memory bytes s r l (w .standing .lagging) reach;
+                now = e;
+                most = omega (arith, same);
+                few = omega (arith, w .standing .few);
+              };
+          on = omega (arith, w .on);
+          same-length = same ∙ w .same-length;
+          held =
+              λ s₀ words₀ x.
+              let room : n < roomOf words₀ =
+              omega (arith, w .same-length, held-length memory s₀ words₀ before (iterate (chipClock memory) from s) (base + from) records x)
+              in
+              let y = held-mark memory s₀ words₀ words brink (base + (l .next - 1)) n (held-brink s₀ words₀ x) (changes q) room in
+              held-at over-brink refl (rw (level-over, count-over) at y);
+        }
+
+    -- ONE EVENT, with its record where the level is another
+    pub worked-event : n < roomOf words → (after : Lags) → after ≡ renewed memory l (l .next) → (now : List ℕ) (m : ℕ)
+        → m ≡ pick (eqb (after .level) (l .level)) n (n + 1)
+        → now ≡ pick (eqb (after .level) (l .level)) words (stored words n (base + l .next) (after .level))
+        → Worked memory s end base from records before now after m
+    worked-event m after z now k y x = rw (y, x, z) (go (eqb (renewed memory l (l .next) .level) (l .level)) refl)
+      where
+        go : (t : Bool) → eqb (renewed memory l (l .next) .level) (l .level) ≡ t
+            → Worked memory s end base from records before
+            (pick t words (stored words n (base + l .next) (renewed memory l (l .next) .level))) (renewed memory l (l .next)) (pick t n (n + 1))
+        go true d = worked-same (eqb-true _ _ d)
+        go false d = worked-mark (eqb-false _ _ d) m
+
+-- an event is at the clock that was its next
+pub event-now : (memory : List ℕ) (l : Lags) (e : ℕ) → renewed memory l e .now ≡ e
+unfolding renewed lagsAt
+event-now memory l e = refl

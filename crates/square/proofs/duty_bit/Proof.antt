@@ -1,8 +1,0 @@
-use borrow.Author.Needs.{needs}
-use Rattle.square.specs.Sequencer.{dutyBit}
-use Rattle.square.proofs.duty_bit.Statement.{statement}
-use Rattle.square.proofs.duty_bit.Tie as tie
-
-pub duty-bit-spec : {M : Type 1} → statement M
-unfolding dutyBit
-duty-bit-spec = tie.close (tie.spec (λ c. search needs) (λ c. search needs) (λ c. search needs) (λ c. search needs) (λ c. search needs))

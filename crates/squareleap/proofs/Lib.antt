@@ -1,3 +1,0 @@
-pub mod Leaps
-pub mod Packs
-pub mod Turns

@@ -1,0 +1,219 @@
+// What is answered about each log of data/: 000.log, 001.log and so on, up to the first that is not there.
+ghost use Prim.Native.Nat.{_≤_};
+use bus::Access;
+use libc::STDOUT_FILENO;
+use log_line::Act;
+
+fn text(t: &[u8]) {
+    io::write_all(STDOUT_FILENO, t);
+}
+
+fn number(n: u64) {
+    io::print_decimal(STDOUT_FILENO, n);
+}
+
+// A refusal's number and place, behind a key.
+fn place(key: &[u8], k: u8, at: usize) {
+    text(key);
+    number(k as u64);
+    text(b":");
+    number(at as u64);
+}
+
+fn access(a: Access) {
+    match a {
+        Access::Write(register, value) => {
+            text(b"write:");
+            number(register as u64);
+            text(b":");
+            number(value as u64);
+        }
+        Access::Read => text(b"read"),
+    }
+}
+
+fn act(a: Act) {
+    match a {
+        Act::Wait(n) => {
+            text(b"wait:");
+            number(n as u64);
+        }
+        Act::Access(x) => access(x),
+    }
+}
+
+// Item k.
+fn item(log: &[u8], k: u64) {
+    text(b"item=");
+    number(k);
+    text(b" ");
+    let f = log_parts::items::item(log, k);
+    match f {
+        log_parts::Found::Is(a) => act(a),
+        log_parts::Found::Refused(n, at) => place(b"refused=", n, at),
+    }
+    text(b"\n");
+}
+
+fn wide(x: u8) -> u64 {
+    x as u64
+}
+
+// The sum of the bytes of a part of a log.
+fn sum(part: &[u8]) -> u64 {
+    let mut s: u64 = 0;
+    for i in 0..part.len() {
+        s = std::num::wrapping_add_u64(s, wide(part[i]));
+    }
+    s
+}
+
+// The body of the loop at an offset.
+fn body(log: &[u8], offset: usize) {
+    text(b"body=");
+    number(offset as u64);
+    let a = log_parts::bodies::body_check(log, offset);
+    place(b" check=", a.number, a.place);
+    let part = log_parts::bodies::body(log, offset);
+    text(b" bytes=");
+    number(part.len() as u64);
+    text(b" sum=");
+    number(sum(part));
+    text(b"\n");
+}
+
+// 1 for an act, and 0 for anything else that a step finds.
+fn acts(f: log_cursor::Found) -> u64
+    ensures { λ r. ⌜ r ≤ 1 ⌝ }
+{
+    match f {
+        log_cursor::Found::Act(_) => 1,
+        log_cursor::Found::Moved => 0,
+        log_cursor::Found::End => 0,
+        log_cursor::Found::Refused(_, _) => 0,
+    }
+}
+
+// Whether a walk goes on behind what a step found.
+fn goes_on(f: log_cursor::Found) -> bool {
+    match f {
+        log_cursor::Found::Act(_) => true,
+        log_cursor::Found::Moved => true,
+        log_cursor::Found::End => false,
+        log_cursor::Found::Refused(_, _) => false,
+    }
+}
+
+// How a walk came out.
+fn outcome(f: log_cursor::Found) {
+    match f {
+        log_cursor::Found::Act(_) => text(b" more\n"),
+        log_cursor::Found::Moved => text(b" more\n"),
+        log_cursor::Found::End => text(b" end\n"),
+        log_cursor::Found::Refused(k, at) => {
+            place(b" refused=", k, at);
+            text(b"\n");
+        }
+    }
+}
+
+fn walked(items: u64, steps: u64, f: log_cursor::Found) {
+    text(b"cursor=");
+    number(items);
+    text(b":");
+    number(steps);
+    outcome(f);
+}
+
+// The items that a cursor hands out in so many steps at most, and its steps.
+fn walk(log: &[u8], most: u64) {
+    let mut c = log_cursor::start();
+    let mut items: u64 = 0;
+    let mut steps: u64 = 0;
+    while steps < most {
+        let s = log_cursor::step(log, c);
+        let f = s.found;
+        steps += 1;
+        items += acts(f);
+        if goes_on(f) {
+            c = s.cursor;
+        } else {
+            walked(items, steps, f);
+            return;
+        }
+    }
+    walked(items, steps, log_cursor::Found::Moved);
+}
+
+// Items and bodies of a log that passes with so many items.
+fn parts(log: &[u8], n: u64) {
+    item(log, 0);
+    item(log, 1);
+    item(log, 2);
+    item(log, 3);
+    item(log, n / 2);
+    item(log, std::num::wrapping_sub_u64(n, 1));
+    item(log, n);
+    item(log, 18446744073709551615);
+    body(log, 0);
+    body(log, 6);
+    body(log, 13);
+    body(log, 20);
+    body(log, 27);
+    body(log, 41);
+    body(log, log.len());
+    body(log, 18446744073709551615);
+}
+
+// A log that passes is through in 2,000,002 steps; one that does not may never be.
+fn judged(log: &[u8]) {
+    let c = log_check::check(log);
+    place(b"check=", c.number, c.place);
+    text(b" clocks=");
+    number(c.clocks);
+    text(b" turns=");
+    number(c.turns);
+    text(b" items=");
+    number(c.items);
+    text(b"\n");
+    if c.number == 0 {
+        parts(log, c.items);
+        walk(log, 2000002);
+    } else {
+        item(log, 0);
+        body(log, 6);
+        walk(log, 5000);
+    }
+}
+
+// One log, by its number; whether it is there.
+fn one(k: u16) -> bool {
+    let name = [
+        b'0' + (k / 100 % 10) as u8,
+        b'0' + (k / 10 % 10) as u8,
+        b'0' + (k % 10) as u8,
+        b'.',
+        b'l',
+        b'o',
+        b'g',
+    ];
+    let file = os::open_read(&name);
+    if file < 0 {
+        return false;
+    }
+    let mut log = [0u8; 60001];
+    let n = io::read_full(file, &mut log);
+    libc::close(file);
+    text(b"log=");
+    text(&name[..3]);
+    text(b"\n");
+    judged(&log[..n]);
+    true
+}
+
+fn main() {
+    let mut k: u16 = 0;
+    while k < 1000 && one(k) {
+        k += 1;
+    }
+}

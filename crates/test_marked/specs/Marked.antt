@@ -1,0 +1,125 @@
+-- Document 01, "Marked for one shared table": the cases as one table, and one statement that every row holds.
+use Prim.Native.Nat.{ℕ, _+_}
+use mathlib.Core.Path.{_≡_, refl}
+use mathlib.Core.Bool.{Bool, true, false}
+use mathlib.Core.List.{List, [], _∷_}
+use lib.IntN.{ℤ, pos, negsuc}
+use Rattle.chip_mixer.specs.Mixer.{squaresLevel, mixed, weight, restLevel}
+use Rattle.chip_units.specs.Sweep.{target, muted, lowPeriod, highTarget, sweeps, sweptPeriod, sweepClock}
+use Rattle.chip_noise.specs.Shifter.{shiftedOf, shifterClock}
+use Rattle.chip_dmc.specs.Clock.{dmcRead, dmcOutput, dmcTimed, outputClock, outputStep, emptied, readerClock, pending, fetched, nextAddress, byteAt, sampleEnded, restarted, flagged, levelMoved}
+use Rattle.chip_dmc.specs.Range.{dmcOn}
+use Rattle.chip.specs.Clock.{chipClock, timersClocked, readerClocked, envelopesClocked, lengthsClocked, stepped, framed}
+use Rattle.chip.specs.Level.{stateLevel}
+use Rattle.chip.specs.Range.{powerOn}
+use Rattle.chip.specs.Status.{statusByte, statusRead}
+use Rattle.chip.specs.Write.{registerWritten, channelWritten, controlWritten, enablesWritten}
+use Rattle.chip_square.specs.Square.{squareOutput, squareAmount, squareTimed, squareEnveloped, squareSwept, squareEnabled}
+use Rattle.chip_square.specs.Sequencer.{sequencerClock, dutyBit}
+use Rattle.chip_square.specs.Write.{squareWrite, squareWrite3, sequencerHigh}
+use Rattle.chip_triangle.specs.Triangle.{triangleOutput, triangleAt, triangleTimed, runs, triangleSequenced, triangleLinear, triangleLengthened, triangleEnabled}
+use Rattle.chip_noise.specs.Noise.{noiseOutput, noiseAmount, noiseTimed, noiseEnveloped, noiseLengthened, noiseEnabled}
+use Rattle.chip_dmc.specs.Write.{dmcWrite, dmcWrite3, dmcEnabled, switched}
+use Rattle.chip_frame.specs.Frame.{frameDue, frameMoved, clocksEnvelopes, clocksLengths, frameStepped, frameRead}
+use Rattle.chip_units.specs.Timer.{timerClock, periodHigh}
+use Rattle.chip_units.specs.Length.{lengthLoaded, lengthClock, lengthEnabled}
+use Rattle.chip_units.specs.Envelope.{envelopeClock, envelopeStarted, envelopeDivided, decayed, volume, envelopeBegun}
+use Rattle.chip_units.specs.Linear.{linearClock}
+use Rattle.chip.specs.Table.{noisePeriod, dmcPeriod}
+use Rattle.chip_units.specs.declared.sweep.Sweep.{Sweep}
+use Rattle.chip_dmc.specs.declared.Dmc.{Dmc}
+use Rattle.log_judge.specs.Judge.{judged, judge, ending}
+use Rattle.log_judge.specs.Lines.{linesOf}
+use Rattle.log_judge.specs.Whole.{checkOf, unlessWrong}
+use Rattle.chip.specs.declared.State.{State}
+
+-- a row: what a definition gives, and what it is to be
+pub data Row : Type 0 where
+  number : ℕ → ℕ → Row
+  signed : ℤ → ℤ → Row
+  flag : Bool → Bool → Row
+
+-- every row's two sides are equal
+abbrev pub Holds : List Row → Type 0
+Holds [] = Unit {0}
+Holds (number a b ∷ rows) = (a ≡ b) × Holds rows
+Holds (signed a b ∷ rows) = (a ≡ b) × Holds rows
+Holds (flag a b ∷ rows) = (a ≡ b) × Holds rows
+
+-- power-on, but for the frame's phase and step
+abbrev pub atPhase : ℕ → ℕ → State
+atPhase phase step =
+    record {
+      square1 = powerOn .square1;
+      square2 = powerOn .square2;
+      triangle = powerOn .triangle;
+      noise = powerOn .noise;
+      dmc = powerOn .dmc;
+      frame = record { mode = false; disable = false; phase = phase; step = step; interrupt = false };
+    }
+
+-- a sweep with this shift
+abbrev pub sweepBy : Bool → ℕ → Sweep
+sweepBy negate shift = record { enable = false; negate = negate; period = 0; shift = shift; written = false; divider = 1 }
+
+-- the DMC about to fetch from an address
+abbrev pub fetching : ℕ → Dmc
+fetching address =
+    record {
+      registers = dmcOn .registers;
+      output = dmcOn .output;
+      reader = record { address = address; remaining = 2; buffer = 0; full = false; interrupt = false };
+    }
+
+-- whatever the sample memory holds
+abbrev pub marked : List ℕ → List Row
+marked memory =
+    -- (1) power-on level 8074
+    number (stateLevel powerOn) 8074
+    -- (2) squares 15, 0 give A 4894
+    ∷ number (squaresLevel (15 + 0)) 4894
+    -- (3) phase 14912 becomes 14914 with no step, 14913 becomes 0 and 14914 becomes 1, each with a step
+    ∷ number (chipClock memory (atPhase 14912 0) .frame .phase) 14914
+    ∷ number (chipClock memory (atPhase 14912 0) .frame .step) 0
+    ∷ number (chipClock memory (atPhase 14913 0) .frame .phase) 0
+    ∷ number (chipClock memory (atPhase 14913 0) .frame .step) 1
+    ∷ number (chipClock memory (atPhase 14914 0) .frame .phase) 1
+    ∷ number (chipClock memory (atPhase 14914 0) .frame .step) 1
+    -- (4) power-on but phase 14913, step 3: status 00, after one clock 40, read again 00
+    ∷ number (statusByte (atPhase 14913 3)) 0x00
+    ∷ number (statusByte (chipClock memory (statusRead (atPhase 14913 3)))) 0x40
+    ∷ number (statusByte (statusRead (chipClock memory (statusRead (atPhase 14913 3))))) 0x00
+    -- (5) period 1000, S 1, negate: 499 and 500
+    ∷ signed (target false (sweepBy true 1) 1000) (pos 499)
+    ∷ signed (target true (sweepBy true 1) 1000) (pos 500)
+    -- (6) square 1, S 0, negate, period 8: target -1, not muted
+    ∷ signed (target false (sweepBy true 0) 8) (negsuc 0)
+    ∷ flag (muted false (sweepBy true 0) 8) false
+    -- (7) period 1024, S 0: muted, 1023 not
+    ∷ flag (muted false (sweepBy false 0) 1024) true
+    ∷ flag (muted false (sweepBy false 0) 1023) false
+    ∷ flag (muted true (sweepBy false 0) 1024) true
+    ∷ flag (muted true (sweepBy false 0) 1023) false
+    -- (8) shift register 1 becomes 16384, then 8192
+    ∷ number (shiftedOf false 1) 16384
+    ∷ number (shiftedOf false (shiftedOf false 1)) 8192
+    ∷ number (shiftedOf true 1) 16384
+    ∷ number (shiftedOf true (shiftedOf true 1)) 8192
+    -- (9) length value $08 gives 254
+    ∷ number (registerWritten 0x4003 0x08 (registerWritten 0x4015 0x01 powerOn) .square1 .length .count) 254
+    -- (10) $4013 of 0 and 255: 1 and 4081
+    ∷ number (registerWritten 0x4015 0x10 (registerWritten 0x4013 0 powerOn) .dmc .reader .remaining) 1
+    ∷ number (registerWritten 0x4015 0x10 (registerWritten 0x4013 255 powerOn) .dmc .reader .remaining) 4081
+    -- (11) $FFFF then $8000
+    ∷ number (dmcRead memory (fetching 0xFFFE) .reader .address) 0xFFFF
+    ∷ number (dmcRead memory (fetching 0xFFFF) .reader .address) 0x8000
+    -- (12) empty log: refusal 18 at 0
+    ∷ number (checkOf [] .number) 18
+    ∷ number (checkOf [] .place) 0
+    ∷ []
+
+-- EVERY MARKED CASE HOLDS
+pub all-hold : (memory : List ℕ) → Holds (marked memory)
+unfolding checkOf unlessWrong judged judge ending linesOf chipClock dmcRead muted powerOn registerWritten shiftedOf squaresLevel stateLevel statusByte statusRead target mixed weight restLevel squareOutput squareAmount squareTimed squareEnveloped squareSwept squareEnabled sequencerClock dutyBit squareWrite squareWrite3 sequencerHigh triangleOutput triangleAt triangleTimed runs triangleSequenced triangleLinear triangleLengthened triangleEnabled noiseOutput noiseAmount noiseTimed noiseEnveloped noiseLengthened noiseEnabled shifterClock dmcOutput dmcTimed outputClock outputStep emptied readerClock pending fetched nextAddress byteAt sampleEnded restarted flagged levelMoved dmcWrite dmcWrite3 dmcEnabled switched frameDue frameMoved clocksEnvelopes clocksLengths frameStepped frameRead timerClock periodHigh lengthLoaded lengthClock lengthEnabled envelopeClock envelopeStarted envelopeDivided decayed volume envelopeBegun lowPeriod highTarget sweeps sweptPeriod sweepClock linearClock timersClocked readerClocked envelopesClocked lengthsClocked stepped framed noisePeriod dmcPeriod channelWritten controlWritten enablesWritten
+all-hold memory =
+    (refl, (refl, (refl, (refl, (refl, (refl, (refl, (refl, (refl, (refl, (refl, (refl, (refl, (refl, (refl, (refl, (refl, (refl, (refl, (refl, (refl, (refl, (refl, (refl, (refl, (refl, (refl, (refl, (refl, (refl, tt))))))))))))))))))))))))))))))

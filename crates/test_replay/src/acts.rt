@@ -1,0 +1,77 @@
+// What a line asks for, worked with the functions that `perchpulley` hands out under C names. An answer is the number that C gets: number +
+// 256 x value, of a run number + 2^8 x clocks done + 2^32 x records.
+use super::lent;
+use super::stored::byte;
+use super::stored::number;
+use super::stored::short;
+use super::stored::value;
+use super::written::hold;
+
+// The level; as a float it must be the level over 32,768.
+fn level(state: &[u8]) -> u64 {
+    let a = c_chip::level(state);
+    let whole = (a / 256 % 65536) as u16;
+    hold(c_chip::level_f32(state) == (whole as f32) / 32768.0);
+    a
+}
+
+fn access(line: &[u8], state: &mut [u8]) -> u64 {
+    match byte(line, 0) {
+        b'W' => c_chip::write(state, short(line, 2), value(line, 7)),
+        b'R' => c_chip::read_status(state),
+        b'I' => c_chip::line(state),
+        _ => level(state),
+    }
+}
+
+// A run; the plain run on copies of state and words must give the same answer, state and words.
+fn both(
+    count: u64,
+    memory: &[u8],
+    state: &mut [u8],
+    words: &mut [u32],
+    twin: &mut [u8],
+    other: &mut [u32],
+) -> u64 {
+    let a = c_run::run(state, memory, count, words);
+    let b = c_run::run_plain(twin, memory, count, other);
+    hold(a == b);
+    hold(text::exact(state, twin));
+    hold(lent::alike(words, other));
+    a
+}
+
+// A run with what its line lends, and copies of state and words for the plain run.
+fn run(line: &[u8], memory: &[u8], state: &mut [u8], words: &mut [u32]) -> u64 {
+    let n = lent::least(state.len(), 92);
+    let m = lent::least(words.len(), 1024);
+    let mut twin = lent::copy_of_state(state);
+    let mut other = lent::copy_of_words(words);
+    both(
+        number(line, 7, 8),
+        lent::front(line, memory),
+        state,
+        words,
+        &mut twin[0..n],
+        &mut other[0..m],
+    )
+}
+
+// The answer to a line behind the first of a case, whose records have taken so many words; to the last line the sum of the words.
+pub(crate) fn work(
+    line: &[u8],
+    memory: &[u8],
+    state: &mut [u8],
+    words: &mut [u32],
+    used: usize,
+) -> u64 {
+    match byte(line, 0) {
+        b'N' => {
+            let from = lent::least(used, words.len());
+            run(line, memory, state, &mut words[from..])
+        }
+        b'C' => c_chip::clock(state, lent::front(line, memory)),
+        b'E' => lent::sum(words) as u64,
+        _ => access(line, state),
+    }
+}
