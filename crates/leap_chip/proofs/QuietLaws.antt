@@ -1,25 +1,32 @@
--- THE LAW OF THE LEAP: in the quiet state any clocks that bring no frame step leave the level, and every field has its closed form.
--- Assumes nothing.
-use Prim.Native.Nat.{ℕ, _≤_, _<_}
+-- THE LAW OF THE LEAP, proved: in the quiet state any clocks that bring no frame step leave the level, and every field has its closed form. Each channel's
+-- own law gives its fields; that no clock brings a step is the same as that there are no more of them than the frame's `frameBefore`. Assumes nothing.
+use Prim.Native.Nat.{ℕ, _+_, _*_, _/_, _%_, _≤_, _<_}
 use mathlib.Core.Path.{_≡_, refl, sym, ap, _∙_}
-use mathlib.Core.Bool.{Bool, true, false}
+use mathlib.Core.Bool.{Bool, true, false, true≢false}
 use mathlib.Core.List.{List}
+use native.Mathlib.Nat.{mod-eq-of-lt, mod-lt}
+use lib.Arith.{mod-mul, digits-div}
+use lib.Dec.{ltb}
 use native.Mathlib.Omega.{arith}
-use borrow.Author.Tests.{eq-eqb}
+use borrow.Author.Tests.{eq-eqb, ltb-true, ltb-false}
 use Rattle.arith.specs.Iterate.{iterate}
 use Rattle.arith.specs.Pick.{pick}
+use Rattle.divider.specs.Divider.{outputs, countAfter}
+use Rattle.divider.proofs.DividerLaws.{count-after-top}
+use Rattle.chip_units.specs.Timer.{timerPeriod}
 use Rattle.chip_square.specs.Sequencer.{sequencerClock}
 use Rattle.chip_square.specs.Square as square
-use Rattle.leap_square.specs.Leap.{beatOf, withBeat, beatClock, dutyRow, beatGives, beatAdvanced}
+use Rattle.leap_square.specs.Leap.{stepsOf, beatOf, withBeat, beatClock, dutyRow, beatGives, beatAdvanced}
 use Rattle.chip_square.specs.declared.Square.{Square}
 use Rattle.chip_square.specs.declared.Sequencer as square1
-use Rattle.chip_square.proofs.RangeLaws.{SquareRanged}
+use Rattle.chip_square.proofs.RangeLaws.{SquareRanged, SequencerRanged}
 use Rattle.leap_square.proofs.LeapLaws as squares
 use Rattle.chip_triangle.specs.Triangle as triangle
-use Rattle.leap_triangle.specs.Leap.{triangleGate, triangleBeatOf, triangleWithBeat, triangleBeatClock, triangleGives, triangleBeatAdvanced}
+use Rattle.leap_triangle.specs.Leap.{triangleGate, triangleBeatOf, triangleWithBeat, triangleBeatClock, triangleGives, positionAfter, triangleBeatAdvanced}
 use Rattle.chip_triangle.specs.declared.Triangle.{Triangle}
 use Rattle.chip_triangle.specs.declared.Sequencer as triangle1
 use Rattle.chip_triangle.proofs.RangeLaws.{TriangleRanged}
+use Rattle.chip_triangle.proofs.RangeLaws as triangles1
 use Rattle.leap_triangle.proofs.LeapLaws as triangles
 use Rattle.chip_noise.specs.Shifter.{shifterClock}
 use Rattle.chip_noise.specs.Noise as noise
@@ -29,7 +36,11 @@ use Rattle.chip_noise.specs.declared.Shifter.{Shifter}
 use Rattle.leap_noise.proofs.LeapLaws as noises
 use Rattle.chip_dmc.specs.Clock.{dmcClock, dmcOutput}
 use Rattle.leap_dmc.proofs.LeapLaws.{DmcIdle, idle-closed, idle-still}
-use Rattle.chip_frame.specs.Leap.{frameBefore}
+use Rattle.chip_frame.specs.Frame.{frameDue}
+use Rattle.chip_frame.specs.Leap.{frameBefore, framePassed}
+use Rattle.chip_frame.specs.declared.Frame.{Frame}
+use Rattle.chip_frame.proofs.RangeLaws.{FrameRanged}
+use Rattle.chip_frame.proofs.LeapLaws.{passed-due, before-due}
 use Rattle.chip.specs.Clock.{chipClock}
 use Rattle.chip.specs.Level.{stateLevel}
 use Rattle.chip.specs.Range.{inRange}
@@ -37,16 +48,34 @@ use Rattle.chip.specs.Table.{noisePeriod, dmcPeriod}
 use Rattle.chip.specs.declared.State.{State}
 use Rattle.chip.proofs.RangeLaws.{StateRanged, state-in, noise-period-range, dmc-period-range}
 use Rattle.leap_chip.specs.Between.{stateWith}
-use Rattle.leap_chip.specs.Quiet.{Quiet, quietAfter}
+use Rattle.leap_chip.specs.Quiet.{Quiet, squareAfter, triangleAfter, frameAfter, quietAfter, NoStep, Leapt, LeapLaw}
 use Rattle.leap_chip.proofs.BetweenLaws.{between}
+
+-- what the code makes of a square, count and steps by their remainders, is the law's text
+pub square-plain : (q : square1.Sequencer) → SequencerRanged q → (g : ℕ) → withBeat q (beatAdvanced g (beatOf q)) ≡ squareAfter g q
+unfolding withBeat beatAdvanced beatOf squareAfter
+square-plain q r g =
+    let n : ℕ = timerPeriod (q .timer) in
+    let c : ℕ = countAfter n (q .timer .count) g in
+    let x : ℕ = stepsOf q + outputs n (q .timer .count) g in
+    let top : c ≤ 2048 = count-after-top n (q .timer .count) g 2048 (omega arith) (r .timer .count-to) in
+    let e : c % 65536 ≡ c = mod-eq-of-lt (omega arith) in
+    let both : x % 16 ≡ x / 2 % 8 * 2 + x % 2 = mod-mul x {m = 8} {c = 2} (omega arith) (omega arith) in
+    let h : x % 16 % 2 ≡ x % 2 = omega (arith, both) in
+    let half : x % 16 / 2 ≡ x / 2 % 8 =
+    ap (λ (y : ℕ). y / 2) both ∙ digits-div (x / 2 % 8) {m = 2} {r = x % 2} (mod-lt x {m = 2} (omega arith))
+    in
+    let p : x % 16 / 2 % 8 ≡ x / 2 % 8 = ap (λ (y : ℕ). y % 8) half ∙ mod-eq-of-lt (mod-lt (x / 2) {m = 8} (omega arith)) in
+    rw (e, h, p) refl
 
 -- a square in closed form, whatever its length
 square-goes : (q : Square) → SquareRanged q → (g : ℕ)
-    → iterate sequencerClock g (q .sequencer) ≡ withBeat (q .sequencer) (beatAdvanced g (beatOf (q .sequencer)))
+    → iterate sequencerClock g (q .sequencer) ≡ squareAfter g (q .sequencer)
 square-goes q r g =
     let b = squares.beat-ranged (q .sequencer) (r .sequencer) in
     squares.sequencer-beats (q .sequencer) (r .sequencer) g
     ∙ ap (withBeat (q .sequencer)) (squares.beat-closed g (beatOf (q .sequencer)) (b .n-from) (b .count-from) (b .steps))
+    ∙ square-plain (q .sequencer) (r .sequencer) g
 
 -- with no length it gives nothing, wherever its sequencer is
 no-amount : (second : Bool) (q : Square) → q .length .count ≡ 0 → square.squareAmount second q ≡ 0
@@ -77,14 +106,27 @@ triangle-goes : (t : Triangle) → TriangleRanged t → (g : ℕ)
 unfolding triangleGate
 triangle-goes t r g = triangles.triangle-beats (triangle.runs t) (t .sequencer) (r .sequencer) g
 
+-- what the code makes of a triangle that is held is the law's text
+pub triangle-plain : (q : triangle1.Sequencer) → triangles1.SequencerRanged q → (g : ℕ)
+    → triangleWithBeat q (triangleBeatAdvanced 0 g (triangleBeatOf q)) ≡ triangleAfter g q
+unfolding triangleWithBeat triangleBeatAdvanced triangleBeatOf positionAfter triangleAfter
+triangle-plain q r g =
+    let n : ℕ = timerPeriod (q .timer) in
+    let c : ℕ = countAfter n (q .timer .count) g in
+    let top : c ≤ 2048 = count-after-top n (q .timer .count) g 2048 (omega arith) (r .timer .count-to) in
+    let e : c % 65536 ≡ c = mod-eq-of-lt (omega arith) in
+    let p : q .position % 32 ≡ q .position = mod-eq-of-lt (omega (arith, r .position)) in
+    rw (e, p) refl
+
 triangle-rests : (t : Triangle) → TriangleRanged t → t .length .count ≡ 0 → (g : ℕ)
     → iterate (triangle.triangleSequenced (triangle.runs t)) g (t .sequencer)
-    ≡ triangleWithBeat (t .sequencer) (triangleBeatAdvanced 0 g (triangleBeatOf (t .sequencer)))
+    ≡ triangleAfter g (t .sequencer)
 triangle-rests t r z g =
     let b = triangles.beat-ranged (t .sequencer) (r .sequencer) in
     triangle-goes t r g
     ∙ ap (triangleWithBeat (t .sequencer))
     (rw (held t z) (triangles.triangle-beat-closed 0 g (triangleBeatOf (t .sequencer)) (b .n-from) (b .count-from) (b .position)))
+    ∙ triangle-plain (t .sequencer) (r .sequencer) g
 
 -- and gives what it gave
 triangle-holds : (t : Triangle) → TriangleRanged t → t .length .count ≡ 0 → (g : ℕ)
@@ -109,6 +151,34 @@ noise-silent n c z h =
 idle : (s : State) → Quiet s → DmcIdle (s .dmc)
 idle s q = record { silence = q .silence; full = q .buffer; remaining = q .remaining }
 
+-- the frame's phase, which the code takes by its remainder
+pub frame-plain : (f : Frame) → FrameRanged f → (g : ℕ) → g ≤ frameBefore f → framePassed g f ≡ frameAfter g f
+unfolding framePassed frameAfter frameBefore
+frame-plain f r g few = let e : (f .phase + 2 * g) % 65536 ≡ f .phase + 2 * g = mod-eq-of-lt (omega (arith, r .phase)) in rw e refl
+
+module _ (memory : List ℕ) (s : State) (ranged : inRange s ≡ true) where
+  abbrev r : StateRanged s
+  r = state-in s ranged
+
+  -- the frame at clock k of a stretch
+  frame-at : (k : ℕ) → k ≤ frameBefore (s .frame) → iterate (chipClock memory) k s .frame ≡ framePassed k (s .frame)
+  unfolding stateWith
+  frame-at k few = ap (λ (x : State). x .frame) (between memory s (r .frame) k few)
+
+  -- clocks that bring no step are at most those before the next one,
+  pub no-step-few : (g : ℕ) → NoStep memory s g → g ≤ frameBefore (s .frame)
+  no-step-few g none = go (ltb (frameBefore (s .frame)) g) refl
+    where
+      go : (t : Bool) → ltb (frameBefore (s .frame)) g ≡ t → g ≤ frameBefore (s .frame)
+      go true e =
+          let b : ℕ = frameBefore (s .frame) in
+          absurd (true≢false (sym (before-due (s .frame) (r .frame)) ∙ sym (ap frameDue (frame-at b (omega arith))) ∙ none b (ltb-true b g e)))
+      go false e = ltb-false (frameBefore (s .frame)) g e
+
+  -- and the other way round
+  pub few-no-step : (g : ℕ) → g ≤ frameBefore (s .frame) → NoStep memory s g
+  few-no-step g few k h = ap frameDue (frame-at k (omega arith)) ∙ passed-due (s .frame) (r .frame) k (omega arith)
+
 module _ (memory : List ℕ) (s : State) (ranged : inRange s ≡ true) (q : Quiet s) (g : ℕ) (few : g ≤ frameBefore (s .frame)) where
   abbrev dmc-n : ℕ
   dmc-n = dmcPeriod (s .dmc .registers .index)
@@ -125,7 +195,7 @@ module _ (memory : List ℕ) (s : State) (ranged : inRange s ≡ true) (q : Quie
       (r .noise .shifter .timer-from)
       in
       let d = idle-closed memory dmc-n (dmc-period-range (s .dmc .registers .index) .0) (s .dmc) (r .dmc) (idle s q) g in
-      between memory s (r .frame) g few ∙ rw (a, b, t, n, d)
+      between memory s (r .frame) g few ∙ rw (a, b, t, n, d, frame-plain (s .frame) (r .frame) g few)
 
   -- THE LEVEL
   pub quiet-level : stateLevel (iterate (chipClock memory) g s) ≡ stateLevel s
@@ -140,3 +210,9 @@ module _ (memory : List ℕ) (s : State) (ranged : inRange s ≡ true) (q : Quie
       in
       let d = idle-still memory dmc-n (dmc-period-range (s .dmc .registers .index) .0) (s .dmc) (r .dmc) (idle s q) g in
       ap stateLevel (between memory s (r .frame) g few) ∙ rw (a, b, t, n, d)
+
+-- THE LAW
+pub leap-law : LeapLaw
+leap-law memory s ranged q g none =
+    let few = no-step-few memory s ranged g none in
+    record { level = quiet-level memory s ranged q g few; state = quiet-closed memory s ranged q g few }

@@ -28,7 +28,9 @@ use Rattle.chip_frame.specs.Leap.{frameBefore}
 use Rattle.chip_frame.proofs.LeapLaws.{before-most}
 use Rattle.chip.specs.Table.{dmcPeriod}
 use Rattle.chip.specs.declared.State.{State}
+use Rattle.chip.proofs.RangeLaws.{StateRanged}
 use Rattle.leap_chip.specs.Quiet.{Quiet, quietAfter}
+use Rattle.leap_chip.proofs.QuietLaws.{square-plain, triangle-plain, frame-plain}
 use Rattle.leap_stretch.specs.Lagged.{sooner, lagsAt, lagsOf, stateAt}
 use Rattle.leap_stretch.proofs.LaggedLaws.{sooner-past}
 
@@ -63,6 +65,8 @@ unfolding triangleGate runs
 gate-shut t z = rw z
 
 -- and the state that it makes of k clocks of it is the law's
-pub quiet-passed : (s : State) → Quiet s → (k : ℕ) → stateAt s (lagsOf s) k ≡ quietAfter k s
+pub quiet-passed : (s : State) → StateRanged s → Quiet s → (k : ℕ) → k ≤ frameBefore (s .frame) → stateAt s (lagsOf s) k ≡ quietAfter k s
 unfolding stateAt lagsOf lagsAt squareLag triangleLag noiseLag dmcLag squareBeatAt triangleBeatAt noiseShifterAt dmcAt quietAfter
-quiet-passed s q k = rw (sub-zero k, gate-shut (s .triangle) (q .triangle))
+quiet-passed s r q k few =
+    rw (sub-zero k, gate-shut (s .triangle) (q .triangle))
+    (rw (square-plain (s .square1 .sequencer) (r .square1 .sequencer) k, square-plain (s .square2 .sequencer) (r .square2 .sequencer) k, triangle-plain (s .triangle .sequencer) (r .triangle .sequencer) k, frame-plain (s .frame) (r .frame) k few) refl)

@@ -4,11 +4,12 @@ use mathlib.Core.Path.{_≡_, refl, sym, ap, _∙_}
 use mathlib.Core.Bool.{Bool, true, false}
 use mathlib.Core.List.{List}
 use native.Mathlib.Omega.{arith}
-use lib.Dec.{eqb}
+use lib.Dec.{eqb, ltb}
 use lib.ListN.{length, length-set}
-use borrow.Author.Tests.{eqb-true, eqb-false}
+use borrow.Author.Tests.{eqb-true, eqb-false, ltb-true}
 use Rattle.arith.specs.Iterate.{iterate}
-use Rattle.arith.specs.Pick.{pick}
+use Rattle.arith.specs.Pick.{pick, both}
+use Rattle.arith.proofs.PickLaws.{both-left, both-right}
 use Rattle.arith.proofs.IterateLaws.{iterate-zero, iterate-add, iterate-more, iterate-keeps}
 use Rattle.divider.specs.Divider.{forever}
 use Rattle.chip_frame.specs.Leap.{frameBefore}
@@ -18,15 +19,37 @@ use Rattle.chip.specs.Level.{stateLevel}
 use Rattle.chip.specs.Range.{inRange, Bytes}
 use Rattle.chip.specs.declared.State.{State}
 use Rattle.chip.proofs.RangeLaws.{StateRanged, state-in, state-back, clock-kept}
-use Rattle.leap_stretch.specs.Lagged.{lagsAt, lagsOf, renewed, stateAt}
+use Rattle.leap_stretch.specs.Lagged.{sooner, lagsAt, lagsOf, renewed, stateAt}
 use Rattle.leap_stretch.specs.declared.Lags.{Lags}
-use Rattle.leap_stretch.proofs.LaggedLaws.{Lagging, lagging-start, next-past, lagging-renewed, lagging-level, lagging-state, event-level}
+use Rattle.leap_stretch.proofs.LaggedLaws.{sooner-most, Lagging, lagging-start, next-past, lagging-renewed, lagging-level, lagging-state, event-level}
 use Rattle.run_answer.specs.Run.{roomOf, stored}
 use Rattle.run_answer.specs.Held.{Held}
 use Rattle.run_answer.proofs.WordLaws.{stored-in}
 use Rattle.run_answer.proofs.RunLaws.{held-at, held-length, held-leap, held-same, held-mark}
-use Rattle.run.specs.Segment.{Standing, Worked, Segmented}
-use Rattle.run.specs.declared.Segment.{Segment}
+use Rattle.leap_chip.specs.Quiet.{Quiet, quietAfter}
+use Rattle.leap_stretch.proofs.QuietLaws.{quiet-leaps, quiet-passed}
+use Rattle.run.specs.Stretch.{Standing, Worked, stretchEnd, Passed, Stretched}
+use Rattle.run.specs.declared.Stretch.{Stretch}
+
+-- where the loops end
+pub goes-on : (r : Bool) (next until n room : ℕ) → r ≡ both (ltb next until) (ltb n room) → r ≡ true → (next < until) × (n < room)
+goes-on r next until n room e h =
+    let b = sym e ∙ h in
+    (ltb-true next until (both-left (ltb next until) (ltb n room) b), ltb-true n room (both-right (ltb next until) (ltb n room) b))
+
+pub voices-most : (r noise dmc end : ℕ) → r ≡ sooner (sooner noise dmc) end → (r ≤ noise) × (r ≤ dmc) × (r ≤ end)
+voices-most r noise dmc end e =
+    let a = sooner-most noise dmc in
+    let b = sooner-most (sooner noise dmc) end in
+    (omega (arith, a, b), omega (arith, a, b), omega (arith, b))
+
+pub sounds-most : (r dmc end : ℕ) → r ≡ sooner dmc end → (r ≤ dmc) × (r ≤ end)
+sounds-most r dmc end e = let a = sooner-most dmc end in (omega (arith, a), omega (arith, a))
+
+-- a stretch ends before the last clock left, and before the next frame step
+pub stretch-most : (left : ℕ) (s : State) → (stretchEnd left s ≤ left - 1) × (stretchEnd left s ≤ frameBefore (s .frame))
+unfolding stretchEnd
+stretch-most left s = sooner-most (left - 1) (frameBefore (s .frame))
 
 -- nothing done yet
 pub worked-none : (memory : List ℕ) (s : State) (end base : ℕ) (words : List ℕ) (l : Lags) (n : ℕ) → Standing memory s end base words l n
@@ -58,6 +81,37 @@ pub worked-start : (memory : List ℕ) (s : State) (end base : ℕ) (words : Lis
 unfolding lagsOf lagsAt
 worked-start memory s end base words n r b f h m =
     worked-none memory s end base words (lagsOf s) n (standing-start memory s end base words n r b f h m)
+
+-- a stretch in which no event has come
+pub record Untouched (s : State) (records : ℕ) (before : List ℕ) (l : Lags) (n : ℕ) (words : List ℕ) : Type 0 where
+  pub lags : l ≡ lagsOf s
+  pub same-records : n ≡ records
+  pub same-words : words ≡ before
+
+pub untouched-start : (s : State) (n : ℕ) (words : List ℕ) (l : Lags) → l ≡ lagsOf s → Untouched s n words l n words
+untouched-start s n words l e = record { lags = e; same-records = refl; same-words = refl }
+
+module _ (memory : List ℕ) (s : State) (end base from records : ℕ) (before words : List ℕ) (l : Lags) (n : ℕ)
+    (w : Worked memory s end base from records before words l n) (q : Quiet s) (u : Untouched s records before l n words) where
+  -- from a quiet state no event comes before the end
+  quiet-past : end < l .next
+  quiet-past = rw (u .lags) (omega (arith, quiet-leaps s q, w .standing .short))
+
+  pub untouched-goes : {A : Type 0} → l .next ≤ end → A
+  untouched-goes e = absurd (let p = quiet-past in omega arith)
+
+  -- and its end is the law's
+  pub untouched-passed : (k : ℕ) → k ≤ end → (end < l .next → end ≤ k)
+      → Passed s end records before words (record { state = stateAt s l k; clocks = k; records = n; level = l .level })
+  untouched-passed k m far =
+      let z : k ≡ end = omega (arith, far quiet-past) in
+      record {
+        clocks = z;
+        records = u .same-records;
+        words = u .same-words;
+        state =
+            rw (z, u .lags) (quiet-passed s (state-in s (w .standing .ranged)) q end (w .standing .short));
+      }
 
 module _ (memory : List ℕ) (bytes : Bytes memory) (s : State) (end base from records : ℕ) (before words : List ℕ) (l : Lags) (n : ℕ)
     (w : Worked memory s end base from records before words l n) where
@@ -94,19 +148,22 @@ module _ (memory : List ℕ) (bytes : Bytes memory) (s : State) (end base from r
 
   -- a stop before the next event
   pub worked-stop : (k : ℕ) → l .now ≤ k → k < l .next → k ≤ end → from ≡ 0
-      → Segmented memory s end base records before words (record { state = stateAt s l k; clocks = k; records = n; level = l .level })
-  worked-stop k h q m z =
+      → (Quiet s → Passed s end records before words (record { state = stateAt s l k; clocks = k; records = n; level = l .level }))
+      → Stretched memory s end base records before words (record { state = stateAt s l k; clocks = k; records = n; level = l .level })
+  worked-stop k h q m z passes =
       let b = w .standing .short in
-      rw (lagging-state memory bytes s r l (w .standing .lagging) k h q (omega arith))
-      (record {
+      let here = lagging-state memory bytes s r l (w .standing .lagging) k h q (omega arith) in
+      record {
         most = m;
-        level = sym (lagging-level memory bytes s r l (w .standing .lagging) k h q (omega arith));
-        ranged = ranged k;
+        level = sym (ap stateLevel here ∙ lagging-level memory bytes s r l (w .standing .lagging) k h q (omega arith));
+        ranged = rw here (ranged k);
         held =
             λ s₀ words₀ x.
-            to k h q m s₀ words₀
-            (held-at (sym (iterate-zero (chipClock memory) s) ∙ ap (λ (i : ℕ). iterate (chipClock memory) i s) (sym z)) (omega arith) x);
-      })
+            rw here
+            (to k h q m s₀ words₀
+            (held-at (sym (iterate-zero (chipClock memory) s) ∙ ap (λ (i : ℕ). iterate (chipClock memory) i s) (sym z)) (omega arith) x));
+        quiet = passes;
+      }
 
   module _ (e : l .next ≤ end) where
     reach : l .next ≤ forever

@@ -1,1 +1,1 @@
-pub mod Segment
+pub mod Stretch

@@ -1,21 +1,22 @@
 // The leaping run: from frame step to frame step, each channel brought up only when what it gives may change.
 ghost use mathlib.Core.Path.{_≡_};
-ghost use mathlib.Core.Bool.{Bool, true};
+ghost use mathlib.Core.Bool.{true};
 ghost use mathlib.Core.List.{List};
-ghost use Prim.Native.Nat.{ℕ, _+_, _/_, _≤_, _<_};
-ghost use lib.Dec.{eqb};
+ghost use Prim.Native.Nat.{ℕ, _+_, _-_, _/_, _≤_, _<_};
+ghost use lib.Dec.{eqb, ltb};
 ghost use lib.ListN.{length};
-ghost use Rattle.arith.specs.Pick.{pick};
+ghost use Rattle.arith.specs.Pick.{pick, both};
+ghost use Rattle.leap_stretch.specs.Lagged.{sooner};
 ghost use Rattle.chip_frame.specs.Leap.{frameBefore};
 ghost use Rattle.chip.specs.Range.{inRange};
 ghost use Rattle.run_answer.specs.Run.{answer, answered, lent, readBy, over, flat, stored};
-ghost use Rattle.run.specs.Segment.{Standing, Worked, Segmented};
+ghost use Rattle.run.specs.Stretch.{Standing, Worked, stretchEnd, Stretched};
 use chip::State;
 use leap_stretch::Lags;
 use run_answer::Ran;
 
 // What working a stretch came to: its clocks, or those before an event for whose record there is no room.
-pub struct Segment {
+pub struct Stretch {
     pub state: State,
     pub clocks: u32,
     pub records: u32,
@@ -29,13 +30,14 @@ pub struct Part {
 }
 
 fn soonest(x: u64, y: u64) -> u64
-    ensures { λ r. ⌜ (r ≤ x) × (r ≤ y) ⌝ }
+    ensures { λ r. ⌜ r ≡ sooner x y ⌝ }
 {
     if x < y { x } else { y }
 }
 
 // Up to where only squares and triangle are due.
 fn voices_until(l: Lags, end: u32) -> u64
+    ensures { λ r. ⌜ r ≡ sooner (sooner (l .noise .next) (l .dmc .next)) (end + 1) ⌝ }
     ensures { λ r. ⌜ (r ≤ l .noise .next) × (r ≤ l .dmc .next) × (r ≤ end + 1) ⌝ }
 {
     let slow = soonest(l.noise.next, l.dmc.next);
@@ -44,6 +46,7 @@ fn voices_until(l: Lags, end: u32) -> u64
 
 // Up to where the DMC is not due.
 fn sounds_until(l: Lags, end: u32) -> u64
+    ensures { λ r. ⌜ r ≡ sooner (l .dmc .next) (end + 1) ⌝ }
     ensures { λ r. ⌜ (r ≤ l .dmc .next) × (r ≤ end + 1) ⌝ }
 {
     soonest(l.dmc.next, end as u64 + 1)
@@ -51,13 +54,10 @@ fn sounds_until(l: Lags, end: u32) -> u64
 
 // Whether the next event is before `until` and there is room for its record.
 fn goes(next: u64, until: u64, n: u32, room: usize) -> bool
+    ensures { λ r. ⌜ r ≡ both (ltb next until) (ltb n room) ⌝ }
     ensures { λ r. ⌜ (r ≡ true → (next < until) × (n < room)) ⌝ }
 {
-    if next < until {
-        (n as usize) < room
-    } else {
-        false
-    }
+    arith::both_of(next < until, (n as usize) < room)
 }
 
 // Record n, where the level is another than it was; the records then.
@@ -144,19 +144,19 @@ fn brink(end: u32, next: u64) -> u32
 }
 
 // The clocks up to `end`, none of which brings a frame step, event by event.
-fn segment_on(
+fn stretch_on(
     s: State,
     memory: &[u8],
     end: u32,
     base: u32,
     words: &mut [u32],
     records: u32,
-) -> Segment
+) -> Stretch
     requires { ⌜ inRange s ≡ true ⌝ }
     requires { ⌜ end ≤ frameBefore (s .frame) ⌝ }
     requires { ⌜ base + end ≤ 1000000 ⌝ }
     requires { ⌜ (records ≤ base) × (records ≤ length (now words) / 2) ⌝ }
-    ensures { λ r. ⌜ Segmented (now (memory .entry)) s end base records (now (words .entry)) (now (words .exit)) r ⌝ }
+    ensures { λ r. ⌜ Stretched (now (memory .entry)) s end base records (now (words .entry)) (now (words .exit)) r ⌝ }
 {
     let room = words.len() / 2;
     let mut l = leap_stretch::lags_of(s);
@@ -171,7 +171,7 @@ fn segment_on(
     }
     let stop = brink(end, l.next);
     let last = leap_stretch::state_at(s, l, stop);
-    Segment {
+    Stretch {
         state: last,
         clocks: stop,
         records: n,
@@ -180,9 +180,27 @@ fn segment_on(
 }
 
 fn least(x: u32, y: u32) -> u32
-    ensures { λ r. ⌜ (r ≤ x) × (r ≤ y) ⌝ }
+    ensures { λ r. ⌜ r ≡ sooner x y ⌝ }
 {
     if x < y { x } else { y }
+}
+
+// The clocks up to the next frame step, or but one of those left.
+fn next_stretch(
+    s: State,
+    memory: &[u8],
+    left: u32,
+    base: u32,
+    words: &mut [u32],
+    records: u32,
+) -> Stretch
+    requires { ⌜ inRange s ≡ true ⌝ }
+    requires { ⌜ (1 ≤ left) × (base + left ≤ 1000000) ⌝ }
+    requires { ⌜ (records ≤ base) × (records ≤ length (now words) / 2) ⌝ }
+    ensures { λ r. ⌜ Stretched (now (memory .entry)) s (stretchEnd left s) base records (now (words .entry)) (now (words .exit)) r ⌝ }
+{
+    let end = least(left - 1, s.frame.before());
+    stretch_on(s, memory, end, base, words, records)
 }
 
 // A run that nothing refuses: stretch by stretch, and the clock behind each, which may bring a frame step, by itself.
@@ -197,8 +215,7 @@ fn run_on(s: State, memory: &[u8], count: u32, words: &mut [u32]) -> Ran
     let mut done: u32 = 0;
     let mut n: u32 = 0;
     while done < count {
-        let end = least(count - done - 1, state.frame.before());
-        let g = segment_on(state, memory, end, done, words, n);
+        let g = next_stretch(state, memory, count - done, done, words, n);
         let from = g.state;
         let at = done + g.clocks;
         let m = g.records;

@@ -1,13 +1,11 @@
-use mathlib.Core.Bool.{false≢true}
-use borrow.Author.Needs.{needs}
+use Rattle.run.proofs.StretchLaws.{goes-on}
 use Rattle.run.proofs.goes.Statement.{statement}
 use Rattle.run.proofs.goes.Tie as tie
 
 returns : tie.Need-returns
-returns c = search needs
-
-returns-2 : tie.Need-returns-2
-returns-2 c = λ q. absurd (false≢true q)
+returns c =
+    let a = c .before .args in
+    (c .both-of .ensures, goes-on (c .both-of .result) (a .next) (a .until) (a .n) (a .room) (c .both-of .ensures))
 
 pub goes-spec : {M : Type 1} → statement M
-goes-spec = tie.close (tie.spec returns returns-2)
+goes-spec = tie.close (tie.spec (λ c κs. tt) returns)

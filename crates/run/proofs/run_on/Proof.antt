@@ -8,6 +8,7 @@ use Rattle.chip.proofs.RangeLaws.{state-in, state-back}
 use Rattle.run_answer.specs.Run.{roomOf}
 use Rattle.run_answer.specs.Held.{Held}
 use Rattle.run_answer.proofs.RunLaws.{held-start, held-length, held-few, held-ranged, held-same, held-mark, held-end, held-early}
+use Rattle.run.proofs.StretchLaws.{stretch-most}
 use Rattle.run.proofs.run_on.Statement.{statement}
 use Rattle.run.proofs.run_on.Tie as tie
 
@@ -23,41 +24,32 @@ loop-holds c =
     let a = c .before .before .args in
     (held-start (a .memory .now) (a .s) (a .words .now), omega arith, refl)
 
-sub-least : tie.Need-sub-least Inv-loop μ-loop
-sub-least c = omega (arith, c .before .loop .inv .1)
+sub-next-stretch : tie.Need-sub-next-stretch Inv-loop μ-loop
+sub-next-stretch c = omega (arith, c .before .loop .inv .1)
 
-sub-least-2 : tie.Need-sub-least-2 Inv-loop μ-loop
-sub-least-2 c = omega (arith, c .loop-test .taken)
-
-before-requires : tie.Need-before-requires Inv-loop μ-loop
-before-requires c κs = tt
-
-least-requires : tie.Need-least-requires Inv-loop μ-loop
-least-requires c κs = tt
-
-segment-on-requires : tie.Need-segment-on-requires Inv-loop μ-loop
-segment-on-requires c κs =
-    let a = c .before .before .before .before .before .before .before .args in
-    let p = c .before .before .before .before .before .before .before .pre in
-    let i = c .before .before .before .before .loop in
+next-stretch-requires : tie.Need-next-stretch-requires Inv-loop μ-loop
+next-stretch-requires c κs =
+    let a = c .before .before .before .before .before .args in
+    let p = c .before .before .before .before .before .pre in
+    let i = c .before .before .loop in
     let h = i .inv .0 in
-    let bytes : Bytes (a .memory .now) = λ k. omega (arith, c .before .before .before .before .before .before .shared-slice-known .given k) in
-    let le = c .before .least .ensures in
+    let bytes : Bytes (a .memory .now) = λ k. omega (arith, c .before .before .before .before .shared-slice-known .given k) in
     let few = held-few (a .memory .now) (a .s) (a .words .now) (i .words) (i .state) (i .done) (i .n) h in
     let same = held-length (a .memory .now) (a .s) (a .words .now) (i .words) (i .state) (i .done) (i .n) h in
-    let far : i .done + c .before .least .result ≤ 1000000 = omega (arith, le .0, p .1, i .inv .1, c .before .before .before .loop-test .taken) in
-    let room : i .n ≤ roomOf (i .words) = omega (arith, h .most) in
-    (state-back (i .state) (held-ranged (a .memory .now) (a .s) (a .words .now) (i .words) (i .state) (i .done) (i .n) h bytes (state-in (a .s) (p .0))), (rw (← c .before .before .before2 .ensures) (le .1), (far, (few, room))))
+    let room : i .n ≤ roomOf (i .words) = omega (arith, h .most) in (
+      state-back (i .state) (held-ranged (a .memory .now) (a .s) (a .words .now) (i .words) (i .state) (i .done) (i .n) h bytes (state-in (a .s) (p .0))),
+      ((omega (arith, c .before .loop-test .taken), omega (arith, p .1, i .inv .1, c .before .loop-test .taken)), (few, room)),
+    )
 
 add-at : tie.Need-add-at Inv-loop μ-loop
 add-at c =
-    let a = c .before .before .before .before .before .before .before .before .before .before .before .before .args in
-    let p = c .before .before .before .before .before .before .before .before .before .before .before .before .pre in
-    let i = c .before .before .before .before .before .before .before .before .before .loop in
+    let a = c .before .before .before .before .before .before .before .before .before .before .args in
+    let p = c .before .before .before .before .before .before .before .before .before .before .pre in
+    let i = c .before .before .before .before .before .before .before .loop in
     let h = i .inv .0 in
-    let le = c .before .before .before .before .before .before .least .ensures in
-    let sg = c .before .before .before .before .segment-on .ensures in
-    omega (arith, sg .most, le .0, i .inv .1, p .1, c .before .before .before .before .before .before .before .before .loop-test .taken)
+    let sg = c .before .before .before .before .next-stretch .ensures in
+    let end = stretch-most (a .count - i .done) (i .state) in
+    omega (arith, sg .most, end .0, i .inv .1, p .1, c .before .before .before .before .before .before .loop-test .taken)
 
 clocked-requires : tie.Need-clocked-requires Inv-loop μ-loop
 clocked-requires c κs = tt
@@ -67,83 +59,83 @@ level-requires c κs = tt
 
 add-done : tie.Need-add-done Inv-loop μ-loop
 add-done c =
-    let a = c .before .before .before .before .before .before .before .before .before .before .before .before .before .before .before .before .args in
-    let p = c .before .before .before .before .before .before .before .before .before .before .before .before .before .before .before .before .pre in
-    let i = c .before .before .before .before .before .before .before .before .before .before .before .before .before .loop in
+    let a = c .before .before .before .before .before .before .before .before .before .before .before .before .before .before .args in
+    let p = c .before .before .before .before .before .before .before .before .before .before .before .before .before .before .pre in
+    let i = c .before .before .before .before .before .before .before .before .before .before .before .loop in
     let h = i .inv .0 in
-    let le = c .before .before .before .before .before .before .before .before .before .before .least .ensures in
-    let sg = c .before .before .before .before .before .before .before .before .segment-on .ensures in
-    omega (arith, sg .most, le .0, i .inv .1, p .1, c .before .before .before .before .before .before .before .before .before .before .before .before .loop-test .taken)
+    let sg = c .before .before .before .before .before .before .before .before .next-stretch .ensures in
+    let end = stretch-most (a .count - i .done) (i .state) in
+    omega (arith, sg .most, end .0, i .inv .1, p .1, c .before .before .before .before .before .before .before .before .before .before .loop-test .taken)
 
 loop-less : tie.Need-loop-less Inv-loop μ-loop
 loop-less c =
-    let a = c .before .before .before .before .before .before .before .before .before .before .before .before .before .before .before .before .args in
-    let p = c .before .before .before .before .before .before .before .before .before .before .before .before .before .before .before .before .pre in
-    let i = c .before .before .before .before .before .before .before .before .before .before .before .before .before .loop in
+    let a = c .before .before .before .before .before .before .before .before .before .before .before .before .before .before .args in
+    let p = c .before .before .before .before .before .before .before .before .before .before .before .before .before .before .pre in
+    let i = c .before .before .before .before .before .before .before .before .before .before .before .loop in
     let h = i .inv .0 in
-    let le = c .before .before .before .before .before .before .before .before .before .before .least .ensures in
-    let sg = c .before .before .before .before .before .before .before .before .segment-on .ensures in
-    omega (arith, sg .most, le .0, i .inv .1, p .1, c .before .before .before .before .before .before .before .before .before .before .before .before .loop-test .taken)
+    let sg = c .before .before .before .before .before .before .before .before .next-stretch .ensures in
+    let end = stretch-most (a .count - i .done) (i .state) in
+    omega (arith, sg .most, end .0, i .inv .1, p .1, c .before .before .before .before .before .before .before .before .before .before .loop-test .taken)
 
 loop-again : tie.Need-loop-again Inv-loop μ-loop
 loop-again c =
-    let a = c .before .before .before .before .before .before .before .before .before .before .before .before .before .before .before .before .args in
-    let p = c .before .before .before .before .before .before .before .before .before .before .before .before .before .before .before .before .pre in
-    let i = c .before .before .before .before .before .before .before .before .before .before .before .before .before .loop in
+    let a = c .before .before .before .before .before .before .before .before .before .before .before .before .before .before .args in
+    let p = c .before .before .before .before .before .before .before .before .before .before .before .before .before .before .pre in
+    let i = c .before .before .before .before .before .before .before .before .before .before .before .loop in
     let h = i .inv .0 in
-    let le = c .before .before .before .before .before .before .before .before .before .before .least .ensures in
-    let sg = c .before .before .before .before .before .before .before .before .segment-on .ensures in
+    let sg = c .before .before .before .before .before .before .before .before .next-stretch .ensures in
+    let end = stretch-most (a .count - i .done) (i .state) in
     let x = sg .held (a .s) (a .words .now) h in (
       rw (c .before .before .before .clocked .ensures) (held-same (a .memory .now) (a .s) (a .words .now) _ _ _ _ x (sym (c .before .before .level .ensures ∙ ap stateLevel (c .before .before .before .clocked .ensures)) ∙ c .if1 .taken ∙ sg .level)),
-      omega (arith, sg .most, le .0, i .inv .1, c .before .before .before .before .before .before .before .before .before .before .before .before .loop-test .taken),
+      omega (arith, sg .most, end .0, i .inv .1, c .before .before .before .before .before .before .before .before .before .before .loop-test .taken),
       i .inv .2,
     )
 
 cast-place : tie.Need-cast-place Inv-loop μ-loop
 cast-place c =
-    let a = c .before .before .before .before .before .before .before .before .before .before .before .before .before .before .before .before .args in
-    let p = c .before .before .before .before .before .before .before .before .before .before .before .before .before .before .before .before .pre in
-    let i = c .before .before .before .before .before .before .before .before .before .before .before .before .before .loop in
+    let a = c .before .before .before .before .before .before .before .before .before .before .before .before .before .before .args in
+    let p = c .before .before .before .before .before .before .before .before .before .before .before .before .before .before .pre in
+    let i = c .before .before .before .before .before .before .before .before .before .before .before .loop in
     let h = i .inv .0 in
-    let le = c .before .before .before .before .before .before .before .before .before .before .least .ensures in
-    let sg = c .before .before .before .before .before .before .before .before .segment-on .ensures in
+    let sg = c .before .before .before .before .before .before .before .before .next-stretch .ensures in
+    let end = stretch-most (a .count - i .done) (i .state) in
     let x = sg .held (a .s) (a .words .now) h in
     let few = held-few (a .memory .now) (a .s) (a .words .now) _ _ _ _ x in
-    omega (arith, sg .most, le .0, i .inv .1, p .1, c .before .before .before .before .before .before .before .before .before .before .before .before .loop-test .taken)
+    omega (arith, sg .most, end .0, i .inv .1, p .1, c .before .before .before .before .before .before .before .before .before .before .loop-test .taken)
 
 same-length : tie.Need-same-length Inv-loop μ-loop
 same-length c =
-    let a = c .before .before .before .before .before .before .before .before .before .before .before .before .before .before .before .before .before .args in
-    let p = c .before .before .before .before .before .before .before .before .before .before .before .before .before .before .before .before .before .pre in
-    let i = c .before .before .before .before .before .before .before .before .before .before .before .before .before .before .loop in
+    let a = c .before .before .before .before .before .before .before .before .before .before .before .before .before .before .before .args in
+    let p = c .before .before .before .before .before .before .before .before .before .before .before .before .before .before .before .pre in
+    let i = c .before .before .before .before .before .before .before .before .before .before .before .before .loop in
     let h = i .inv .0 in
-    let le = c .before .before .before .before .before .before .before .before .before .before .before .least .ensures in
-    let sg = c .before .before .before .before .before .before .before .before .before .segment-on .ensures in
+    let sg = c .before .before .before .before .before .before .before .before .before .next-stretch .ensures in
+    let end = stretch-most (a .count - i .done) (i .state) in
     let x = sg .held (a .s) (a .words .now) h in
     held-length (a .memory .now) (a .s) (a .words .now) _ _ _ _ x
 
 returns : tie.Need-returns Inv-loop μ-loop
 returns c =
-    let a = c .before .before .before .before .before .before .before .before .before .before .before .before .before .before .before .before .before .args in
-    let p = c .before .before .before .before .before .before .before .before .before .before .before .before .before .before .before .before .before .pre in
-    let i = c .before .before .before .before .before .before .before .before .before .before .before .before .before .before .loop in
+    let a = c .before .before .before .before .before .before .before .before .before .before .before .before .before .before .before .args in
+    let p = c .before .before .before .before .before .before .before .before .before .before .before .before .before .before .before .pre in
+    let i = c .before .before .before .before .before .before .before .before .before .before .before .before .loop in
     let h = i .inv .0 in
-    let le = c .before .before .before .before .before .before .before .before .before .before .before .least .ensures in
-    let sg = c .before .before .before .before .before .before .before .before .before .segment-on .ensures in
+    let sg = c .before .before .before .before .before .before .before .before .before .next-stretch .ensures in
+    let end = stretch-most (a .count - i .done) (i .state) in
     let x = sg .held (a .s) (a .words .now) h in
     held-early (a .memory .now) (a .s) (a .words .now) _ _ _ _ x (a .count)
     (λ q. c .before .if1 .left ((c .before .before .before .level .ensures ∙ ap stateLevel (c .before .before .before .before .clocked .ensures)) ∙ q ∙ sym (sg .level)))
-    (omega (arith, i .inv .2, c .if2 .taken)) (omega (arith, sg .most, le .0, i .inv .1, c .before .before .before .before .before .before .before .before .before .before .before .before .before .loop-test .taken))
+    (omega (arith, i .inv .2, c .if2 .taken)) (omega (arith, sg .most, end .0, i .inv .1, c .before .before .before .before .before .before .before .before .before .before .before .loop-test .taken))
 
 add-put : tie.Need-add-put Inv-loop μ-loop
 add-put c =
-    let a = c .before .before .before .before .before .before .before .before .before .before .before .before .before .before .before .before .before .before .args in
-    let p = c .before .before .before .before .before .before .before .before .before .before .before .before .before .before .before .before .before .before .pre in
-    let i = c .before .before .before .before .before .before .before .before .before .before .before .before .before .before .before .loop in
+    let a = c .before .before .before .before .before .before .before .before .before .before .before .before .before .before .before .before .args in
+    let p = c .before .before .before .before .before .before .before .before .before .before .before .before .before .before .before .before .pre in
+    let i = c .before .before .before .before .before .before .before .before .before .before .before .before .before .loop in
     let h = i .inv .0 in
-    let le = c .before .before .before .before .before .before .before .before .before .before .before .before .least .ensures in
-    let sg = c .before .before .before .before .before .before .before .before .before .before .segment-on .ensures in
-    omega (arith, sg .most, le .0, i .inv .1, p .1, c .before .before .before .before .before .before .before .before .before .before .before .before .before .before .loop-test .taken)
+    let sg = c .before .before .before .before .before .before .before .before .before .before .next-stretch .ensures in
+    let end = stretch-most (a .count - i .done) (i .state) in
+    omega (arith, sg .most, end .0, i .inv .1, p .1, c .before .before .before .before .before .before .before .before .before .before .before .before .loop-test .taken)
 
 cast-put : tie.Need-cast-put Inv-loop μ-loop
 cast-put c = search needs
@@ -153,48 +145,48 @@ put-requires c κs = tt
 
 add-done-2 : tie.Need-add-done-2 Inv-loop μ-loop
 add-done-2 c =
-    let a = c .before .before .before .before .before .before .before .before .before .before .before .before .before .before .before .before .before .before .before .before .before .args in
-    let p = c .before .before .before .before .before .before .before .before .before .before .before .before .before .before .before .before .before .before .before .before .before .pre in
-    let i = c .before .before .before .before .before .before .before .before .before .before .before .before .before .before .before .before .before .before .loop in
+    let a = c .before .before .before .before .before .before .before .before .before .before .before .before .before .before .before .before .before .before .before .args in
+    let p = c .before .before .before .before .before .before .before .before .before .before .before .before .before .before .before .before .before .before .before .pre in
+    let i = c .before .before .before .before .before .before .before .before .before .before .before .before .before .before .before .before .loop in
     let h = i .inv .0 in
-    let le = c .before .before .before .before .before .before .before .before .before .before .before .before .before .before .before .least .ensures in
-    let sg = c .before .before .before .before .before .before .before .before .before .before .before .before .before .segment-on .ensures in
-    omega (arith, sg .most, le .0, i .inv .1, p .1, c .before .before .before .before .before .before .before .before .before .before .before .before .before .before .before .before .before .loop-test .taken)
+    let sg = c .before .before .before .before .before .before .before .before .before .before .before .before .before .next-stretch .ensures in
+    let end = stretch-most (a .count - i .done) (i .state) in
+    omega (arith, sg .most, end .0, i .inv .1, p .1, c .before .before .before .before .before .before .before .before .before .before .before .before .before .before .before .loop-test .taken)
 
 add-n : tie.Need-add-n Inv-loop μ-loop
 add-n c =
-    let a = c .before .before .before .before .before .before .before .before .before .before .before .before .before .before .before .before .before .before .before .before .before .args in
-    let p = c .before .before .before .before .before .before .before .before .before .before .before .before .before .before .before .before .before .before .before .before .before .pre in
-    let i = c .before .before .before .before .before .before .before .before .before .before .before .before .before .before .before .before .before .before .loop in
+    let a = c .before .before .before .before .before .before .before .before .before .before .before .before .before .before .before .before .before .before .before .args in
+    let p = c .before .before .before .before .before .before .before .before .before .before .before .before .before .before .before .before .before .before .before .pre in
+    let i = c .before .before .before .before .before .before .before .before .before .before .before .before .before .before .before .before .loop in
     let h = i .inv .0 in
-    let le = c .before .before .before .before .before .before .before .before .before .before .before .before .before .before .before .least .ensures in
-    let sg = c .before .before .before .before .before .before .before .before .before .before .before .before .before .segment-on .ensures in
+    let sg = c .before .before .before .before .before .before .before .before .before .before .before .before .before .next-stretch .ensures in
+    let end = stretch-most (a .count - i .done) (i .state) in
     let x = sg .held (a .s) (a .words .now) h in
     let few = held-few (a .memory .now) (a .s) (a .words .now) _ _ _ _ x in
-    omega (arith, sg .most, le .0, i .inv .1, p .1, c .before .before .before .before .before .before .before .before .before .before .before .before .before .before .before .before .before .loop-test .taken)
+    omega (arith, sg .most, end .0, i .inv .1, p .1, c .before .before .before .before .before .before .before .before .before .before .before .before .before .before .before .loop-test .taken)
 
 loop-less-2 : tie.Need-loop-less-2 Inv-loop μ-loop
 loop-less-2 c =
-    let a = c .before .before .before .before .before .before .before .before .before .before .before .before .before .before .before .before .before .before .before .before .before .args in
-    let p = c .before .before .before .before .before .before .before .before .before .before .before .before .before .before .before .before .before .before .before .before .before .pre in
-    let i = c .before .before .before .before .before .before .before .before .before .before .before .before .before .before .before .before .before .before .loop in
+    let a = c .before .before .before .before .before .before .before .before .before .before .before .before .before .before .before .before .before .before .before .args in
+    let p = c .before .before .before .before .before .before .before .before .before .before .before .before .before .before .before .before .before .before .before .pre in
+    let i = c .before .before .before .before .before .before .before .before .before .before .before .before .before .before .before .before .loop in
     let h = i .inv .0 in
-    let le = c .before .before .before .before .before .before .before .before .before .before .before .before .before .before .before .least .ensures in
-    let sg = c .before .before .before .before .before .before .before .before .before .before .before .before .before .segment-on .ensures in
-    omega (arith, sg .most, le .0, i .inv .1, p .1, c .before .before .before .before .before .before .before .before .before .before .before .before .before .before .before .before .before .loop-test .taken)
+    let sg = c .before .before .before .before .before .before .before .before .before .before .before .before .before .next-stretch .ensures in
+    let end = stretch-most (a .count - i .done) (i .state) in
+    omega (arith, sg .most, end .0, i .inv .1, p .1, c .before .before .before .before .before .before .before .before .before .before .before .before .before .before .before .loop-test .taken)
 
 loop-again-2 : tie.Need-loop-again-2 Inv-loop μ-loop
 loop-again-2 c =
-    let a = c .before .before .before .before .before .before .before .before .before .before .before .before .before .before .before .before .before .before .before .before .before .args in
-    let p = c .before .before .before .before .before .before .before .before .before .before .before .before .before .before .before .before .before .before .before .before .before .pre in
-    let i = c .before .before .before .before .before .before .before .before .before .before .before .before .before .before .before .before .before .before .loop in
+    let a = c .before .before .before .before .before .before .before .before .before .before .before .before .before .before .before .before .before .before .before .args in
+    let p = c .before .before .before .before .before .before .before .before .before .before .before .before .before .before .before .before .before .before .before .pre in
+    let i = c .before .before .before .before .before .before .before .before .before .before .before .before .before .before .before .before .loop in
     let h = i .inv .0 in
-    let le = c .before .before .before .before .before .before .before .before .before .before .before .before .before .before .before .least .ensures in
-    let sg = c .before .before .before .before .before .before .before .before .before .before .before .before .before .segment-on .ensures in
+    let sg = c .before .before .before .before .before .before .before .before .before .before .before .before .before .next-stretch .ensures in
+    let end = stretch-most (a .count - i .done) (i .state) in
     let x = sg .held (a .s) (a .words .now) h in (
       rw (c .before .before .put .ensures, c .before .before .before .before .before .before .before .level .ensures, c .before .before .before .before .before .before .before .before .clocked .ensures)
           (held-mark (a .memory .now) (a .s) (a .words .now) _ _ _ _ x (λ q. c .before .before .before .before .before .if1 .left ((c .before .before .before .before .before .before .before .level .ensures ∙ ap stateLevel (c .before .before .before .before .before .before .before .before .clocked .ensures)) ∙ q ∙ sym (sg .level))) (omega (arith, i .inv .2, c .before .before .before .before .if2 .left))),
-      omega (arith, sg .most, le .0, i .inv .1, c .before .before .before .before .before .before .before .before .before .before .before .before .before .before .before .before .before .loop-test .taken),
+      omega (arith, sg .most, end .0, i .inv .1, c .before .before .before .before .before .before .before .before .before .before .before .before .before .before .before .loop-test .taken),
       i .inv .2,
     )
 
@@ -221,11 +213,8 @@ run-on-spec =
     Inv-loop
     μ-loop
     loop-holds
-    sub-least
-    sub-least-2
-    before-requires
-    least-requires
-    segment-on-requires
+    sub-next-stretch
+    next-stretch-requires
     add-at
     clocked-requires
     level-requires

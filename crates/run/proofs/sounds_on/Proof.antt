@@ -5,7 +5,7 @@ use Rattle.chip.specs.Range.{Bytes}
 use Rattle.leap_stretch.specs.declared.Lags.{Lags}
 use Rattle.leap_stretch.proofs.WaitLaws.{sounds-renewed}
 use Rattle.run_answer.specs.Run.{roomOf}
-use Rattle.run.specs.Segment.{Standing, Worked}
+use Rattle.run.specs.Stretch.{Standing, Worked}
 use Rattle.run.proofs.StretchLaws.{worked-none, worked-on, worked-event, past, event-now}
 use Rattle.run.proofs.sounds_on.Statement.{statement}
 use Rattle.run.proofs.sounds_on.Tie as tie
@@ -34,8 +34,8 @@ cast-e c =
     let p = c .before .before .before .before .before .before .before .pre in
     let i = c .before .before .before .before .loop in
     let w = i .inv .0 in
-    let t = c .before .before .goes .ensures (c .before .if1 .taken) in
-    let u = c .before .before .before .sounds-until .ensures in
+    let t = c .before .before .goes .ensures .1 (c .before .if1 .taken) in
+    let u = c .before .before .before .sounds-until .ensures .1 in
     omega (arith, t .0, u .1, w .standing .far)
 
 renew-sounds-requires : tie.Need-renew-sounds-requires Inv-loop μ-loop
@@ -47,8 +47,8 @@ add-mark c =
     let p = c .before .before .before .before .before .before .before .before .before .pre in
     let i = c .before .before .before .before .before .before .loop in
     let w = i .inv .0 in
-    let t = c .before .before .before .before .goes .ensures (c .before .before .before .if1 .taken) in
-    let u = c .before .before .before .before .before .sounds-until .ensures in
+    let t = c .before .before .before .before .goes .ensures .1 (c .before .before .before .if1 .taken) in
+    let u = c .before .before .before .before .before .sounds-until .ensures .1 in
     omega (arith, t .0, u .1, w .standing .far)
 
 mark-requires : tie.Need-mark-requires Inv-loop μ-loop
@@ -57,8 +57,8 @@ mark-requires c κs =
     let p = c .before .before .before .before .before .before .before .before .before .pre in
     let i = c .before .before .before .before .before .before .loop in
     let w = i .inv .0 in
-    let t = c .before .before .before .before .goes .ensures (c .before .before .before .if1 .taken) in
-    let u = c .before .before .before .before .before .sounds-until .ensures in
+    let t = c .before .before .before .before .goes .ensures .1 (c .before .before .before .if1 .taken) in
+    let u = c .before .before .before .before .before .sounds-until .ensures .1 in
     omega (arith, w .standing .few, w .standing .now, w .standing .far)
 
 voices-on-requires : tie.Need-voices-on-requires Inv-loop μ-loop
@@ -67,8 +67,8 @@ voices-on-requires c κs =
     let p = c .before .before .before .before .before .before .before .before .before .before .before .before .before .pre in
     let i = c .before .before .before .before .before .before .before .before .before .before .loop in
     let w = i .inv .0 in
-    let t = c .before .before .before .before .before .before .before .before .goes .ensures (c .before .before .before .before .before .before .before .if1 .taken) in
-    let u = c .before .before .before .before .before .before .before .before .before .sounds-until .ensures in
+    let t = c .before .before .before .before .before .before .before .before .goes .ensures .1 (c .before .before .before .before .before .before .before .if1 .taken) in
+    let u = c .before .before .before .before .before .before .before .before .before .sounds-until .ensures .1 in
     let bytes : Bytes (a .memory .now) = λ k. omega (arith, c .before .before .before .before .before .before .before .before .before .before .before .before .shared-slice-known .given k) in
     let v = worked-event (a .memory .now) bytes (a .s) (a .end) (a .base) (a .first .now) (a .records) (a .words .now) (i .words) (i .l) (i .n) w (omega (arith, t .0, u .1)) (omega (arith, t .1, i .inv .1, w .same-length)) _ (c .before .before .before .before .before .renew-sounds .ensures ∙ sounds-renewed (a .memory .now) (i .l) (i .l .next) (omega (arith, t .0, u .0))) _ _ (c .before .before .before .mark .ensures .0) (c .before .before .before .mark .ensures .1) in
     v .standing
@@ -79,8 +79,8 @@ loop-less c =
     let p = c .before .before .before .before .before .before .before .before .before .before .before .before .before .before .before .before .before .pre in
     let i = c .before .before .before .before .before .before .before .before .before .before .before .before .before .before .loop in
     let w = i .inv .0 in
-    let t = c .before .before .before .before .before .before .before .before .before .before .before .before .goes .ensures (c .before .before .before .before .before .before .before .before .before .before .before .if1 .taken) in
-    let u = c .before .before .before .before .before .before .before .before .before .before .before .before .before .sounds-until .ensures in
+    let t = c .before .before .before .before .before .before .before .before .before .before .before .before .goes .ensures .1 (c .before .before .before .before .before .before .before .before .before .before .before .if1 .taken) in
+    let u = c .before .before .before .before .before .before .before .before .before .before .before .before .before .sounds-until .ensures .1 in
     let bytes : Bytes (a .memory .now) = λ k. omega (arith, c .before .before .before .before .before .before .before .before .before .before .before .before .before .before .before .before .shared-slice-known .given k) in
     let v = worked-event (a .memory .now) bytes (a .s) (a .end) (a .base) (a .first .now) (a .records) (a .words .now) (i .words) (i .l) (i .n) w (omega (arith, t .0, u .1)) (omega (arith, t .1, i .inv .1, w .same-length)) _ (c .before .before .before .before .before .before .before .before .before .renew-sounds .ensures ∙ sounds-renewed (a .memory .now) (i .l) (i .l .next) (omega (arith, t .0, u .0))) _ _ (c .before .before .before .before .before .before .before .mark .ensures .0) (c .before .before .before .before .before .before .before .mark .ensures .1) in
     let x = worked-on (a .memory .now) (a .s) (a .end) (a .base) (a .first .now) (a .records) (a .words .now) _ _ _ _ _ _ v (c .before .before .before .voices-on .ensures) in
@@ -96,8 +96,8 @@ loop-again c =
     let p = c .before .before .before .before .before .before .before .before .before .before .before .before .before .before .before .before .before .pre in
     let i = c .before .before .before .before .before .before .before .before .before .before .before .before .before .before .loop in
     let w = i .inv .0 in
-    let t = c .before .before .before .before .before .before .before .before .before .before .before .before .goes .ensures (c .before .before .before .before .before .before .before .before .before .before .before .if1 .taken) in
-    let u = c .before .before .before .before .before .before .before .before .before .before .before .before .before .sounds-until .ensures in
+    let t = c .before .before .before .before .before .before .before .before .before .before .before .before .goes .ensures .1 (c .before .before .before .before .before .before .before .before .before .before .before .if1 .taken) in
+    let u = c .before .before .before .before .before .before .before .before .before .before .before .before .before .sounds-until .ensures .1 in
     let bytes : Bytes (a .memory .now) = λ k. omega (arith, c .before .before .before .before .before .before .before .before .before .before .before .before .before .before .before .before .shared-slice-known .given k) in
     let v = worked-event (a .memory .now) bytes (a .s) (a .end) (a .base) (a .first .now) (a .records) (a .words .now) (i .words) (i .l) (i .n) w (omega (arith, t .0, u .1)) (omega (arith, t .1, i .inv .1, w .same-length)) _ (c .before .before .before .before .before .before .before .before .before .renew-sounds .ensures ∙ sounds-renewed (a .memory .now) (i .l) (i .l .next) (omega (arith, t .0, u .0))) _ _ (c .before .before .before .before .before .before .before .mark .ensures .0) (c .before .before .before .before .before .before .before .mark .ensures .1) in
     (worked-on (a .memory .now) (a .s) (a .end) (a .base) (a .first .now) (a .records) (a .words .now) _ _ _ _ _ _ v (c .before .before .before .voices-on .ensures), i .inv .1)

@@ -6,7 +6,7 @@ use Rattle.chip.specs.declared.State.{State}
 use Rattle.leap_stretch.specs.declared.Lags.{Lags}
 use Rattle.leap_stretch.proofs.WaitLaws.{voices-renewed}
 use Rattle.run_answer.specs.Run.{roomOf}
-use Rattle.run.specs.Segment.{Standing, Worked}
+use Rattle.run.specs.Stretch.{Standing, Worked}
 use Rattle.run.proofs.StretchLaws.{worked-none, worked-event, past, event-now}
 use Rattle.run.proofs.voices_on.Statement.{statement}
 use Rattle.run.proofs.voices_on.Tie as tie
@@ -36,8 +36,8 @@ cast-e c =
     let p = c .before .before .before .before .before .before .before .pre in
     let i = c .before .before .before .before .loop in
     let w = i .inv .0 (a .s) p in
-    let t = c .before .before .goes .ensures (c .before .if1 .taken) in
-    let u = c .before .before .before .voices-until .ensures in
+    let t = c .before .before .goes .ensures .1 (c .before .if1 .taken) in
+    let u = c .before .before .before .voices-until .ensures .1 in
     omega (arith, t .0, u .2, w .standing .far)
 
 renew-voices-requires : tie.Need-renew-voices-requires Inv-loop μ-loop
@@ -49,8 +49,8 @@ add-mark c =
     let p = c .before .before .before .before .before .before .before .before .before .pre in
     let i = c .before .before .before .before .before .before .loop in
     let w = i .inv .0 (a .s) p in
-    let t = c .before .before .before .before .goes .ensures (c .before .before .before .if1 .taken) in
-    let u = c .before .before .before .before .before .voices-until .ensures in
+    let t = c .before .before .before .before .goes .ensures .1 (c .before .before .before .if1 .taken) in
+    let u = c .before .before .before .before .before .voices-until .ensures .1 in
     omega (arith, t .0, u .2, w .standing .far)
 
 mark-requires : tie.Need-mark-requires Inv-loop μ-loop
@@ -59,8 +59,8 @@ mark-requires c κs =
     let p = c .before .before .before .before .before .before .before .before .before .pre in
     let i = c .before .before .before .before .before .before .loop in
     let w = i .inv .0 (a .s) p in
-    let t = c .before .before .before .before .goes .ensures (c .before .before .before .if1 .taken) in
-    let u = c .before .before .before .before .before .voices-until .ensures in
+    let t = c .before .before .before .before .goes .ensures .1 (c .before .before .before .if1 .taken) in
+    let u = c .before .before .before .before .before .voices-until .ensures .1 in
     omega (arith, w .standing .few, w .standing .now, w .standing .far)
 
 loop-less : tie.Need-loop-less Inv-loop μ-loop
@@ -70,8 +70,8 @@ loop-less c =
     let i = c .before .before .before .before .before .before .before .before .before .loop in
     let bytes : Bytes (a .memory .now) = λ k. omega (arith, c .before .before .before .before .before .before .before .before .before .before .before .shared-slice-known .given k) in
     let w = i .inv .0 (a .s) p in
-    let t = c .before .before .before .before .before .before .before .goes .ensures (c .before .before .before .before .before .before .if1 .taken) in
-    let u = c .before .before .before .before .before .before .before .before .voices-until .ensures in
+    let t = c .before .before .before .before .before .before .before .goes .ensures .1 (c .before .before .before .before .before .before .if1 .taken) in
+    let u = c .before .before .before .before .before .before .before .before .voices-until .ensures .1 in
     let v = worked-event (a .memory .now) bytes (a .s) (a .end) (a .base) (a .first .now) (a .records) (a .words .now) (i .words) (i .l) (i .n) w (omega (arith, t .0, u .2)) (omega (arith, t .1, i .inv .1, w .same-length)) _ (c .before .before .before .before .renew-voices .ensures ∙ voices-renewed (a .memory .now) (i .l) (i .l .next) (omega (arith, t .0, u .0)) (omega (arith, t .0, u .1))) _ _ (c .before .before .mark .ensures .0) (c .before .before .mark .ensures .1) in
     let q = past (a .memory .now) bytes (a .s) (a .end) (a .base) (a .first .now) (a .records) (a .words .now) _ _ _ v in
     let z : c .before .before .before .before .renew-voices .result .now ≡ i .l .next =
@@ -86,8 +86,8 @@ loop-again c =
     let i = c .before .before .before .before .before .before .before .before .before .loop in
     let bytes : Bytes (a .memory .now) = λ k. omega (arith, c .before .before .before .before .before .before .before .before .before .before .before .shared-slice-known .given k) in
     let w = i .inv .0 (a .s) p in
-    let t = c .before .before .before .before .before .before .before .goes .ensures (c .before .before .before .before .before .before .if1 .taken) in
-    let u = c .before .before .before .before .before .before .before .before .voices-until .ensures in
+    let t = c .before .before .before .before .before .before .before .goes .ensures .1 (c .before .before .before .before .before .before .if1 .taken) in
+    let u = c .before .before .before .before .before .before .before .before .voices-until .ensures .1 in
     (λ s g. worked-event (a .memory .now) bytes s (a .end) (a .base) (a .first .now) (a .records) (a .words .now) (i .words) (i .l) (i .n) (i .inv .0 s g) (omega (arith, t .0, u .2)) (omega (arith, t .1, i .inv .1, w .same-length)) _ (c .before .before .before .before .renew-voices .ensures ∙ voices-renewed (a .memory .now) (i .l) (i .l .next) (omega (arith, t .0, u .0)) (omega (arith, t .0, u .1))) _ _ (c .before .before .mark .ensures .0) (c .before .before .mark .ensures .1), i .inv .1)
 
 same-length : tie.Need-same-length Inv-loop μ-loop

@@ -1,5 +1,6 @@
--- What working a stretch of clocks that bring no frame step promises: where it stops for want of room is fixed by the plain reading it is part of.
-use Prim.Native.Nat.{ℕ, _+_, _/_, _≤_}
+-- Helper, but for what a stretch promises of the law of the leap (`stretchEnd`, `Passed`): what the run's loops hold between two events.
+-- What working a stretch of clocks that bring no frame step promises.
+use Prim.Native.Nat.{ℕ, _+_, _-_, _/_, _≤_}
 use mathlib.Core.Path.{_≡_}
 use mathlib.Core.Bool.{true}
 use mathlib.Core.List.{List}
@@ -9,11 +10,13 @@ use Rattle.chip_frame.specs.Leap.{frameBefore}
 use Rattle.chip.specs.Clock.{chipClock}
 use Rattle.chip.specs.Level.{stateLevel}
 use Rattle.chip.specs.Range.{inRange}
+use Rattle.leap_chip.specs.Quiet.{Quiet, quietAfter}
+use Rattle.leap_stretch.specs.Lagged.{sooner}
 use Rattle.leap_stretch.proofs.LaggedLaws.{Lagging}
 use Rattle.run_answer.specs.Held.{Held}
 use Rattle.chip.specs.declared.State.{State}
 use Rattle.leap_stretch.specs.declared.Lags.{Lags}
-use Rattle.run.specs.declared.Segment.{Segment}
+use Rattle.run.specs.declared.Stretch.{Stretch}
 
 -- At clock `l .now` of a stretch of at most `end` clocks that began in s with `base` clocks done; n records are written.
 pub record Standing (memory : List ℕ) (s : State) (end base : ℕ) (words : List ℕ) (l : Lags) (n : ℕ) : Type 0 where
@@ -35,8 +38,20 @@ pub record Worked (memory : List ℕ) (s : State) (end base from records : ℕ) 
       → Held memory s₀ words₀ before (iterate (chipClock memory) from s) (base + from) records
       → Held memory s₀ words₀ words (iterate (chipClock memory) (l .now) s) (base + l .now) n
 
--- A stretch of at most `end` clocks, entered with `base` clocks done and n records: whatever run it is part of goes on being held.
-pub record Segmented (memory : List ℕ) (s : State) (end base n : ℕ) (before after : List ℕ) (r : Segment) : Type 0 where
+-- where a stretch ends that may go `left` clocks: before the next frame step, and before the last of them, which is worked by itself
+unfoldable pub stretchEnd : ℕ → State → ℕ
+stretchEnd left s = sooner (left - 1) (frameBefore (s .frame))
+
+-- "The run passes such stretches by that law": a quiet stretch goes to its end in one leap, writes nothing, and its state is the law's
+pub record Passed (s : State) (end n : ℕ) (before after : List ℕ) (r : Stretch) : Type 0 where
+  pub clocks : r .clocks ≡ end
+  pub records : r .records ≡ n
+  pub words : after ≡ before
+  pub state : r .state ≡ quietAfter end s
+
+-- A stretch of at most `end` clocks, entered with `base` clocks done and n records: whatever run it is part of goes on being held. Where it
+-- stops for want of room is fixed by the plain reading that it is part of.
+pub record Stretched (memory : List ℕ) (s : State) (end base n : ℕ) (before after : List ℕ) (r : Stretch) : Type 0 where
   pub most : r .clocks ≤ end
   pub level : r .level ≡ stateLevel (r .state)
   pub ranged : inRange (r .state) ≡ true
@@ -44,3 +59,4 @@ pub record Segmented (memory : List ℕ) (s : State) (end base n : ℕ) (before 
       (s₀ : State) (words₀ : List ℕ)
       → Held memory s₀ words₀ before s base n
       → Held memory s₀ words₀ after (r .state) (base + r .clocks) (r .records)
+  pub quiet : Quiet s → Passed s end n before after r

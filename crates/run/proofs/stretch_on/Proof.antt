@@ -4,14 +4,15 @@ use native.Mathlib.Omega.{arith}
 use Rattle.chip.specs.Range.{Bytes}
 use Rattle.leap_stretch.specs.declared.Lags.{Lags}
 use Rattle.run_answer.specs.Run.{roomOf}
-use Rattle.run.specs.Segment.{Worked}
-use Rattle.run.proofs.StretchLaws.{worked-start, worked-on, worked-event, worked-stop, past, event-now}
-use Rattle.run.proofs.segment_on.Statement.{statement}
-use Rattle.run.proofs.segment_on.Tie as tie
+use Rattle.leap_chip.specs.Quiet.{Quiet}
+use Rattle.run.specs.Stretch.{Worked}
+use Rattle.run.proofs.StretchLaws.{Untouched, untouched-start, untouched-goes, untouched-passed, worked-start, worked-on, worked-event, worked-stop, past, event-now}
+use Rattle.run.proofs.stretch_on.Statement.{statement}
+use Rattle.run.proofs.stretch_on.Tie as tie
 
 abbrev Inv-loop : tie.InvT-loop
 Inv-loop s memory end base words₀ records room l₀ n₀ words l n =
-    Worked memory s end base 0 records words₀ words l n × (room ≡ roomOf words₀)
+    Worked memory s end base 0 records words₀ words l n × (room ≡ roomOf words₀) × (Quiet s → Untouched s records words₀ l n words)
 
 abbrev μ-loop : tie.MeasureT-loop
 μ-loop s memory end base words₀ records room l₀ n₀ words l n = end + 1 - l .next
@@ -25,6 +26,7 @@ loop-holds c =
     let p = c .before .before .before .pre in (
       rw (c .lags-of .ensures) (worked-start (a .memory .now) (a .s) (a .end) (a .base) (a .words .now) (a .records) (p .0) (p .1 .0) (p .1 .1 .0) (p .1 .1 .1 .0) (p .1 .1 .1 .1)),
       refl,
+      λ q. untouched-start (a .s) (a .records) (a .words .now) _ (c .lags-of .ensures),
     )
 
 add-goes : tie.Need-add-goes Inv-loop μ-loop
@@ -39,7 +41,7 @@ cast-e c =
     let p = c .before .before .before .before .before .before .before .pre in
     let i = c .before .before .before .loop in
     let w = i .inv .0 in
-    let t = c .before .before .goes .ensures (c .before .if1 .taken) in
+    let t = c .before .before .goes .ensures .1 (c .before .if1 .taken) in
     omega (arith, t .0, w .standing .far)
 
 renew-requires : tie.Need-renew-requires Inv-loop μ-loop
@@ -51,7 +53,7 @@ add-mark c =
     let p = c .before .before .before .before .before .before .before .before .before .pre in
     let i = c .before .before .before .before .before .loop in
     let w = i .inv .0 in
-    let t = c .before .before .before .before .goes .ensures (c .before .before .before .if1 .taken) in
+    let t = c .before .before .before .before .goes .ensures .1 (c .before .before .before .if1 .taken) in
     omega (arith, t .0, w .standing .far)
 
 mark-requires : tie.Need-mark-requires Inv-loop μ-loop
@@ -60,7 +62,7 @@ mark-requires c κs =
     let p = c .before .before .before .before .before .before .before .before .before .pre in
     let i = c .before .before .before .before .before .loop in
     let w = i .inv .0 in
-    let t = c .before .before .before .before .goes .ensures (c .before .before .before .if1 .taken) in
+    let t = c .before .before .before .before .goes .ensures .1 (c .before .before .before .if1 .taken) in
     omega (arith, w .standing .few, w .standing .now, w .standing .far)
 
 sounds-on-requires : tie.Need-sounds-on-requires Inv-loop μ-loop
@@ -69,7 +71,7 @@ sounds-on-requires c κs =
     let p = c .before .before .before .before .before .before .before .before .before .before .before .before .before .pre in
     let i = c .before .before .before .before .before .before .before .before .before .loop in
     let w = i .inv .0 in
-    let t = c .before .before .before .before .before .before .before .before .goes .ensures (c .before .before .before .before .before .before .before .if1 .taken) in
+    let t = c .before .before .before .before .before .before .before .before .goes .ensures .1 (c .before .before .before .before .before .before .before .if1 .taken) in
     let bytes : Bytes (a .memory .now) = λ k. omega (arith, c .before .before .before .before .before .before .before .before .before .before .before .before .shared-slice-known .given k) in
     let v = worked-event (a .memory .now) bytes (a .s) (a .end) (a .base) 0 (a .records) (a .words .now) (i .words) (i .l) (i .n) w (omega (arith, t .0)) (omega (arith, t .1, i .inv .1, w .same-length)) _ (c .before .before .before .before .before .renew .ensures) _ _ (c .before .before .before .mark .ensures .0) (c .before .before .before .mark .ensures .1) in
     v .standing
@@ -80,7 +82,7 @@ loop-less c =
     let p = c .before .before .before .before .before .before .before .before .before .before .before .before .before .before .before .before .before .pre in
     let i = c .before .before .before .before .before .before .before .before .before .before .before .before .before .loop in
     let w = i .inv .0 in
-    let t = c .before .before .before .before .before .before .before .before .before .before .before .before .goes .ensures (c .before .before .before .before .before .before .before .before .before .before .before .if1 .taken) in
+    let t = c .before .before .before .before .before .before .before .before .before .before .before .before .goes .ensures .1 (c .before .before .before .before .before .before .before .before .before .before .before .if1 .taken) in
     let bytes : Bytes (a .memory .now) = λ k. omega (arith, c .before .before .before .before .before .before .before .before .before .before .before .before .before .before .before .before .shared-slice-known .given k) in
     let v = worked-event (a .memory .now) bytes (a .s) (a .end) (a .base) 0 (a .records) (a .words .now) (i .words) (i .l) (i .n) w (omega (arith, t .0)) (omega (arith, t .1, i .inv .1, w .same-length)) _ (c .before .before .before .before .before .before .before .before .before .renew .ensures) _ _ (c .before .before .before .before .before .before .before .mark .ensures .0) (c .before .before .before .before .before .before .before .mark .ensures .1) in
     let x = worked-on (a .memory .now) (a .s) (a .end) (a .base) 0 (a .records) (a .words .now) _ _ _ _ _ _ v (c .before .before .before .sounds-on .ensures) in
@@ -96,10 +98,10 @@ loop-again c =
     let p = c .before .before .before .before .before .before .before .before .before .before .before .before .before .before .before .before .before .pre in
     let i = c .before .before .before .before .before .before .before .before .before .before .before .before .before .loop in
     let w = i .inv .0 in
-    let t = c .before .before .before .before .before .before .before .before .before .before .before .before .goes .ensures (c .before .before .before .before .before .before .before .before .before .before .before .if1 .taken) in
+    let t = c .before .before .before .before .before .before .before .before .before .before .before .before .goes .ensures .1 (c .before .before .before .before .before .before .before .before .before .before .before .if1 .taken) in
     let bytes : Bytes (a .memory .now) = λ k. omega (arith, c .before .before .before .before .before .before .before .before .before .before .before .before .before .before .before .before .shared-slice-known .given k) in
     let v = worked-event (a .memory .now) bytes (a .s) (a .end) (a .base) 0 (a .records) (a .words .now) (i .words) (i .l) (i .n) w (omega (arith, t .0)) (omega (arith, t .1, i .inv .1, w .same-length)) _ (c .before .before .before .before .before .before .before .before .before .renew .ensures) _ _ (c .before .before .before .before .before .before .before .mark .ensures .0) (c .before .before .before .before .before .before .before .mark .ensures .1) in
-    (worked-on (a .memory .now) (a .s) (a .end) (a .base) 0 (a .records) (a .words .now) _ _ _ _ _ _ v (c .before .before .before .sounds-on .ensures), i .inv .1)
+    (worked-on (a .memory .now) (a .s) (a .end) (a .base) 0 (a .records) (a .words .now) _ _ _ _ _ _ v (c .before .before .before .sounds-on .ensures), i .inv .1, λ q. untouched-goes (a .memory .now) (a .s) (a .end) (a .base) 0 (a .records) (a .words .now) (i .words) (i .l) (i .n) w q (i .inv .2 q) (omega (arith, t .0)))
 
 brink-requires : tie.Need-brink-requires Inv-loop μ-loop
 brink-requires c κs =
@@ -128,10 +130,11 @@ returns c =
     let k = c .before .brink .ensures in
     rw (c .state-at .ensures)
     (worked-stop (a .memory .now) bytes (a .s) (a .end) (a .base) 0 (a .records) (a .words .now) (i .words) (i .l) (i .n) w (c .before .brink .result)
-    (k .1 (i .l .now) (w .standing .now) q) (k .0 .1) (k .0 .0) refl)
+    (k .1 (i .l .now) (w .standing .now) q) (k .0 .1) (k .0 .0) refl
+    (λ h. untouched-passed (a .memory .now) (a .s) (a .end) (a .base) 0 (a .records) (a .words .now) (i .words) (i .l) (i .n) w h (i .inv .2 h) (c .before .brink .result) (k .0 .0) (k .1 (a .end) (omega arith))))
 
-pub segment-on-spec : {M : Type 1} → statement M
-segment-on-spec =
+pub stretch-on-spec : {M : Type 1} → statement M
+stretch-on-spec =
     tie.close
     (tie.spec
     Inv-loop
