@@ -3,18 +3,60 @@ ghost use mathlib.Core.Path.{_≡_};
 ghost use mathlib.Core.Bool.{false};
 ghost use Prim.Native.Nat.{_+_, _%_, _≤_};
 ghost use lib.IntN.{pos};
+ghost use lib.ListN.{getD};
 ghost use lib.Ieee as Ieee;
 ghost use lib.Ieee.{binary32};
 ghost use lib.Ieee.Exact.{HasValue};
 ghost use Rattle.chip_mixer.specs.Mixer.{squaresLevel, weight, restLevel, mixed};
+ghost use Rattle.chip_mixer.specs.Table.{squaresTable};
 ghost use Rattle.chip_mixer.specs.Fraction.{scale, fractionOf};
+
+// A for each sum of what the two squares give. A match becomes one load, where a constant array is copied at each look-up.
+fn squares_entry(sum: u64) -> u64
+    ensures { λ r. ⌜ r ≡ getD squaresTable sum 0 ⌝ }
+{
+    match sum {
+        0 => 0,
+        1 => 381,
+        2 => 754,
+        3 => 1118,
+        4 => 1473,
+        5 => 1820,
+        6 => 2159,
+        7 => 2491,
+        8 => 2815,
+        9 => 3132,
+        10 => 3441,
+        11 => 3745,
+        12 => 4041,
+        13 => 4332,
+        14 => 4616,
+        15 => 4894,
+        16 => 5167,
+        17 => 5434,
+        18 => 5696,
+        19 => 5952,
+        20 => 6204,
+        21 => 6450,
+        22 => 6692,
+        23 => 6929,
+        24 => 7162,
+        25 => 7390,
+        26 => 7614,
+        27 => 7834,
+        28 => 8049,
+        29 => 8261,
+        30 => 8469,
+        _ => 0,
+    }
+}
 
 // A: the squares' share, by the sum of what they give.
 fn squares(sum: u64) -> u64
     requires { ⌜ sum ≤ 30 ⌝ }
     ensures { λ r. ⌜ r ≡ squaresLevel sum ⌝ }
 {
-    32768 * 2397 * sum / (203200 + 2500 * sum)
+    squares_entry(sum)
 }
 
 // N: the weight of triangle, noise and DMC.
