@@ -60,6 +60,7 @@ extern "C" {
 #define PERCH_REFUSED_FEED 17     /* the log ends in a line that could go on: its line feed is missing */
 #define PERCH_REFUSED_NO_STOP 18  /* the log ends without `stop` */
 #define PERCH_REFUSED_BEHIND 19   /* something stands behind `stop` */
+#define PERCH_REFUSED_CHANNEL 24  /* a channel that is no square and not the noise */
 #define PERCH_REFUSED_COMMAND 25  /* a VGM command that isn't known */
 #define PERCH_REFUSED_VGM_REGISTER 26 /* the register of a VGM command not among $00..$13, $15, $17 */
 #define PERCH_REFUSED_STREAM_END 27 /* a VGM stream ends before its $66 */
@@ -99,6 +100,18 @@ float perch_level_f32(const uint8_t *state, size_t n);
 
 /* Works one clock with the m bytes of sample memory. Refused: 1, 2. */
 uint64_t perch_clock(uint8_t *state, size_t n, const uint8_t *memory, size_t m);
+
+/* Why a channel is silent: 0 is square 1, 1 square 2, 3 the noise. The value is the first reason below that is true, or
+ * PERCH_WHY_SOUNDS + the number, 1 to 15, that the channel gives the mixer. The two reasons of the sweep hold whether it is
+ * enabled or not, and are never the noise's. Refused: 2, 24. */
+uint64_t perch_why(const uint8_t *state, size_t n, uint64_t channel);
+#define PERCH_WHY_DISABLED 1 /* not enabled; its length is 0 too */
+#define PERCH_WHY_LENGTH 2   /* length is 0 */
+#define PERCH_WHY_PERIOD 3   /* a square's period is below 8 */
+#define PERCH_WHY_TARGET 4   /* a square's sweep target is above 2047 */
+#define PERCH_WHY_STEP 5     /* a square's duty step is low, or bit 0 of the noise is set */
+#define PERCH_WHY_VOLUME 6   /* volume is 0 */
+#define PERCH_WHY_SOUNDS 16  /* and the number, 1 to 15 */
 
 /* Works count clocks, leaping where nothing changes. For each clock whose level differs from that before it writes a
  * record of two words: the clock's number in the run, from 1, and the level. It ends early exactly before a clock that

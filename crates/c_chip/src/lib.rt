@@ -13,7 +13,7 @@ use chip_api::Moved;
 use chip_api::Status;
 
 // A number and a value in one.
-fn pack(number: u8, value: u16) -> u64
+pub fn pack(number: u8, value: u16) -> u64
     ensures { λ r. ⌜ r ≡ packed number value ⌝ }
 {
     number as u64 + 256 * value as u64

@@ -1,10 +1,11 @@
-// What C and Rust call: the operations of the crates `c_chip`, `c_run`, `c_log`, `c_play` and `c_import` under C names. A state is 91 bytes
-// lent in place (crate `c_state`), a slice is a pointer and a length, and an answer is one 64-bit number: its number, and above its low
-// byte its value. Bytes that are no state in range are refused, and stay.
+// What C and Rust call: the operations of the crates `c_..` under C names. A state is 91 bytes lent in place (crate `c_state`), a slice is a
+// pointer and a length, and an answer is one 64-bit number: its number, and above its low byte its value. Bytes that are no state in range are
+// refused, and stay.
 ghost use mathlib.Core.Path.{_≡_};
 ghost use Rattle.c_state.specs.Bytes.{flagByte};
 ghost use Rattle.c_chip.specs.Boundary.{packed, bytesAfter, powerNumber, powerBytes, bytesIn, writeFrom, statusFrom, lineFrom, levelFrom, fractionFrom, clockFrom};
 
+pub mod asked;
 pub mod imports;
 pub mod logs;
 pub mod pieces;
