@@ -1,12 +1,12 @@
 //! How often each thing was drawn.
 
 /// The things to be drawn, each with the fewest times and the times so far.
-pub struct Counts(Vec<(&'static str, u64, u64)>);
+pub struct Counts(Vec<(String, u64, u64)>);
 
 impl Counts {
     /// Each thing with the fewest times in 10,000 cases.
-    pub fn new(cases: u64, things: &[(&'static str, u64)]) -> Self {
-        Self(things.iter().map(|&(name, fewest)| (name, fewest * cases / 10_000, 0)).collect())
+    pub fn new(cases: u64, things: impl IntoIterator<Item = (impl Into<String>, u64)>) -> Self {
+        Self(things.into_iter().map(|(name, fewest)| (name.into(), fewest * cases / 10_000, 0)).collect())
     }
 
     /// Counts one of the things.

@@ -129,7 +129,7 @@ pub fn state(random: &mut Random) -> Chip {
 }
 
 /// Bytes that are no state in range: of another length, or any, or with one field outside its range or against another.
-fn no_state(random: &mut Random) -> Vec<u8> {
+pub fn no_state(random: &mut Random) -> Vec<u8> {
     let mut chip = state(random);
     let mut bytes = chip.encode().to_vec();
     match random.within(0..=5) {

@@ -187,7 +187,7 @@ const THINGS: [(&str, u64); 15] = [
 
 /// Draws and judges streams; a failing one is told whole, or its beginning.
 pub fn compare(seed: u64, streams: u64) -> Result<String, String> {
-    let mut counts = Counts::new(streams, &THINGS);
+    let mut counts = Counts::new(streams, THINGS);
     for number in 0..streams {
         let random = &mut Random::new(seed, "imports", number);
         let stream = stream(random, number);

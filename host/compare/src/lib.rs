@@ -9,4 +9,5 @@ pub mod judge;
 pub mod lines;
 pub mod logs;
 pub mod random;
+pub mod reasons;
 pub mod stored;

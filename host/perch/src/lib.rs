@@ -29,11 +29,25 @@
 //! assert_eq!(log, b"log=1\nwrite=4011:40\nwait=29829\nstop=29829\n");
 //! # Ok::<(), perch::Fault>(())
 //! ```
+//!
+//! ```
+//! let mut chip = perch::Chip::power_on();
+//! assert_eq!(chip.why(perch::Channel::Square1)?.to_string(), "not enabled");
+//! for (register, value) in [(0x4015, 0x01), (0x4000, 0xff), (0x4003, 0x00)] {
+//!     chip.write(register, value)?;
+//! }
+//! assert_eq!(chip.why(perch::Channel::Square1)?.to_string(), "period below 8");
+//! chip.write(0x4002, 0xfd)?;
+//! assert_eq!(chip.why(perch::Channel::Square1)?, perch::Why::Sounds(15));
+//! # Ok::<(), perch::Refusal>(())
+//! ```
 
 mod log;
 pub mod raw;
+mod why;
 
 pub use log::{Fault, Item, LOG, Player, body, check, import, item, refusal_text};
+pub use why::{Channel, Why};
 
 use std::fmt;
 
@@ -73,6 +87,7 @@ impl fmt::Display for Refusal {
             17 => "line feed missing",
             18 => "`stop` missing",
             19 => "something after `stop`",
+            24 => "the channel is no square and not the noise",
             25 => "unknown command in the stream",
             26 => "register of a command not among $00..$13, $15, $17",
             27 => "the stream ends before $66",

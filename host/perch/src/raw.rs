@@ -8,7 +8,7 @@
 use standin::{
     perch_begin, perch_body, perch_check, perch_clock, perch_import, perch_in_range, perch_item, perch_level,
     perch_level_f32, perch_line, perch_play_on, perch_player_size, perch_power_on, perch_read_status,
-    perch_refusal_text, perch_run, perch_run_plain, perch_state_size, perch_write,
+    perch_refusal_text, perch_run, perch_run_plain, perch_state_size, perch_why, perch_write,
 };
 
 #[cfg(archive)]
@@ -49,6 +49,7 @@ unsafe extern "C" {
     ) -> u64;
     fn perch_refusal_text(number: u8, place: u64, text: *mut u8, t: usize) -> u64;
     fn perch_import(stream: *const u8, n: usize, text: *mut u8, t: usize) -> u64;
+    fn perch_why(state: *const u8, n: usize, channel: u64) -> u64;
 }
 
 // In every call below a slice gives a pointer that is valid for its length, and two slices of which one may be written
@@ -178,4 +179,9 @@ pub fn refusal_text(number: u8, place: u64, text: &mut [u8]) -> u64 {
 /// Writes the log of a VGM command stream.
 pub fn import(stream: &[u8], text: &mut [u8]) -> u64 {
     unsafe { perch_import(stream.as_ptr(), stream.len(), text.as_mut_ptr(), text.len()) }
+}
+
+/// Why a channel is silent: the reason's number, or 16 + the channel's number where it sounds.
+pub fn why(state: &[u8], channel: u64) -> u64 {
+    unsafe { perch_why(state.as_ptr(), state.len(), channel) }
 }

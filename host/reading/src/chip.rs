@@ -100,7 +100,8 @@ impl Envelope {
         }
     }
 
-    fn volume(&self) -> u16 {
+    /// `n` if constant, else the counter.
+    pub fn volume(&self) -> u16 {
         if self.constant { self.n } else { self.counter }
     }
 }
@@ -227,7 +228,8 @@ impl Square {
         }
     }
 
-    fn output(&self, which: Which) -> u16 {
+    /// What the channel gives to the mixer, 0..15.
+    pub fn output(&self, which: Which) -> u16 {
         let high = DUTIES[usize::from(self.duty)][usize::from(self.position)] == b'1';
         if high && self.length.count > 0 && !self.muted(which) { self.envelope.volume() } else { 0 }
     }
@@ -359,7 +361,8 @@ impl Noise {
         }
     }
 
-    fn output(&self) -> u16 {
+    /// What the channel gives to the mixer, 0..15.
+    pub fn output(&self) -> u16 {
         if self.register & 1 == 1 || self.length.count == 0 { 0 } else { self.envelope.volume() }
     }
 }

@@ -13,6 +13,7 @@ pub mod plain;
 pub mod play;
 pub mod player;
 pub mod vgm;
+pub mod why;
 
 pub use chip::Chip;
 pub use plain::{Plain, Record, plain};
@@ -61,6 +62,8 @@ pub mod number {
     pub const NO_STOP: u8 = 18;
     /// Something stands behind `stop`.
     pub const BEHIND: u8 = 19;
+    /// The channel is no square and not the noise.
+    pub const CHANNEL: u8 = 24;
     /// An unknown command in a stream.
     pub const COMMAND: u8 = 25;
     /// A stream's register is not among $00..$13, $15, $17.

@@ -1,0 +1,43 @@
+//! Request 6: why a square or the noise channel is silent.
+
+use crate::chip::{Chip, DUTIES, Noise, Square, Which};
+use crate::number;
+
+/// 1 to 6 by the first reason that is true; where it sounds 16 + its number.
+fn first(reasons: [bool; 6], number: u16) -> u64 {
+    let reason = reasons.iter().position(|reason| *reason);
+    reason.map_or(16 + u64::from(number), |at| 1 + at as u64)
+}
+
+fn square(square: &Square, which: Which) -> u64 {
+    let volume = square.envelope.volume();
+    let reasons = [
+        !square.length.enabled,
+        square.length.count == 0,
+        square.period < 8,
+        square.target(which) > 2047,
+        DUTIES[usize::from(square.duty)][usize::from(square.position)] == b'0',
+        volume == 0,
+    ];
+    first(reasons, volume)
+}
+
+fn noise(noise: &Noise) -> u64 {
+    let volume = noise.envelope.volume();
+    let reasons = [!noise.length.enabled, noise.length.count == 0, false, false, noise.register & 1 == 1, volume == 0];
+    first(reasons, volume)
+}
+
+/// What a caller in C is answered: 2^8 x the reason, or 2^8 x (16 + the channel's number) where it sounds.
+pub fn why(state: &[u8], channel: u64) -> u64 {
+    let Some(chip) = Chip::decode(state) else {
+        return number::STATE.into();
+    };
+    let value = match channel {
+        0 => square(&chip.squares[0], Which::First),
+        1 => square(&chip.squares[1], Which::Second),
+        3 => noise(&chip.noise),
+        _ => return number::CHANNEL.into(),
+    };
+    value << 8
+}
