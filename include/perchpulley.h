@@ -65,6 +65,7 @@ extern "C" {
 #define PERCH_REFUSED_VGM_REGISTER 26 /* the register of a VGM command not among $00..$13, $15, $17 */
 #define PERCH_REFUSED_STREAM_END 27 /* a VGM stream ends before its $66 */
 #define PERCH_REFUSED_ROOM 28     /* the log is longer than the buffer lent for it, or than 60,000 bytes */
+#define PERCH_REFUSED_LEVEL 29    /* a level above 32,767 */
 
 /* The number of an answer, and its value. */
 #define PERCH_NUMBER(answer) ((unsigned)((answer) & 0xff))
@@ -122,6 +123,28 @@ uint64_t perch_run(uint8_t *state, size_t n, const uint8_t *memory, size_t m, ui
 /* The same, clock by clock. */
 uint64_t perch_run_plain(uint8_t *state, size_t n, const uint8_t *memory, size_t m, uint64_t count, uint32_t *words,
                          size_t w);
+
+/* METERS. What a stretch of levels is: no levels; silent, all are 0; steady, all are equal and not 0; moving, anything
+ * else. The answer is number + 2^8 x case + 2^16 x lowest + 2^32 x highest; of a refusal and of no levels all but the
+ * number is 0. The lowest and the highest occur among the levels and bound them. */
+#define PERCH_METER_NONE 0
+#define PERCH_METER_SILENT 1
+#define PERCH_METER_STEADY 2
+#define PERCH_METER_MOVING 3
+#define PERCH_CASE(answer) ((unsigned)((answer) >> 8 & 0xff))
+#define PERCH_LOWEST(answer) ((uint16_t)((answer) >> 16 & 0xffff))
+#define PERCH_HIGHEST(answer) ((uint16_t)((uint64_t)(answer) >> 32))
+
+/* Over the n levels. Refused: a level above 32,767 (29). */
+uint64_t perch_meter(const uint32_t *levels, size_t n);
+
+/* Over the levels of count records from record start on, of those that are there in the w words of a run, and over the
+ * level before them; PERCH_NO_LEVEL, as any number of more than 32 bits, where that doesn't count. Refused: 29. */
+#define PERCH_NO_LEVEL UINT64_MAX
+uint64_t perch_meter_records(const uint32_t *words, size_t w, uint64_t start, uint64_t count, uint64_t before);
+
+/* A level over 32,768, exact; also of a number above 32,767. */
+float perch_level_fraction(uint16_t level);
 
 /* LOGS. An answer about a log is number + 2^8 x place + 2^32 x value. The place is 0 where the number is 0; else the start
  * of the faulty line for 4, 7 and 8; for 14 and 15 the first byte that can't belong to any right line allowed there with

@@ -8,6 +8,7 @@ ghost use Rattle.c_chip.specs.Boundary.{packed, bytesAfter, powerNumber, powerB
 pub mod asked;
 pub mod imports;
 pub mod logs;
+pub mod meters;
 pub mod pieces;
 pub mod runs;
 

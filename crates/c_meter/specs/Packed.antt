@@ -1,0 +1,45 @@
+-- The meter at the boundary, each answer one number.
+use Prim.Native.Nat.{ℕ, _+_, _*_, _^_}
+use mathlib.Core.List.{List}
+use lib.Dec.{ltb}
+use Rattle.arith.specs.Pick.{pick}
+use Rattle.run_meter.specs.declared.Measured.{Measured}
+use Rattle.run_meter.specs.declared.Measured.the-variants.{Refused, NoLevels, Silent, Steady, Moving}
+use Rattle.run_meter.specs.declared.records.Before.{Before}
+use Rattle.run_meter.specs.declared.records.Before.the-variants.{Nothing, Level}
+use Rattle.run_meter.specs.Measure.{numberOf, measureOf}
+use Rattle.run_meter.specs.Records.{recordLevels, heard}
+
+-- the case of an answer: "0 none, 1 silent, 2 steady, 3 moving", and 0 of a refusal
+abbrev pub caseOf : Measured → ℕ
+caseOf (Refused k) = 0
+caseOf NoLevels = 0
+caseOf Silent = 1
+caseOf (Steady v) = 2
+caseOf (Moving a b) = 3
+
+-- its lowest and highest level, 0 where it has none
+abbrev pub lowestOf : Measured → ℕ
+lowestOf (Refused k) = 0
+lowestOf NoLevels = 0
+lowestOf Silent = 0
+lowestOf (Steady v) = v
+lowestOf (Moving a b) = a
+
+abbrev pub highestOf : Measured → ℕ
+highestOf (Refused k) = 0
+highestOf NoLevels = 0
+highestOf Silent = 0
+highestOf (Steady v) = v
+highestOf (Moving a b) = b
+
+-- "number + 2^8 x case + 2^16 x lowest + 2^32 x highest"
+abbrev pub meterPacked : Measured → ℕ
+meterPacked m = numberOf m + 2 ^ 8 * caseOf m + 2 ^ 16 * lowestOf m + 2 ^ 32 * highestOf m
+
+-- "the level before the first record; a number of more than 32 bits counts nothing"
+abbrev pub beforeOf : ℕ → Before
+beforeOf before = pick (ltb before (2 ^ 32)) (Level before) Nothing
+
+abbrev pub recordsPacked : List ℕ → ℕ → ℕ → ℕ → ℕ
+recordsPacked words start count before = meterPacked (measureOf (heard (beforeOf before) (recordLevels start count words)))

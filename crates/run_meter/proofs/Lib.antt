@@ -1,0 +1,4 @@
+pub mod Answers
+pub mod Exacts
+pub mod Lists
+pub mod Steps

@@ -1,0 +1,5 @@
+pub mod Levels
+pub mod Measure
+pub mod Meter
+pub mod Records
+pub mod Spans

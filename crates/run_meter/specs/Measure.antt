@@ -1,0 +1,31 @@
+-- Request 11: "Over a lent list of levels, answer: no levels; silent at all of them; steady, with its level; or moving, with lowest and
+-- highest". Here in whole levels.
+use Prim.Native.Nat.{ℕ}
+use mathlib.Core.List.{List, [], _∷_}
+use Rattle.arith.specs.Pick.{pick}
+use Rattle.run_meter.specs.declared.Measured.{Measured}
+use Rattle.run_meter.specs.declared.Measured.the-variants.{Refused, NoLevels, Silent, Steady, Moving}
+use Rattle.run_meter.specs.Levels.{allAre, anyAbove, lowest, highest}
+
+-- document 01's number for each answer, 0 where it is done
+abbrev pub numberOf : Measured → ℕ
+numberOf (Refused k) = k
+numberOf NoLevels = 0
+numberOf Silent = 0
+numberOf (Steady v) = 0
+numberOf (Moving a b) = 0
+
+-- and its values: no level, its level, or the lowest and the highest
+abbrev pub levelsOf : Measured → List ℕ
+levelsOf (Refused k) = []
+levelsOf NoLevels = []
+levelsOf Silent = []
+levelsOf (Steady v) = v ∷ []
+levelsOf (Moving a b) = a ∷ b ∷ []
+
+-- "Refusals: 29 for a level above 32,767." "Silent means all are 0, steady all equal and not 0, moving anything else"
+unfoldable pub measureOf : List ℕ → Measured
+measureOf [] = NoLevels
+measureOf (x ∷ l) =
+    pick (anyAbove (x ∷ l)) (Refused 29)
+    (pick (allAre 0 (x ∷ l)) Silent (pick (allAre x l) (Steady x) (Moving (lowest x l) (highest x l))))
