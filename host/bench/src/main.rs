@@ -189,6 +189,24 @@ fn import(quick: bool) {
     println!("| {name:<34} | {bytes:>11} | {:>10} | {best:>8.6} | {:>14.1} |", log.len(), bytes as f64 / best / 1e6);
 }
 
+/// Measures the meter over more levels than the caches hold, and prints the row.
+fn meter(quick: bool) -> Result<(), Refusal> {
+    let words = (if quick { 64 } else { 512 }) << 18;
+    let random = &mut Random::new(1, "meter", 0);
+    let levels: Vec<u32> = (0..words).map(|_| random.within(0..=32_767) as u32).collect();
+    let mut best = f64::INFINITY;
+    for _ in 0..if quick { 3 } else { 20 } {
+        let begun = now();
+        let shown = perch::meter(&levels)?;
+        best = best.min(now() - begun);
+        assert!(matches!(shown, perch::Meter::Moving { .. }));
+    }
+    println!("\n| {:<34} | {:>11} | {:>8} | {:>8} |", "the meter", "levels", "seconds", "GB/s");
+    println!("|{}|{}", "-".repeat(36), "-:|".repeat(3));
+    println!("| {:<34} | {words:>11} | {best:>8.5} | {:>8.2} |", "any levels", 4.0 * words as f64 / best / 1e9);
+    Ok(())
+}
+
 /// Processor time of the commands run so far, in seconds.
 fn of_commands() -> f64 {
     #[repr(C)]
@@ -307,6 +325,7 @@ fn table(log: Option<String>, gme: Option<String>, quick: bool) -> Result<(), Bo
         }
     }
     import(quick);
+    meter(quick)?;
     #[cfg(pace)]
     {
         println!("\n| {:<34} | {:>8} |", "the clock by itself", "ns/clock");

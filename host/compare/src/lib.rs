@@ -8,6 +8,7 @@ pub mod imports;
 pub mod judge;
 pub mod lines;
 pub mod logs;
+pub mod meters;
 pub mod random;
 pub mod reasons;
 pub mod stored;

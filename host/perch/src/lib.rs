@@ -41,12 +41,21 @@
 //! assert_eq!(chip.why(perch::Channel::Square1)?, perch::Why::Sounds(15));
 //! # Ok::<(), perch::Refusal>(())
 //! ```
+//!
+//! ```
+//! # use perch::Meter;
+//! assert_eq!(perch::meter(&[0, 16384])?, Meter::Moving { lowest: 0.0, highest: 0.5 });
+//! assert_eq!(perch::meter_records(&[7, 8192, 9, 8192], 0, 2, None)?.to_string(), "steady at 0.25");
+//! # Ok::<(), perch::Refusal>(())
+//! ```
 
 mod log;
+mod meter;
 pub mod raw;
 mod why;
 
 pub use log::{Fault, Item, LOG, Player, body, check, import, item, refusal_text};
+pub use meter::{Meter, meter, meter_records};
 pub use why::{Channel, Why};
 
 use std::fmt;
@@ -92,6 +101,7 @@ impl fmt::Display for Refusal {
             26 => "register of a command not among $00..$13, $15, $17",
             27 => "the stream ends before $66",
             28 => "the log is longer than the buffer or 60,000 bytes",
+            29 => "a level above 32,767",
             number => return write!(f, "refusal {number}"),
         })
     }

@@ -2,13 +2,14 @@
 //!
 //! An answer is number + 256 x value; a run's number + 2^8 x clocks done + 2^32 x records; one about a log number + 2^8 x
 //! place + 2^32 x value; a piece's number + 2^8 x over + 2^32 x bytes written; an import's 2^8 x the log's length, or number +
-//! 2^8 x place.
+//! 2^8 x place; a meter's number + 2^8 x case + 2^16 x lowest + 2^32 x highest.
 
 #[cfg(not(archive))]
 use standin::{
     perch_begin, perch_body, perch_check, perch_clock, perch_import, perch_in_range, perch_item, perch_level,
-    perch_level_f32, perch_line, perch_play_on, perch_player_size, perch_power_on, perch_read_status,
-    perch_refusal_text, perch_run, perch_run_plain, perch_state_size, perch_why, perch_write,
+    perch_level_f32, perch_level_fraction, perch_line, perch_meter, perch_meter_records, perch_play_on,
+    perch_player_size, perch_power_on, perch_read_status, perch_refusal_text, perch_run, perch_run_plain,
+    perch_state_size, perch_why, perch_write,
 };
 
 #[cfg(archive)]
@@ -50,6 +51,9 @@ unsafe extern "C" {
     fn perch_refusal_text(number: u8, place: u64, text: *mut u8, t: usize) -> u64;
     fn perch_import(stream: *const u8, n: usize, text: *mut u8, t: usize) -> u64;
     fn perch_why(state: *const u8, n: usize, channel: u64) -> u64;
+    fn perch_meter(levels: *const u32, n: usize) -> u64;
+    fn perch_meter_records(words: *const u32, w: usize, start: u64, count: u64, before: u64) -> u64;
+    safe fn perch_level_fraction(level: u16) -> f32;
 }
 
 // In every call below a slice gives a pointer that is valid for its length, and two slices of which one may be written
@@ -184,4 +188,19 @@ pub fn import(stream: &[u8], text: &mut [u8]) -> u64 {
 /// Why a channel is silent: the reason's number, or 16 + the channel's number where it sounds.
 pub fn why(state: &[u8], channel: u64) -> u64 {
     unsafe { perch_why(state.as_ptr(), state.len(), channel) }
+}
+
+/// The meter over levels.
+pub fn meter(levels: &[u32]) -> u64 {
+    unsafe { perch_meter(levels.as_ptr(), levels.len()) }
+}
+
+/// The meter over the levels of records, behind the level before if that is below 2^32.
+pub fn meter_records(words: &[u32], start: u64, count: u64, before: u64) -> u64 {
+    unsafe { perch_meter_records(words.as_ptr(), words.len(), start, count, before) }
+}
+
+/// A level over 32,768.
+pub fn level_fraction(level: u16) -> f32 {
+    perch_level_fraction(level)
 }

@@ -8,6 +8,7 @@ pub mod boundary;
 pub mod bytes;
 pub mod chip;
 pub mod log;
+pub mod meter;
 pub mod mixer;
 pub mod plain;
 pub mod play;
@@ -72,4 +73,6 @@ pub mod number {
     pub const STREAM_ENDS: u8 = 27;
     /// An imported log is longer than the buffer or 60,000 bytes.
     pub const ROOM: u8 = 28;
+    /// A level above 32,767.
+    pub const LEVEL: u8 = 29;
 }

@@ -8,7 +8,7 @@
 //! two of them overlap.
 #![allow(clippy::missing_safety_doc, missing_docs)]
 
-use reading::{boundary, player as pieces, vgm, why};
+use reading::{boundary, meter, mixer, player as pieces, vgm, why};
 use std::slice::{from_raw_parts, from_raw_parts_mut};
 
 #[cfg_attr(feature = "export", unsafe(no_mangle))]
@@ -146,4 +146,19 @@ pub unsafe extern "C" fn perch_import(stream: *const u8, n: usize, text: *mut u8
 #[cfg_attr(feature = "export", unsafe(no_mangle))]
 pub unsafe extern "C" fn perch_why(state: *const u8, n: usize, channel: u64) -> u64 {
     why::why(unsafe { from_raw_parts(state, n) }, channel)
+}
+
+#[cfg_attr(feature = "export", unsafe(no_mangle))]
+pub unsafe extern "C" fn perch_meter(levels: *const u32, n: usize) -> u64 {
+    meter::meter(unsafe { from_raw_parts(levels, n) })
+}
+
+#[cfg_attr(feature = "export", unsafe(no_mangle))]
+pub unsafe extern "C" fn perch_meter_records(words: *const u32, w: usize, start: u64, count: u64, before: u64) -> u64 {
+    meter::meter_records(unsafe { from_raw_parts(words, w) }, start, count, before)
+}
+
+#[cfg_attr(feature = "export", unsafe(no_mangle))]
+pub extern "C" fn perch_level_fraction(level: u16) -> f32 {
+    mixer::level_f32(level)
 }
