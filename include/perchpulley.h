@@ -38,6 +38,7 @@ extern "C" {
 #define PERCH_STATE_SIZE 91        /* bytes of a state; perch_state_size() at run time */
 #define PERCH_MEMORY_SIZE 32768    /* bytes of sample memory, $8000 to $FFFF */
 #define PERCH_MOST_CLOCKS 1000000  /* clocks that one run may be asked for */
+#define PERCH_MOST_SHEET 4081      /* bytes that one sheet may be asked for */
 #define PERCH_PLAYER_SIZE 190      /* bytes of a player; perch_player_size() at run time */
 #define PERCH_LONGEST_LINE 23      /* bytes of the longest line that a player writes, with its line feed */
 #define PERCH_REFUSAL_SIZE 40      /* bytes in which the text of any refusal fits */
@@ -60,6 +61,10 @@ extern "C" {
 #define PERCH_REFUSED_FEED 17     /* the log ends in a line that could go on: its line feed is missing */
 #define PERCH_REFUSED_NO_STOP 18  /* the log ends without `stop` */
 #define PERCH_REFUSED_BEHIND 19   /* something stands behind `stop` */
+#define PERCH_REFUSED_SHEET_LEVEL 20 /* of a sheet: level above 127 */
+#define PERCH_REFUSED_SHEET_ADDRESS 21 /* of a sheet: address outside 32768..65535 */
+#define PERCH_REFUSED_SHEET_LENGTH 22 /* of a sheet: length above PERCH_MOST_SHEET */
+#define PERCH_REFUSED_SHEET_BUFFER 23 /* of a sheet: buffer shorter than the length */
 #define PERCH_REFUSED_CHANNEL 24  /* a channel that is no square and not the noise */
 #define PERCH_REFUSED_COMMAND 25  /* a VGM command that isn't known */
 #define PERCH_REFUSED_VGM_REGISTER 26 /* the register of a VGM command not among $00..$13, $15, $17 */
@@ -113,6 +118,12 @@ uint64_t perch_why(const uint8_t *state, size_t n, uint64_t channel);
 #define PERCH_WHY_STEP 5     /* a square's duty step is low, or bit 0 of the noise is set */
 #define PERCH_WHY_VOLUME 6   /* volume is 0 */
 #define PERCH_WHY_SOUNDS 16  /* and the number, 1 to 15 */
+
+/* A sheet for a sample in the m bytes of sample memory: from a level and an address on, the level after each of length bytes
+ * into the buffer of b bytes, one byte a level. After 65535 comes address 32768. The value is how many levels were written;
+ * bytes behind them stay. Refused, also for length 0: 1, 20, 21, 22, 23. */
+uint64_t perch_sheet(const uint8_t *memory, size_t m, uint64_t level, uint64_t address, uint64_t length,
+                     uint8_t *buffer, size_t b);
 
 /* Works count clocks, leaping where nothing changes. For each clock whose level differs from that before it writes a
  * record of two words: the clock's number in the run, from 1, and the level. It ends early exactly before a clock that

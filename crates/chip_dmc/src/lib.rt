@@ -112,14 +112,15 @@ impl Output {
 }
 
 // The byte of sample memory at an address.
-fn byte_of(memory: &[u8], address: u16) -> u8
+pub fn byte_of(memory: &[u8], address: u16) -> u8
     ensures { λ r. ⌜ r ≡ byteAt (now (memory .entry)) address ⌝ }
 {
     let i = (address % 32768) as usize;
     if i < memory.len() { memory[i] } else { 0 }
 }
 
-fn address_after(a: u16) -> u16
+// The address after one: after $FFFF comes $8000.
+pub fn address_after(a: u16) -> u16
     ensures { λ r. ⌜ r ≡ nextAddress a ⌝ }
 {
     if a < 0xFFFF { a + 1 } else { 0x8000 }

@@ -1,0 +1,4 @@
+pub mod Levels
+pub mod Outputs
+pub mod Refusals
+pub mod Steps
