@@ -11,4 +11,5 @@ pub mod logs;
 pub mod meters;
 pub mod random;
 pub mod reasons;
+pub mod sheets;
 pub mod stored;

@@ -48,14 +48,23 @@
 //! assert_eq!(perch::meter_records(&[7, 8192, 9, 8192], 0, 2, None)?.to_string(), "steady at 0.25");
 //! # Ok::<(), perch::Refusal>(())
 //! ```
+//!
+//! ```
+//! let mut memory = [0xff; perch::MEMORY];
+//! memory[2] = 0x00;
+//! assert_eq!(perch::sheet(&memory, 64, 0x8000, 3)?, [80, 96, 80]);
+//! # Ok::<(), perch::Refusal>(())
+//! ```
 
 mod log;
 mod meter;
 pub mod raw;
+mod sheet;
 mod why;
 
 pub use log::{Fault, Item, LOG, Player, body, check, import, item, refusal_text};
 pub use meter::{Meter, meter, meter_records};
+pub use sheet::sheet;
 pub use why::{Channel, Why};
 
 use std::fmt;
@@ -96,6 +105,10 @@ impl fmt::Display for Refusal {
             17 => "line feed missing",
             18 => "`stop` missing",
             19 => "something after `stop`",
+            20 => "level above 127",
+            21 => "address outside 32768..65535",
+            22 => "length above 4081",
+            23 => "buffer shorter than the length",
             24 => "the channel is no square and not the noise",
             25 => "unknown command in the stream",
             26 => "register of a command not among $00..$13, $15, $17",

@@ -8,7 +8,7 @@
 use standin::{
     perch_begin, perch_body, perch_check, perch_clock, perch_import, perch_in_range, perch_item, perch_level,
     perch_level_f32, perch_level_fraction, perch_line, perch_meter, perch_meter_records, perch_play_on,
-    perch_player_size, perch_power_on, perch_read_status, perch_refusal_text, perch_run, perch_run_plain,
+    perch_player_size, perch_power_on, perch_read_status, perch_refusal_text, perch_run, perch_run_plain, perch_sheet,
     perch_state_size, perch_why, perch_write,
 };
 
@@ -54,6 +54,15 @@ unsafe extern "C" {
     fn perch_meter(levels: *const u32, n: usize) -> u64;
     fn perch_meter_records(words: *const u32, w: usize, start: u64, count: u64, before: u64) -> u64;
     safe fn perch_level_fraction(level: u16) -> f32;
+    fn perch_sheet(
+        memory: *const u8,
+        m: usize,
+        level: u64,
+        address: u64,
+        length: u64,
+        buffer: *mut u8,
+        b: usize,
+    ) -> u64;
 }
 
 // In every call below a slice gives a pointer that is valid for its length, and two slices of which one may be written
@@ -203,4 +212,9 @@ pub fn meter_records(words: &[u32], start: u64, count: u64, before: u64) -> u64 
 /// A level over 32,768.
 pub fn level_fraction(level: u16) -> f32 {
     perch_level_fraction(level)
+}
+
+/// Writes the level after each byte of a sample; the value is how many they are.
+pub fn sheet(memory: &[u8], level: u64, address: u64, length: u64, buffer: &mut [u8]) -> u64 {
+    unsafe { perch_sheet(memory.as_ptr(), memory.len(), level, address, length, buffer.as_mut_ptr(), buffer.len()) }
 }

@@ -13,6 +13,7 @@ pub mod mixer;
 pub mod plain;
 pub mod play;
 pub mod player;
+pub mod sheet;
 pub mod vgm;
 pub mod why;
 
@@ -63,6 +64,14 @@ pub mod number {
     pub const NO_STOP: u8 = 18;
     /// Something stands behind `stop`.
     pub const BEHIND: u8 = 19;
+    /// A sheet's level is above 127.
+    pub const SHEET_LEVEL: u8 = 20;
+    /// A sheet's address is outside 32768..65535.
+    pub const SHEET_ADDRESS: u8 = 21;
+    /// A sheet's length is above 4081.
+    pub const SHEET_LENGTH: u8 = 22;
+    /// A sheet's buffer is shorter than the length.
+    pub const SHEET_ROOM: u8 = 23;
     /// The channel is no square and not the noise.
     pub const CHANNEL: u8 = 24;
     /// An unknown command in a stream.

@@ -8,7 +8,7 @@
 //! two of them overlap.
 #![allow(clippy::missing_safety_doc, missing_docs)]
 
-use reading::{boundary, meter, mixer, player as pieces, vgm, why};
+use reading::{boundary, meter, mixer, player as pieces, sheet, vgm, why};
 use std::slice::{from_raw_parts, from_raw_parts_mut};
 
 #[cfg_attr(feature = "export", unsafe(no_mangle))]
@@ -161,4 +161,17 @@ pub unsafe extern "C" fn perch_meter_records(words: *const u32, w: usize, start:
 #[cfg_attr(feature = "export", unsafe(no_mangle))]
 pub extern "C" fn perch_level_fraction(level: u16) -> f32 {
     mixer::level_f32(level)
+}
+
+#[cfg_attr(feature = "export", unsafe(no_mangle))]
+pub unsafe extern "C" fn perch_sheet(
+    memory: *const u8,
+    m: usize,
+    level: u64,
+    address: u64,
+    length: u64,
+    buffer: *mut u8,
+    b: usize,
+) -> u64 {
+    unsafe { sheet::sheet(from_raw_parts(memory, m), level, address, length, from_raw_parts_mut(buffer, b)) }
 }
