@@ -124,15 +124,15 @@ module _ {S : Type 0} (m : Machine S) where
       go false false ih = ih _ (k (p .state) h)
 
   -- g clocks that leave the level as it was
-  abbrev pub Quiet : ℕ → S → Type 0
-  Quiet g s = (k : ℕ) → k ≤ g → m .level (iterate (m .clock) k s) ≡ m .level s
+  abbrev pub Unchanged : ℕ → S → Type 0
+  Unchanged g s = (k : ℕ) → k ≤ g → m .level (iterate (m .clock) k s) ≡ m .level s
 
   -- the progress g clocks on, with no record
   abbrev pub leapt : ℕ → Progress S → Progress S
   leapt g p = record { state = iterate (m .clock) g (p .state); done = p .done + g; room = p .room; marks = p .marks }
 
   -- clocks that leave the level are passed with no record
-  pub reading-quiet : (g : ℕ) (p : Progress S) → Quiet g (p .state) → reading m g p ≡ leapt g p
+  pub reading-quiet : (g : ℕ) (p : Progress S) → Unchanged g (p .state) → reading m g p ≡ leapt g p
   unfolding reading iterate worked
   reading-quiet zero p q = simp add-zero
   reading-quiet (suc g) p q =
@@ -140,19 +140,19 @@ module _ {S : Type 0} (m : Machine S) where
       rw (eq-eqb _ _ e) (reading-quiet g (unrecorded m p) (λ k h. q (suc k) (suc-le-suc h) ∙ sym e) ∙ simp (add-assoc, one-add))
 
   -- the one clock after a leap: no record
-  pub reading-same : (g : ℕ) (p : Progress S) → Quiet g (p .state) → same m (leapt g p .state) ≡ true
+  pub reading-same : (g : ℕ) (p : Progress S) → Unchanged g (p .state) → same m (leapt g p .state) ≡ true
       → reading m (g + 1) p ≡ unrecorded m (leapt g p)
   unfolding reading worked
   reading-same g p q e = reading-add g 1 p ∙ ap (reading m 1) (reading-quiet g p q) ∙ rw e
 
   -- the one clock after a leap: a record, with room
-  pub reading-mark : (g : ℕ) (p : Progress S) → Quiet g (p .state) → same m (leapt g p .state) ≡ false → 0 < p .room
+  pub reading-mark : (g : ℕ) (p : Progress S) → Unchanged g (p .state) → same m (leapt g p .state) ≡ false → 0 < p .room
       → reading m (g + 1) p ≡ recorded m (leapt g p)
   unfolding reading worked
   reading-mark g p q e h = reading-add g 1 p ∙ ap (reading m 1) (reading-quiet g p q) ∙ rw (e, ne-eqb (p .room) 0 (omega arith))
 
   -- the one clock after a leap: no room
-  pub reading-stop : (g n : ℕ) (p : Progress S) → Quiet g (p .state) → same m (leapt g p .state) ≡ false → p .room ≡ 0
+  pub reading-stop : (g n : ℕ) (p : Progress S) → Unchanged g (p .state) → same m (leapt g p .state) ≡ false → p .room ≡ 0
       → reading m (g + n) p ≡ leapt g p
   reading-stop g n p q e h =
       reading-add g n p ∙ ap (reading m n) (reading-quiet g p q) ∙ reading-stopped n (leapt g p) (rw (e, eq-eqb _ _ h))

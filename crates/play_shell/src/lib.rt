@@ -1,6 +1,5 @@
-// What the programs share: the sample memory read, a log played to standard output.
+// What the player's programs share: a log played to standard output.
 ghost use mathlib.Core.Path.{_≡_};
-ghost use Rattle.io.specs.Counts.{Counts};
 use libc::STDOUT_FILENO;
 use play_model::Player;
 
@@ -52,24 +51,4 @@ pub fn play(log: &[u8], memory: &[u8])
     } else {
         refused(b.number, b.place);
     }
-}
-
-// No bytes.
-fn none(memory: &[u8]) -> usize
-    ensures { λ r. ⌜ Counts r (now (memory .entry)) ⌝ }
-{
-    io::count(0, memory)
-}
-
-// The bytes of `sample.bin` at the start of a memory, and how many: none where it can't be opened. Which bytes is the file's affair.
-pub fn sample(memory: &mut [u8]) -> usize
-    ensures { λ r. ⌜ Counts r (now (memory .exit)) ⌝ }
-{
-    let file = os::open_read(b"sample.bin");
-    if file < 0 {
-        return none(memory);
-    }
-    let n = io::read_full(file, memory);
-    libc::close(file);
-    n
 }

@@ -9,7 +9,7 @@ use borrow.Author.Tests.{eq-eqb, ne-eqb}
 use Rattle.arith.specs.Iterate.{iterate}
 use Rattle.arith.proofs.IterateLaws.{iterate-zero}
 use Rattle.machine.specs.Reading.{Mark, Progress, start, reading, plain}
-use Rattle.machine.proofs.ReadingLaws.{Quiet, reading-add, reading-few, reading-keeps, reading-quiet, reading-same, reading-mark, reading-stop}
+use Rattle.machine.proofs.ReadingLaws.{Unchanged, reading-add, reading-few, reading-keeps, reading-quiet, reading-same, reading-mark, reading-stop}
 use Rattle.chip.specs.Clock.{chipClock}
 use Rattle.chip.specs.Level.{stateLevel}
 use Rattle.chip.specs.Range.{Bytes}
@@ -60,11 +60,11 @@ module _ (memory : List ℕ) (s : State) (words₀ : List ℕ) where
     on : (k : ℕ) → reading (chipMachine memory) (done + k) (start (roomOf words₀) s) ≡ reading (chipMachine memory) k here
     on k = reading-add (chipMachine memory) done k (start (roomOf words₀) s) ∙ ap (reading (chipMachine memory) k) (h .read)
 
-    none : Quiet (chipMachine memory) 0 state
+    none : Unchanged (chipMachine memory) 0 state
     none k q = ap stateLevel (ap (λ (i : ℕ). iterate (chipClock memory) i state) (let e : k ≡ 0 = omega arith in e) ∙ iterate-zero (chipClock memory) state)
 
     -- g clocks that leave the level
-    pub held-leap : (g : ℕ) → Quiet (chipMachine memory) g state → Held memory s words₀ words (iterate (chipClock memory) g state) (done + g) n
+    pub held-leap : (g : ℕ) → Unchanged (chipMachine memory) g state → Held memory s words₀ words (iterate (chipClock memory) g state) (done + g) n
     held-leap g q =
         record {
           marks = h .marks;

@@ -42,7 +42,8 @@ fn lengths() {
 
 fn main() {
     let mut memory = [0u8; 32769];
-    let n = play_shell::sample(&mut memory);
+    let r = perch_io::read_file(b"sample.bin", &mut memory);
+    let n = r.count;
     all(&memory[..n]);
     lengths();
 }
