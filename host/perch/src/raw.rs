@@ -78,7 +78,7 @@ pub fn power_on(state: &mut [u8]) -> u64 {
     unsafe { perch_power_on(state.as_mut_ptr(), state.len()) }
 }
 
-/// 1 where the bytes are a state in range; 2 is its refusal.
+/// Value 1 where the bytes are a state in range, else 0; it refuses nothing.
 pub fn in_range(state: &[u8]) -> u64 {
     unsafe { perch_in_range(state.as_ptr(), state.len()) }
 }
