@@ -96,13 +96,10 @@ uint64_t perch_write(uint8_t *state, size_t n, uint16_t reg, uint8_t value);
 uint64_t perch_read_status(uint8_t *state, size_t n);
 
 /* Value 1 where the interrupt line is asserted. Refused: 2. */
-uint64_t perch_line(const uint8_t *state, size_t n);
+uint64_t perch_interrupt_line(const uint8_t *state, size_t n);
 
 /* The mixed level, 0..32767. Refused: 2. */
 uint64_t perch_level(const uint8_t *state, size_t n);
-
-/* The mixed level over 32,768, exact; 0.0 where the bytes are no state in range. */
-float perch_level_f32(const uint8_t *state, size_t n);
 
 /* Works one clock with the m bytes of sample memory. Refused: 1, 2. */
 uint64_t perch_clock(uint8_t *state, size_t n, const uint8_t *memory, size_t m);
@@ -154,8 +151,10 @@ uint64_t perch_meter(const uint32_t *levels, size_t n);
 #define PERCH_NO_LEVEL UINT64_MAX
 uint64_t perch_meter_records(const uint32_t *words, size_t w, uint64_t start, uint64_t count, uint64_t before);
 
-/* A level over 32,768, exact; also of a number above 32,767. */
+/* A level over 32,768, exact; also of a number above 32,767. The level of a state as a float is
+ * PERCH_LEVEL_FRACTION(perch_level(state, n)), where the answer's number is 0. */
 float perch_level_fraction(uint16_t level);
+#define PERCH_LEVEL_FRACTION(answer) perch_level_fraction((uint16_t)PERCH_VALUE(answer))
 
 /* LOGS. An answer about a log is number + 2^8 x place + 2^32 x value. The place is 0 where the number is 0; else the start
  * of the faulty line for 4, 7 and 8; for 14 and 15 the first byte that can't belong to any right line allowed there with
@@ -205,11 +204,11 @@ uint64_t perch_begin(uint8_t *player, size_t p, const uint8_t *log, size_t n, co
  * are those that the player began with; then the pieces joined are what the player program writes, and no piece is
  * refused. A text of PERCH_LONGEST_LINE bytes or more gets one line at least until the player is over; how many more is
  * free; a shorter one may get none, and then the player stays. Bytes behind the lines stay; no line goes behind the
- * first 4,294,967,295 bytes. The answer is number + 2^8 x over + 2^32 x bytes written.
+ * first 4,294,967,295 bytes. The answer is 2^8 x over + 2^32 x bytes written; refused it is an answer about a log.
  *
  * Refused: 1; the bytes are no player, or their state is out of range (2). A player that its log didn't lead to may be
  * refused with 3 (a wait of more than PERCH_MOST_CLOCKS), with 9 (a time above 2,000,000,000) or as the line that it
- * comes to. The answer doesn't hold the place of that line. */
+ * comes to, and PERCH_PLACE has that line's place. */
 uint64_t perch_play_on(uint8_t *player, size_t p, const uint8_t *log, size_t n, const uint8_t *memory, size_t m,
                        uint8_t *text, size_t t);
 #define PERCH_OVER(answer) ((unsigned)((answer) >> 8 & 1))

@@ -37,10 +37,10 @@ int main(void)
     expect("records", PERCH_RECORDS(answer), 32);
     expect("the last record's clock", words[62], 34);
     expect("status", PERCH_VALUE(perch_read_status(state, sizeof state)), 0x04);
-    expect("line", perch_line(state, sizeof state), 0);
+    expect("line", perch_interrupt_line(state, sizeof state), 0);
     expect("one clock", perch_clock(state, sizeof state, memory, sizeof memory), PERCH_DONE);
     expect("plain", perch_run_plain(state, sizeof state, memory, sizeof memory, 0, words, 0), PERCH_DONE);
-    expect("float", (uint64_t)(perch_level_f32(state, sizeof state) * 32768.0f),
+    expect("float", (uint64_t)(PERCH_LEVEL_FRACTION(perch_level(state, sizeof state)) * 32768.0f),
            PERCH_VALUE(perch_level(state, sizeof state)));
 
     /* Refusals, the lowest number first; the state stays. */

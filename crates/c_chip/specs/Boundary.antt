@@ -5,11 +5,10 @@ use mathlib.Core.Bool.{Bool, false}
 use mathlib.Core.List.{List}
 use lib.ListN.{length}
 use lib.Dec.{eqb}
-use lib.Ieee.{Float}
 use Rattle.arith.specs.Pick.{pick, both}
 use Rattle.chip.specs.Range.{inRange, powerOn}
 use Rattle.chip.specs.declared.State.{State}
-use Rattle.chip_api.specs.Answer.{moved, isMemory, writeAnswer, statusAnswer, lineAnswer, levelAnswer, fractionAnswer, clockAnswer, nought}
+use Rattle.chip_api.specs.Answer.{moved, isMemory, writeAnswer, statusAnswer, lineAnswer, levelAnswer, clockAnswer}
 use Rattle.chip_api.specs.declared.Moved.{Moved}
 use Rattle.chip_api.specs.declared.Status.{Status}
 use Rattle.chip_api.specs.declared.Asserted.{Asserted}
@@ -50,10 +49,6 @@ lineFrom b = pick (isState b) (lineAnswer (stateOf b)) (record { number = 2; ass
 -- the level: 2
 unfoldable pub levelFrom : List ℕ → Mixed
 levelFrom b = pick (isState b) (levelAnswer (stateOf b)) (record { number = 2; level = 0 })
-
--- the level as a float, "0.0 where refused"
-unfoldable pub fractionFrom : List ℕ → Float
-fractionFrom b = pick (isState b) (fractionAnswer (stateOf b) .fraction) nought
 
 -- the number where sample memory is asked for and the bytes are no state's: "Lowest number first"
 abbrev pub noState : List ℕ → ℕ

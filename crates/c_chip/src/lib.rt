@@ -5,7 +5,7 @@ ghost use lib.Dec.{eqb};
 ghost use Rattle.arith.specs.Pick.{pick};
 ghost use Rattle.c_state.specs.Bytes.{flagByte};
 ghost use Rattle.c_state.specs.Encoded.{encoded};
-ghost use Rattle.c_chip.specs.Boundary.{packed, bytesAfter, powerNumber, powerBytes, bytesIn, writeFrom, statusFrom, lineFrom, levelFrom, fractionFrom, noState, clockFrom};
+ghost use Rattle.c_chip.specs.Boundary.{packed, bytesAfter, powerNumber, powerBytes, bytesIn, writeFrom, statusFrom, lineFrom, levelFrom, noState, clockFrom};
 use chip::State;
 use chip_api::Asserted;
 use chip_api::Mixed;
@@ -127,7 +127,7 @@ fn line_from(b: &[u8]) -> Asserted
 }
 
 // Value 1 where the interrupt line is asserted. Refused: 2.
-pub fn line(state: &[u8]) -> u64
+pub fn interrupt_line(state: &[u8]) -> u64
     ensures { λ r. ⌜ r ≡ packed (lineFrom (now (state .entry)) .number) (flagByte (lineFrom (now (state .entry)) .asserted)) ⌝ }
 {
     let m = line_from(state);
@@ -154,18 +154,6 @@ pub fn level(state: &[u8]) -> u64
 {
     let m = level_from(state);
     pack(m.number, m.level)
-}
-
-// The mixed level over 32,768; 0.0 where the bytes are no state in range.
-pub fn level_f32(state: &[u8]) -> f32
-    ensures { λ r. ⌜ r ≡ fractionFrom (now (state .entry)) ⌝ }
-{
-    let s = c_state::decode(state);
-    if c_state::is_state(state) {
-        let m = chip_api::level_f32(s);
-        return m.fraction;
-    }
-    0.0
 }
 
 // The number where sample memory is asked for and the bytes are no state.

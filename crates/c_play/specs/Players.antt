@@ -33,9 +33,10 @@ beginPacked log memory b = logPacked (beginNumber log memory b) (beginPlace log 
 abbrev pub beginBytes : List ℕ → List ℕ → List ℕ → List ℕ
 beginBytes log memory b = playerAfter (beginNumber log memory b) (begunOf log memory .player) b
 
--- "number + 2^8 x over + 2^32 x bytes written"; the place of a refusal is not handed out
+-- done: "2^8 x over + 2^32 x bytes written"; refused: "number + 2^8 x place", as every answer about a log (24 bits of it: a log's places have 16)
 abbrev pub piecePacked : Played → ℕ
-piecePacked r = r .number + 2 ^ 8 * flagByte (r .over) + 2 ^ 32 * r .length
+piecePacked r =
+    pick (eqb (r .number) 0) (2 ^ 8 * flagByte (r .over) + 2 ^ 32 * r .length) (r .number + 2 ^ 8 * (r .place % 2 ^ 24))
 
 -- a piece: 1, then 2 (bytes that are no player's, or hold a state out of range), then what the player comes to
 abbrev pub PlayedFrom : List ℕ → List ℕ → List ℕ → List ℕ → List ℕ → Played → Type 0

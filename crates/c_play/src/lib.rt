@@ -78,12 +78,15 @@ fn pack_piece(r: Played) -> u64
     requires { ⌜ r .length ≤ 4294967295 ⌝ }
     ensures { λ n. ⌜ n ≡ piecePacked r ⌝ }
 {
-    let over = arith::pick_u16(r.over, 1, 0);
-    r.number as u64 + 256 * over as u64 + 4294967296 * r.length as u64
+    if r.number == 0 {
+        let over = arith::pick_u16(r.over, 1, 0);
+        return 256 * over as u64 + 4294967296 * r.length as u64;
+    }
+    r.number as u64 + 256 * (r.place % 16777216) as u64
 }
 
 // Writes the player's next lines to the text, whole lines only and to its first 4,294,967,295 bytes at most, and moves the player
-// behind them. Refused: 1; 2; then as the line or the wait that the player comes to, whose place in the log is not handed out.
+// behind them. Refused: 1; 2; then as the line or the wait that the player comes to, with its place in the log.
 pub fn play_on(player: &mut [u8], log: &[u8], memory: &[u8], text: &mut [u8]) -> u64
     ensures { λ r. ⌜ Continued (now (log .entry)) (now (memory .entry)) (now (player .entry)) (now (player .exit)) (now (text .entry)) (now (text .exit)) r ⌝ }
 {

@@ -3,7 +3,7 @@
 // refused, and stay.
 ghost use mathlib.Core.Path.{_≡_};
 ghost use Rattle.c_state.specs.Bytes.{flagByte};
-ghost use Rattle.c_chip.specs.Boundary.{packed, bytesAfter, powerNumber, powerBytes, bytesIn, writeFrom, statusFrom, lineFrom, levelFrom, fractionFrom, clockFrom};
+ghost use Rattle.c_chip.specs.Boundary.{packed, bytesAfter, powerNumber, powerBytes, bytesIn, writeFrom, statusFrom, lineFrom, levelFrom, clockFrom};
 
 pub mod asked;
 pub mod imports;
@@ -57,10 +57,10 @@ pub extern "C" fn perch_read_status(state: &mut [u8]) -> u64
 
 // Value 1 where the interrupt line is asserted. Refused: 2.
 #[no_mangle]
-pub extern "C" fn perch_line(state: &[u8]) -> u64
+pub extern "C" fn perch_interrupt_line(state: &[u8]) -> u64
     ensures { λ r. ⌜ r ≡ packed (lineFrom (now (state .entry)) .number) (flagByte (lineFrom (now (state .entry)) .asserted)) ⌝ }
 {
-    c_chip::line(state)
+    c_chip::interrupt_line(state)
 }
 
 // The mixed level. Refused: 2.
@@ -69,14 +69,6 @@ pub extern "C" fn perch_level(state: &[u8]) -> u64
     ensures { λ r. ⌜ r ≡ packed (levelFrom (now (state .entry)) .number) (levelFrom (now (state .entry)) .level) ⌝ }
 {
     c_chip::level(state)
-}
-
-// The mixed level over 32,768; 0.0 where the bytes are no state in range.
-#[no_mangle]
-pub extern "C" fn perch_level_f32(state: &[u8]) -> f32
-    ensures { λ r. ⌜ r ≡ fractionFrom (now (state .entry)) ⌝ }
-{
-    c_chip::level_f32(state)
 }
 
 // Works one clock. Refused: 1, 2.

@@ -23,7 +23,7 @@ pub extern "C" fn perch_begin(player: &mut [u8], log: &[u8], memory: &[u8]) -> u
 }
 
 // Writes the player's next lines to the text, whole lines only and to its first 4,294,967,295 bytes at most, and moves the player
-// behind them. Refused: 1; 2; then as the line or the wait that the player comes to, whose place in the log is not handed out.
+// behind them. Refused: 1; 2; then as the line or the wait that the player comes to, with its place in the log.
 #[no_mangle]
 pub extern "C" fn perch_play_on(
     player: &mut [u8],

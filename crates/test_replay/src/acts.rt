@@ -11,7 +11,7 @@ use super::written::hold;
 fn level(state: &[u8]) -> u64 {
     let a = c_chip::level(state);
     let whole = (a / 256 % 65536) as u16;
-    hold(c_chip::level_f32(state) == (whole as f32) / 32768.0);
+    hold(c_meter::level_fraction(whole) == (whole as f32) / 32768.0);
     a
 }
 
@@ -19,7 +19,7 @@ fn access(line: &[u8], state: &mut [u8]) -> u64 {
     match byte(line, 0) {
         b'W' => c_chip::write(state, short(line, 2), value(line, 7)),
         b'R' => c_chip::read_status(state),
-        b'I' => c_chip::line(state),
+        b'I' => c_chip::interrupt_line(state),
         _ => level(state),
     }
 }

@@ -4,7 +4,7 @@
 use crate::draw::{hush, state};
 use crate::random::Random;
 use perch::raw;
-use reading::mixer::{Outputs, level_f32};
+use reading::mixer::Outputs;
 use reading::{Chip, MEMORY, boundary};
 
 fn same<T: PartialEq + std::fmt::Debug>(what: impl FnOnce() -> String, ours: T, theirs: T) -> Result<(), String> {
@@ -95,7 +95,6 @@ pub fn mixer(_: &mut Random) -> Result<u64, String> {
                     let state = giving(outputs).encode();
                     let level = outputs.level();
                     same(|| format!("level of {outputs:?}"), u64::from(level) << 8, raw::level(&state))?;
-                    same(|| format!("float of {outputs:?}"), level_f32(level), raw::level_f32(&state))?;
                     checks += 1;
                 }
             }

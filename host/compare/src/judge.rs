@@ -13,7 +13,7 @@ struct Engine {
     read_status: fn(&mut [u8]) -> u64,
     line: fn(&[u8]) -> u64,
     level: fn(&[u8]) -> u64,
-    level_float: fn(&[u8]) -> f32,
+    fraction: fn(u16) -> f32,
     run: fn(&mut [u8], &[u8], u64, &mut [u32]) -> u64,
 }
 
@@ -24,7 +24,7 @@ const READING: Engine = Engine {
     read_status: boundary::read_status,
     line: boundary::line,
     level: boundary::level,
-    level_float: boundary::level_float,
+    fraction: reading::mixer::level_f32,
     run: boundary::run,
 };
 
@@ -33,9 +33,9 @@ const LEAPING: Engine = Engine {
     clock: raw::clock,
     write: raw::write,
     read_status: raw::read_status,
-    line: raw::line,
+    line: raw::interrupt_line,
     level: raw::level,
-    level_float: raw::level_f32,
+    fraction: raw::level_fraction,
     run: raw::run,
 };
 
@@ -71,7 +71,7 @@ impl Side {
             Op::Line => (self.engine.line)(state),
             Op::Level => {
                 let level = (self.engine.level)(state);
-                let float = (self.engine.level_float)(state);
+                let float = (self.engine.fraction)((level >> 8) as u16);
                 if float * 32768.0 != (level >> 8) as f32 || float.is_sign_negative() {
                     return Err(format!("{}: level {level:x}, as a float {float}", self.engine.name));
                 }

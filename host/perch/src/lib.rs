@@ -180,8 +180,8 @@ impl Chip {
     }
 
     /// Whether the interrupt line is asserted.
-    pub fn line(&self) -> Result<bool, Refusal> {
-        value(raw::line(&self.0)).map(|line| line != 0)
+    pub fn interrupt_line(&self) -> Result<bool, Refusal> {
+        value(raw::interrupt_line(&self.0)).map(|line| line != 0)
     }
 
     /// The mixed level, 0..32767.
@@ -190,8 +190,8 @@ impl Chip {
     }
 
     /// The mixed level over 32,768.
-    pub fn level_f32(&self) -> f32 {
-        raw::level_f32(&self.0)
+    pub fn level_f32(&self) -> Result<f32, Refusal> {
+        self.level().map(raw::level_fraction)
     }
 
     /// Works one clock.

@@ -6,10 +6,10 @@
 
 #[cfg(not(archive))]
 use standin::{
-    perch_begin, perch_body, perch_check, perch_clock, perch_import, perch_in_range, perch_item, perch_level,
-    perch_level_f32, perch_level_fraction, perch_line, perch_meter, perch_meter_records, perch_play_on,
-    perch_player_size, perch_power_on, perch_read_status, perch_refusal_text, perch_run, perch_run_plain, perch_sheet,
-    perch_state_size, perch_why, perch_write,
+    perch_begin, perch_body, perch_check, perch_clock, perch_import, perch_in_range, perch_interrupt_line, perch_item,
+    perch_level, perch_level_fraction, perch_meter, perch_meter_records, perch_play_on, perch_player_size,
+    perch_power_on, perch_read_status, perch_refusal_text, perch_run, perch_run_plain, perch_sheet, perch_state_size,
+    perch_why, perch_write,
 };
 
 #[cfg(archive)]
@@ -19,9 +19,8 @@ unsafe extern "C" {
     fn perch_in_range(state: *const u8, n: usize) -> u64;
     fn perch_write(state: *mut u8, n: usize, register: u16, value: u8) -> u64;
     fn perch_read_status(state: *mut u8, n: usize) -> u64;
-    fn perch_line(state: *const u8, n: usize) -> u64;
+    fn perch_interrupt_line(state: *const u8, n: usize) -> u64;
     fn perch_level(state: *const u8, n: usize) -> u64;
-    fn perch_level_f32(state: *const u8, n: usize) -> f32;
     fn perch_clock(state: *mut u8, n: usize, memory: *const u8, m: usize) -> u64;
     fn perch_run(state: *mut u8, n: usize, memory: *const u8, m: usize, count: u64, words: *mut u32, w: usize) -> u64;
     fn perch_run_plain(
@@ -94,18 +93,13 @@ pub fn read_status(state: &mut [u8]) -> u64 {
 }
 
 /// 1 where the interrupt line is asserted.
-pub fn line(state: &[u8]) -> u64 {
-    unsafe { perch_line(state.as_ptr(), state.len()) }
+pub fn interrupt_line(state: &[u8]) -> u64 {
+    unsafe { perch_interrupt_line(state.as_ptr(), state.len()) }
 }
 
 /// The level.
 pub fn level(state: &[u8]) -> u64 {
     unsafe { perch_level(state.as_ptr(), state.len()) }
-}
-
-/// The level over 32,768, 0.0 where refused.
-pub fn level_f32(state: &[u8]) -> f32 {
-    unsafe { perch_level_f32(state.as_ptr(), state.len()) }
 }
 
 /// Works one clock.

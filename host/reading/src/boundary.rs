@@ -5,7 +5,6 @@
 
 use crate::bytes::SIZE;
 use crate::chip::{Chip, is_register};
-use crate::mixer::level_f32;
 use crate::plain::plain;
 use crate::{MEMORY, MOST_CLOCKS, number};
 
@@ -61,11 +60,6 @@ pub fn line(state: &[u8]) -> u64 {
 /// The level.
 pub fn level(state: &[u8]) -> u64 {
     Chip::decode(state).map_or(number::STATE.into(), |chip| answer(chip.level().into()))
-}
-
-/// The level as a float, 0.0 where refused.
-pub fn level_float(state: &[u8]) -> f32 {
-    Chip::decode(state).map_or(0.0, |chip| level_f32(chip.level()))
 }
 
 /// Works one clock.

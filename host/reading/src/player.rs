@@ -157,7 +157,7 @@ pub fn begin(player: &mut [u8], log: &[u8], memory: &[u8]) -> u64 {
     })
 }
 
-/// Writes the next lines to the text, as many as fit. The answer is number + 2^8 x over + 2^32 x bytes written.
+/// Writes the next lines to the text, as many as fit. The answer is 2^8 x over + 2^32 x bytes written; refused, that about a log.
 pub fn play_on(player: &mut [u8], log: &[u8], memory: &[u8], text: &mut [u8]) -> u64 {
     if memory.len() != MEMORY {
         return number::MEMORY.into();

@@ -389,7 +389,7 @@ fn answers_and_refusals() {
     assert_eq!(boundary::clock(&mut state, &m[1..]), number::MEMORY.into());
     assert_eq!((state, words), (kept, [7; 5]));
     state[1] = 2;
-    assert_eq!((boundary::level(&state), boundary::level_float(&state)), (2, 0.0));
+    assert_eq!(boundary::level(&state), 2);
     assert_eq!((boundary::line(&state), boundary::in_range(&state), boundary::in_range(&kept)), (2, 0, 256));
     assert_eq!(boundary::power_on(&mut state), 0);
     assert_eq!(boundary::level(&state), 8074 << 8);

@@ -37,18 +37,13 @@ pub unsafe extern "C" fn perch_read_status(state: *mut u8, n: usize) -> u64 {
 }
 
 #[cfg_attr(feature = "export", unsafe(no_mangle))]
-pub unsafe extern "C" fn perch_line(state: *const u8, n: usize) -> u64 {
+pub unsafe extern "C" fn perch_interrupt_line(state: *const u8, n: usize) -> u64 {
     boundary::line(unsafe { from_raw_parts(state, n) })
 }
 
 #[cfg_attr(feature = "export", unsafe(no_mangle))]
 pub unsafe extern "C" fn perch_level(state: *const u8, n: usize) -> u64 {
     boundary::level(unsafe { from_raw_parts(state, n) })
-}
-
-#[cfg_attr(feature = "export", unsafe(no_mangle))]
-pub unsafe extern "C" fn perch_level_f32(state: *const u8, n: usize) -> f32 {
-    boundary::level_float(unsafe { from_raw_parts(state, n) })
 }
 
 #[cfg_attr(feature = "export", unsafe(no_mangle))]

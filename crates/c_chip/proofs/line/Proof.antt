@@ -1,8 +1,0 @@
-use Rattle.c_chip.proofs.line.Statement.{statement}
-use Rattle.c_chip.proofs.line.Tie as tie
-
-returns : tie.Need-returns
-returns c = simp (c .pack .ensures, c .before .pick-u16 .ensures, c .before .before .line-from .ensures)
-
-pub line-spec : {M : Type 1} → statement M
-line-spec = tie.close (tie.spec (λ c κs. tt) (λ c κs. tt) (λ c κs. tt) returns)
