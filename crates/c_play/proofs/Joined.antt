@@ -24,13 +24,13 @@ use Rattle.c_play.specs.Pieces.{writtenOf, overOf, Pieces, none, piece}
 
 -- what the answer of a piece says
 
-written-is : (t : Bool) (l : ℕ) → writtenOf (0 + 2 ^ 8 * flagByte t + 2 ^ 32 * l) ≡ l
+written-is : (t : Bool) (l : ℕ) → writtenOf (2 ^ 8 * flagByte t + 2 ^ 32 * l) ≡ l
 written-is true l = omega arith
 written-is false l = omega arith
 
-over-is : (t : Bool) (l : ℕ) → overOf (0 + 2 ^ 8 * flagByte t + 2 ^ 32 * l) ≡ t
-over-is true l = eq-eqb ((0 + 2 ^ 8 * 1 + 2 ^ 32 * l) / 2 ^ 8 % 2) 1 (omega arith)
-over-is false l = ne-eqb ((0 + 2 ^ 8 * 0 + 2 ^ 32 * l) / 2 ^ 8 % 2) 1 (λ h. omega arith)
+over-is : (t : Bool) (l : ℕ) → overOf (2 ^ 8 * flagByte t + 2 ^ 32 * l) ≡ t
+over-is true l = eq-eqb ((2 ^ 8 * 1 + 2 ^ 32 * l) / 2 ^ 8 % 2) 1 (omega arith)
+over-is false l = ne-eqb ((2 ^ 8 * 0 + 2 ^ 32 * l) / 2 ^ 8 % 2) 1 (λ h. omega arith)
 
 -- the player at the beginning
 
@@ -85,7 +85,7 @@ module _ (log memory : List ℕ) where
 
   -- a call goes on from there, and is not refused; and a text of 23 bytes or more gets a line, or the player is over
   pub record Gone (b′ joined text text′ : List ℕ) (answer : ℕ) : Type 0 where
-    pub done : answer ≡ 0 + 2 ^ 8 * flagByte (overOf answer) + 2 ^ 32 * writtenOf answer
+    pub done : answer ≡ 2 ^ 8 * flagByte (overOf answer) + 2 ^ 32 * writtenOf answer
     pub line : 23 ≤ length text → overOf answer ≡ false → 0 < writtenOf answer
     pub held : Held b′ (joined ++ take (writtenOf answer) text′) (overOf answer)
 
@@ -94,7 +94,7 @@ module _ (log memory : List ℕ) where
       let r = k .played in
       let does = playing b text text′ (h .player) r (h .bytes) (h .fits) (k .does) in
       let zero = never-halted log memory (h .passes) (h .calls) text text′ r does .0 in
-      let says : answer ≡ 0 + 2 ^ 8 * flagByte (r .over) + 2 ^ 32 * r .length = rw zero at (k .says) in
+      let says : answer ≡ 2 ^ 8 * flagByte (r .over) + 2 ^ 32 * r .length = rw zero at (k .says) in
       let w : writtenOf answer ≡ r .length = ap (λ (x : ℕ). writtenOf x) says ∙ written-is (r .over) (r .length) in
       let o : overOf answer ≡ r .over = ap (λ (x : ℕ). overOf x) says ∙ over-is (r .over) (r .length) in
       record {

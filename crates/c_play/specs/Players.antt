@@ -1,5 +1,5 @@
 -- The player at the boundary. A player crosses as 190 bytes (crate `c_player`), which the caller keeps between two pieces.
-use Prim.Native.Nat.{ℕ, _+_, _*_, _^_, _<_}
+use Prim.Native.Nat.{ℕ, _+_, _*_, _^_, _<_, _%_}
 use mathlib.Core.Path.{_≡_}
 use mathlib.Core.List.{List}
 use lib.ListN.{length}
