@@ -1,6 +1,7 @@
 // The program for daily work: `perch VERB`, and what the verb asks for.
 mod check;
 mod import;
+mod sheet;
 
 // The verbs, a line each with their arguments.
 fn usage() {
@@ -9,10 +10,17 @@ fn usage() {
         b"  check    a log on standard input: whether it passes, or where it is at fault\n",
     );
     perch_io::say(b"  import   a VGM file on standard input: the log that it comes to\n");
+    perch_io::say(
+        b"  sheet LEVEL ADDRESS LENGTH   the level after each byte of a sample in sample.bin\n",
+    );
 }
 
 // Runs a verb that is given as many words as it asks for, the program's name and the verb among them.
 fn run(verb: &[u8], words: usize) {
+    if text::exact(verb, b"sheet") {
+        sheet::sheet(words);
+        return;
+    }
     if words != 2 {
         usage();
         return;

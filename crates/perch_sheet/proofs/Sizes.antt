@@ -1,0 +1,54 @@
+-- How long the text is. Assumes nothing.
+use Prim.Native.Nat.{ℕ, zero, suc, _+_, _*_, _/_, _≤_}
+use mathlib.Core.Path.{_≡_}
+use mathlib.Core.List.{List}
+use native.Mathlib.Omega.{arith}
+use lib.Dec.{eqb}
+use lib.ListN.{length, length-append}
+use borrow.Author.Tests.{eqb-true}
+use Rattle.arith.proofs.PickLaws.{pick-each}
+use Rattle.text_print.proofs.StoreLaws.{length-four}
+use Rattle.play_text.proofs.TextLaws.{decimal-three, decimal-ten}
+use Rattle.chip_dmc.specs.Clock.{byteAt, nextAddress, levelMoved}
+use Rattle.chip_dmc.proofs.RangeLaws.{level-moved-most}
+use Rattle.chip_sheet.specs.Byte.{stepsOf, eightSteps}
+use Rattle.chip_sheet.specs.Sheet.{levelsOf}
+use Rattle.chip_sheet.proofs.Refusals.{done}
+use Rattle.perch_sheet.specs.Report.{levelLine, levelLines, refusedLine, numberOf, outcomeText, sheetText}
+
+-- a level stays at most 127
+steps-most : (k byte level : ℕ) → level ≤ 127 → stepsOf k byte level ≤ 127
+unfolding stepsOf
+steps-most zero byte level h = h
+steps-most (suc k) byte level h = steps-most k (byte / 2) (levelMoved byte level) (level-moved-most byte level h)
+
+line-size : (address level : ℕ) → level ≤ 127 → length (levelLine address level) ≤ 9
+unfolding levelLine
+line-size address level h = simp length-append (omega (arith, length-four address, decimal-three level (omega arith)))
+
+-- nine bytes hold a line
+lines-size : (memory : List ℕ) (n at address level : ℕ) → level ≤ 127 → length (levelLines at (levelsOf memory n address level)) ≤ 9 * n
+unfolding levelsOf levelLines
+lines-size memory zero at address level h = omega arith
+lines-size memory (suc n) at address level h =
+    let l = eightSteps (byteAt memory address) level in
+    let m = steps-most 8 (byteAt memory address) level h in
+    rw length-append (omega (arith, line-size at l m, lines-size memory n (nextAddress at) (nextAddress address) l m))
+
+refused-size : (number : ℕ) → length (refusedLine number) ≤ 19
+unfolding refusedLine
+refused-size number = simp length-append (omega (arith, decimal-ten number))
+
+outcome-size : (memory : List ℕ) (level address n : ℕ) → length (outcomeText memory level address n) ≤ 36729
+unfolding outcomeText
+outcome-size memory level address n =
+    pick-each (λ (t : List ℕ). length t ≤ 36729) (eqb (numberOf memory level address n) 0)
+    (λ e.
+    let d = done memory level address n 4081 (eqb-true _ _ e) in
+    omega (arith, d .length-most, lines-size memory n address address level (d .level-most)))
+    (λ e. omega (arith, refused-size (numberOf memory level address n)))
+
+-- 40,000 bytes hold the text about any bytes and numbers
+pub sheet-size : (memory : List ℕ) (level address n : ℕ) → length (sheetText memory level address n) ≤ 40000
+unfolding sheetText
+sheet-size memory level address n = rw length-append (omega (arith, outcome-size memory level address n))
