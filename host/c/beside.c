@@ -1,0 +1,268 @@
+/* Two or more builds of the library beside each other, in one process: each scene is played by each build in turn, the least
+ * time of several is kept, and what they give must be the same.
+ *
+ *   beside [-t TRIES] [-l LOG] [-n NSF] BUILD.so BUILD.so ..
+ *
+ * With -l a log is played by the runs of its waits; with -n libgme, where it is installed, plays the same tune beside it.
+ * host/beside makes the builds from archives. */
+#define _GNU_SOURCE
+#include <dlfcn.h>
+#include <stdint.h>
+#include <stdio.h>
+#include <stdlib.h>
+#include <string.h>
+#include <time.h>
+
+#include "perchpulley.h"
+
+enum { MOST_BUILDS = 8, MOST_ACTS = 4000000, WORDS = 32768 };
+
+struct build {
+    const char *name;
+    uint64_t (*power_on)(uint8_t *, size_t);
+    uint64_t (*write)(uint8_t *, size_t, uint16_t, uint8_t);
+    uint64_t (*read_status)(uint8_t *, size_t);
+    uint64_t (*run)(uint8_t *, size_t, const uint8_t *, size_t, uint64_t, uint32_t *, size_t);
+    size_t size;
+};
+
+struct act {
+    int kind; /* PERCH_WAIT, PERCH_WRITE or PERCH_READ */
+    uint32_t held;
+};
+
+struct scene {
+    const char *name;
+    const struct act *acts;
+    size_t count;
+};
+
+/* What a scene came to: a build that gives anything else is at fault. */
+struct played {
+    uint64_t clocks, records, sum;
+};
+
+static uint8_t memory[PERCH_MEMORY_SIZE];
+static uint32_t words[WORDS];
+
+static double now(void)
+{
+    struct timespec t;
+
+    clock_gettime(CLOCK_THREAD_CPUTIME_ID, &t);
+    return (double)t.tv_sec + (double)t.tv_nsec / 1e9;
+}
+
+static void *found(void *build, const char *name)
+{
+    void *f = dlsym(build, name);
+
+    if (!f) {
+        fprintf(stderr, "%s\n", dlerror());
+        exit(2);
+    }
+    return f;
+}
+
+static struct build loaded(const char *name)
+{
+    struct build b;
+    void *build = dlmopen(LM_ID_NEWLM, name, RTLD_NOW);
+
+    if (!build) {
+        fprintf(stderr, "%s\n", dlerror());
+        exit(2);
+    }
+    b.name = name;
+    *(void **)&b.power_on = found(build, "perch_power_on");
+    *(void **)&b.write = found(build, "perch_write");
+    *(void **)&b.read_status = found(build, "perch_read_status");
+    *(void **)&b.run = found(build, "perch_run");
+    b.size = ((size_t(*)(void))found(build, "perch_state_size"))();
+    return b;
+}
+
+static void wait(const struct build *b, uint8_t *state, uint64_t left, struct played *p)
+{
+    while (left) {
+        uint64_t answer = b->run(state, b->size, memory, sizeof memory, left, words, WORDS);
+        uint64_t done = PERCH_CLOCKS(answer), records = PERCH_RECORDS(answer), k;
+
+        for (k = 0; k < records; k++)
+            p->sum = p->sum * 31 + ((p->clocks + words[2 * k]) << 16) + words[2 * k + 1];
+        p->clocks += done;
+        p->records += records;
+        left -= done;
+    }
+}
+
+static struct played play(const struct build *b, const struct scene *s)
+{
+    struct played p = {0, 0, 0};
+    uint8_t state[256];
+    size_t i;
+
+    b->power_on(state, b->size);
+    for (i = 0; i < s->count; i++) {
+        uint32_t held = s->acts[i].held;
+
+        if (s->acts[i].kind == PERCH_WAIT)
+            wait(b, state, held, &p);
+        else if (s->acts[i].kind == PERCH_WRITE)
+            b->write(state, b->size, (uint16_t)(held >> 8), (uint8_t)held);
+        else
+            p.sum += PERCH_VALUE(b->read_status(state, b->size));
+    }
+    return p;
+}
+
+/* The acts of a log that passes, its loops unrolled. */
+static struct scene log_scene(const char *name)
+{
+    struct scene s = {"the log", NULL, 0};
+    struct act *acts = malloc(sizeof *acts * MOST_ACTS);
+    size_t starts[8], n = 0, depth = 0, length, i;
+    unsigned long turns[8], value, reg;
+    char line[64];
+    FILE *file = fopen(name, "r");
+
+    if (!file || !acts) {
+        perror(name);
+        exit(2);
+    }
+    while (fgets(line, sizeof line, file) && n < MOST_ACTS) {
+        if (sscanf(line, "wait=%lu", &value) == 1) {
+            acts[n].kind = PERCH_WAIT;
+            acts[n++].held = (uint32_t)value;
+        } else if (sscanf(line, "write=%lx:%lx", &reg, &value) == 2) {
+            acts[n].kind = PERCH_WRITE;
+            acts[n++].held = (uint32_t)(reg << 8 | value);
+        } else if (!strncmp(line, "read=", 5)) {
+            acts[n].kind = PERCH_READ;
+            acts[n++].held = 0;
+        } else if (sscanf(line, "loop=%lu", &value) == 1 && depth < 8) {
+            starts[depth] = n;
+            turns[depth++] = value;
+        } else if (!strncmp(line, "done=", 5) && depth > 0) {
+            depth--;
+            length = n - starts[depth];
+            for (i = 1; i < turns[depth] && n + length <= MOST_ACTS; i++, n += length)
+                memcpy(acts + n, acts + starts[depth], length * sizeof *acts);
+        }
+    }
+    fclose(file);
+    s.acts = acts;
+    s.count = n;
+    return s;
+}
+
+/* The same tune by libgme, in seconds of processor time; 0 where it can't be had. */
+static double by_gme(const char *nsf, double seconds)
+{
+    static short sound[4096];
+    void *gme = dlopen("libgme.so.0", RTLD_NOW), *emu;
+    const char *(*open_file)(const char *, void **, int), *(*start_track)(void *, int), *(*next)(void *, int, short *);
+    void (*close_file)(void *), (*ignore_silence)(void *, int);
+    long left = (long)(seconds * 44100) * 2;
+    double t;
+
+    if (!gme)
+        return 0;
+    *(void **)&open_file = found(gme, "gme_open_file");
+    *(void **)&start_track = found(gme, "gme_start_track");
+    *(void **)&next = found(gme, "gme_play");
+    *(void **)&close_file = found(gme, "gme_delete");
+    *(void **)&ignore_silence = found(gme, "gme_ignore_silence");
+    if (open_file(nsf, &emu, 44100))
+        return 0;
+    ignore_silence(emu, 1);
+    start_track(emu, 0);
+    t = now();
+    for (; left > 0; left -= 4096)
+        next(emu, 4096, sound);
+    t = now() - t;
+    close_file(emu);
+    return t;
+}
+
+#define W(reg, value) {PERCH_WRITE, (uint32_t)(reg) << 8 | (value)}
+#define TEN {PERCH_WAIT, 1000000}, {PERCH_WAIT, 1000000}, {PERCH_WAIT, 1000000}, {PERCH_WAIT, 1000000}, {PERCH_WAIT, 1000000}, \
+            {PERCH_WAIT, 1000000}, {PERCH_WAIT, 1000000}, {PERCH_WAIT, 1000000}, {PERCH_WAIT, 1000000}, {PERCH_WAIT, 1000000}
+#define COUNT(acts) (sizeof(acts) / sizeof *(acts))
+
+static const struct act quiet[] = {TEN};
+static const struct act slow_noise[] = {W(0x400e, 0x0f), TEN};
+static const struct act one_square[] = {W(0x4015, 1), W(0x4000, 0xbf), W(0x4001, 8), W(0x4002, 0xfd), W(0x4003, 0), TEN};
+static const struct act audible[] = {W(0x4015, 0x0f), W(0x4000, 0xbf), W(0x4001, 8), W(0x4002, 0xfd), W(0x4003, 0), W(0x4004, 0x7a),
+    W(0x4005, 8), W(0x4006, 0x80), W(0x4007, 1), W(0x4008, 0xff), W(0x400a, 0x40), W(0x400b, 1), W(0x400c, 0x3a), W(0x400e, 5),
+    W(0x400f, 0), W(0x4010, 0x4e), W(0x4013, 0xff), W(0x4015, 0x1f), TEN};
+static const struct act shortest[] = {W(0x4015, 0x0f), W(0x4000, 0xbf), W(0x4001, 8), W(0x4002, 8), W(0x4003, 0), W(0x4004, 0x7f),
+    W(0x4005, 8), W(0x4006, 8), W(0x4007, 0), W(0x4008, 0xff), W(0x400a, 0), W(0x400b, 0), W(0x400c, 0x3f), W(0x400e, 0), W(0x400f, 0),
+    W(0x4010, 0x4f), W(0x4013, 0xff), W(0x4015, 0x1f), W(0x4017, 0x80), {PERCH_WAIT, 1000000}, {PERCH_WAIT, 1000000}};
+
+/* One scene by every build; 1 where one differs from the first. */
+static int beside(const struct build *builds, int n, const struct scene *s, int tries, const char *nsf)
+{
+    struct played first = {0, 0, 0};
+    double least[MOST_BUILDS], gme = 0, t;
+    int i, j;
+
+    for (i = 0; i < tries; i++) {
+        for (j = 0; j < n; j++) {
+            struct played p;
+
+            t = now();
+            p = play(&builds[j], s);
+            t = now() - t;
+            if (i == 0 || t < least[j])
+                least[j] = t;
+            if (i == 0 && j == 0)
+                first = p;
+            if (p.clocks != first.clocks || p.records != first.records || p.sum != first.sum) {
+                printf("%s: %s gives something else than %s\n", s->name, builds[j].name, builds[0].name);
+                return 1;
+            }
+        }
+        t = nsf ? by_gme(nsf, (double)first.clocks / 1789773) : 0;
+        if (t > 0 && (gme == 0 || t < gme))
+            gme = t;
+    }
+    printf("| %s | %llu | %llu |", s->name, (unsigned long long)first.clocks, (unsigned long long)first.records);
+    for (j = 0; j < n; j++)
+        printf(" %.2f ms, %.2f |", least[j] * 1e3, least[j] / least[0]);
+    if (gme > 0)
+        printf(" libgme %.2f ms: the last is %.2f of it |", gme * 1e3, least[n - 1] / gme);
+    printf("\n");
+    return 0;
+}
+
+int main(int argc, char **argv)
+{
+    struct build builds[MOST_BUILDS];
+    struct scene scenes[6] = {{"quiet from power-on", quiet, COUNT(quiet)}, {"quiet after $400E:0f", slow_noise, COUNT(slow_noise)},
+        {"one square, 440 Hz", one_square, COUNT(one_square)}, {"all channels, audible", audible, COUNT(audible)},
+        {"all channels, shortest periods", shortest, COUNT(shortest)}};
+    const char *nsf = NULL;
+    int n = 0, count = 5, tries = 9, wrong = 0, i;
+
+    for (i = 1; i < argc; i++) {
+        if (!strcmp(argv[i], "-t") && i + 1 < argc)
+            tries = atoi(argv[++i]);
+        else if (!strcmp(argv[i], "-l") && i + 1 < argc)
+            scenes[count++] = log_scene(argv[++i]);
+        else if (!strcmp(argv[i], "-n") && i + 1 < argc)
+            nsf = argv[++i];
+        else if (n < MOST_BUILDS)
+            builds[n++] = loaded(argv[i]);
+    }
+    if (n == 0 || tries < 1 || count > 6) {
+        fprintf(stderr, "beside [-t TRIES] [-l LOG] [-n NSF] BUILD.so ..\n");
+        return 2;
+    }
+    for (i = 0; i < PERCH_MEMORY_SIZE; i++)
+        memory[i] = (uint8_t)(i * 73 >> 3);
+    printf("| scene | clocks | records | each build: time, of the first |\n|---|---|---|---|\n");
+    for (i = 0; i < count; i++)
+        wrong |= beside(builds, n, &scenes[i], tries, i == 5 ? nsf : NULL);
+    return wrong;
+}
