@@ -2,35 +2,39 @@
 mod check;
 mod import;
 mod sheet;
+mod why;
 
 // The verbs, a line each with their arguments.
 fn usage() {
     perch_io::say(b"usage: perch VERB\n");
     perch_io::say(
-        b"  check    a log on standard input: whether it passes, or where it is at fault\n",
+        b"  check       a log on standard input: whether it passes, or where it is at fault\n",
     );
-    perch_io::say(b"  import   a VGM file on standard input: the log that it comes to\n");
+    perch_io::say(b"  import      a VGM file on standard input: the log that it comes to\n");
     perch_io::say(
-        b"  sheet LEVEL ADDRESS LENGTH   the level after each byte of a sample in sample.bin\n",
+        b"  why CLOCK   a log on standard input: why the squares and the noise are silent there\n",
+    );
+    perch_io::say(
+        b"  sheet LEVEL ADDRESS LENGTH\n              the level after each byte of a sample in sample.bin\n",
     );
 }
 
 // Runs a verb that is given as many words as it asks for, the program's name and the verb among them.
 fn run(verb: &[u8], words: usize) {
-    if text::exact(verb, b"sheet") {
-        sheet::sheet(words);
-        return;
-    }
-    if words != 2 {
-        usage();
-        return;
-    }
-    if text::exact(verb, b"check") {
+    if arith::both_of(words == 2, text::exact(verb, b"check")) {
         check::check();
         return;
     }
-    if text::exact(verb, b"import") {
+    if arith::both_of(words == 2, text::exact(verb, b"import")) {
         import::import();
+        return;
+    }
+    if arith::both_of(words == 3, text::exact(verb, b"why")) {
+        why::why();
+        return;
+    }
+    if text::exact(verb, b"sheet") {
+        sheet::sheet(words);
         return;
     }
     usage();

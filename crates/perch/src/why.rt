@@ -1,0 +1,59 @@
+// `perch why CLOCK`: a log on standard input, and on standard output why each square and the noise are silent at that clock.
+ghost use mathlib.Core.Path.{_≡_};
+ghost use lib.ListN.{take};
+ghost use Rattle.io.specs.Counts.{Counts};
+ghost use Rattle.perch_why.specs.Text.{whyText};
+use libc::STDIN_FILENO;
+use libc::STDOUT_FILENO;
+use text::Number;
+
+// The text: 128 bytes always hold it.
+fn answer(log: &[u8], memory: &[u8], clock: u64, out: &mut [u8; 128]) -> usize
+    ensures { λ r. ⌜ Counts r (now (out .exit)) ⌝ }
+    ensures { λ r. ⌜ take r (now (out .exit)) ≡ whyText (now (log .entry)) (now (memory .entry)) clock ⌝ }
+{
+    perch_why::answer(log, memory, clock, out)
+}
+
+fn tell(log: &[u8], memory: &[u8], clock: u64) {
+    let mut out = [0u8; 128];
+    let n = answer(log, memory, clock, &mut out);
+    io::write_all(STDOUT_FILENO, &out[..n]);
+}
+
+// With the sample memory: a byte more than it has, so that a longer one is seen.
+fn with_sample(log: &[u8], clock: u64) {
+    let mut memory = [0u8; 32769];
+    let r = perch_io::read_file(b"sample.bin", &mut memory);
+    if r.failed {
+        perch_io::say(b"perch: sample.bin can't be read\n");
+        return;
+    }
+    let n = r.count;
+    tell(log, &memory[..n], clock);
+}
+
+// A byte more than a log may have, so that a longer one is seen.
+fn at_clock(clock: u64) {
+    let mut log = [0u8; 60001];
+    let r = perch_io::read_all(STDIN_FILENO, &mut log);
+    if r.failed {
+        perch_io::say(b"perch: standard input can't be read\n");
+        return;
+    }
+    let n = r.count;
+    with_sample(&log[..n], clock);
+}
+
+// A word that is longer than any clock reads as an empty one.
+pub(crate) fn why() {
+    let mut word = [0u8; 16];
+    let n = os::arg(2, &mut word);
+    let c = text::decimal_in(&word[..n], 0, 2000000000);
+    match c {
+        Number::Is(clock) => at_clock(clock as u64),
+        Number::None => perch_io::say(
+            b"perch: why CLOCK: a decimal from 0 to 2000000000 with no leading zero\n",
+        ),
+    }
+}

@@ -1,0 +1,106 @@
+-- A wait by runs: a run's state is so many clocks on as it did, and it does one at least. Assumes nothing.
+use Prim.Native.Nat.{ℕ, zero, suc, _+_, _-_, _/_, _≤_, _<_}
+use mathlib.Core.Path.{_≡_, refl, sym, ap, _∙_}
+use mathlib.Core.Bool.{Bool, true, false}
+use mathlib.Core.List.{List}
+use native.Mathlib.Omega.{arith}
+use lib.Dec.{ltb}
+use lib.ListN.{length}
+use borrow.Author.Tests.{ltb-true, ltb-false}
+use Rattle.arith.specs.Iterate.{iterate}
+use Rattle.arith.specs.Pick.{pick}
+use Rattle.arith.proofs.IterateLaws.{iterate-add, iterate-zero}
+use Rattle.machine.specs.Reading.{Machine, Progress, start, same, stopped, unrecorded, recorded, worked, reading, plain}
+use Rattle.chip.specs.Clock.{chipClock}
+use Rattle.chip.specs.Range.{inRange, Bytes}
+use Rattle.chip.specs.declared.State.{State}
+use Rattle.run_answer.specs.Run.{chipMachine, readBy, answered, answer}
+use Rattle.run_answer.specs.declared.Ran.{Ran}
+use Rattle.run_answer.proofs.AnswerLaws.{number-none}
+use Rattle.play_model.proofs.RoomLaws.{plain-all, plain-most, plain-few, plain-room}
+use Rattle.play_model.proofs.WaitLaws.{plain-ranged}
+use Rattle.play_to.specs.Walking.{portion}
+
+-- how far a reading went from p: k clocks, done one after the other
+pub record Went {S : Type 0} (m : Machine S) (p q : Progress S) : Type 0 where
+  pub clocks : ℕ
+  pub done : q .done ≡ p .done + clocks
+  pub state : q .state ≡ iterate (m .clock) clocks (p .state)
+
+module _ {S : Type 0} (m : Machine S) where
+  went-worked : (p q : Progress S) → Went m (worked m p) q → Went m p q
+  unfolding worked iterate
+  went-worked p q w = by (same m (p .state)) w
+    where
+      by : (t : Bool) → Went m (pick t (unrecorded m p) (recorded m p)) q → Went m p q
+      by true w = record { clocks = suc (w .clocks); done = omega (arith, w .done); state = w .state }
+      by false w = record { clocks = suc (w .clocks); done = omega (arith, w .done); state = w .state }
+
+  -- THE STATE OF A READING is so many clocks on as it did
+  pub reading-went : (n : ℕ) (p : Progress S) → Went m p (reading m n p)
+  unfolding reading iterate
+  reading-went zero p = record { clocks = 0; done = omega arith; state = refl }
+  reading-went (suc n) p = by (stopped m p) (went-worked p (reading m n (worked m p)) (reading-went n (worked m p)))
+    where
+      by : (t : Bool) → Went m p (reading m n (worked m p)) → Went m p (pick t p (reading m n (worked m p)))
+      by true w = record { clocks = 0; done = omega arith; state = sym (iterate-zero (m .clock) (p .state)) }
+      by false w = w
+
+  pub plain-went : (room n : ℕ) (s : S) → plain m room n s .state ≡ iterate (m .clock) (plain m room n s .done) s
+  unfolding plain
+  plain-went room n s =
+      let w = reading-went n (start room s) in
+      let e : w .clocks ≡ reading m n (start room s) .done = omega (arith, w .done) in
+      w .state ∙ ap (λ (k : ℕ). iterate (m .clock) k s) e
+
+  -- with room for a record and a clock to do, a clock is done at least
+  pub plain-some : (room n : ℕ) (s : S) → 0 < room → 0 < n → 0 < plain m room n s .done
+  plain-some room n s h k = by (plain m room n s .room) refl
+    where
+      by : (r : ℕ) → plain m room n s .room ≡ r → 0 < plain m room n s .done
+      by zero e = omega (arith, plain-few m room n s, plain-room m room n s, e)
+      by (suc r) e = let all = plain-all m room n s (omega (arith, e)) in omega (arith, all)
+
+pub portion-most : (n : ℕ) → (portion n ≤ n) × (portion n ≤ 1000000)
+unfolding portion
+portion-most n = by (ltb n 1000000) refl
+  where
+    by : (t : Bool) → ltb n 1000000 ≡ t → (pick t n 1000000 ≤ n) × (pick t n 1000000 ≤ 1000000)
+    by true e = let l = ltb-true n 1000000 e in (omega arith, omega arith)
+    by false e = let l = ltb-false n 1000000 e in (omega arith, omega arith)
+
+pub portion-some : (n : ℕ) → 0 < n → 0 < portion n
+unfolding portion
+portion-some n h = by (ltb n 1000000)
+  where
+    by : (t : Bool) → 0 < pick t n 1000000
+    by true = h
+    by false = omega arith
+
+-- a run of a part of the clocks left
+pub record Nearer (memory : List ℕ) (s : State) (left : ℕ) (r : Ran) : Type 0 where
+  pub some : 0 < r .done
+  pub most : r .done ≤ left
+  pub ranged : inRange (r .state) ≡ true
+  pub same : iterate (chipClock memory) (left - r .done) (r .state) ≡ iterate (chipClock memory) left s
+
+pub nearer : (memory : List ℕ) (s : State) (left : ℕ) (words : List ℕ) (r : Ran) → length memory ≡ 32768 → Bytes memory → inRange s ≡ true → 2 ≤ length words → 0 < left
+    → r ≡ answer memory s (portion left) words → Nearer memory s left r
+unfolding answer answered readBy
+nearer memory s left words r long bytes fine room some e =
+    let n = portion left in
+    let p = plain (chipMachine memory) (length words / 2) n s in
+    let low = portion-most left in
+    let is : r ≡ record { number = 0; state = p .state; done = p .done; records = length (p .marks) } = e ∙ rw (number-none memory s n long fine (low .1)) refl in
+    let d : 0 < p .done = plain-some (chipMachine memory) (length words / 2) n s (omega arith) (portion-some left some) in
+    let most : p .done ≤ n = plain-most (chipMachine memory) (length words / 2) n s in
+    let split : left ≡ p .done + (left - p .done) = omega (arith, low, most) in
+    rw is
+    (record {
+      some = d;
+      most = omega (arith, low, most);
+      ranged = plain-ranged memory bytes (length words / 2) n s fine;
+      same =
+          ap (iterate (chipClock memory) (left - p .done)) (plain-went (chipMachine memory) (length words / 2) n s)
+          ∙ (sym (iterate-add (chipClock memory) (p .done) (left - p .done) s) ∙ ap (λ (k : ℕ). iterate (chipClock memory) k s) (sym split));
+    })

@@ -1,0 +1,3 @@
+pub mod ClockLaws
+pub mod Heard
+pub mod WalkLaws
