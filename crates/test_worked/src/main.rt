@@ -9,6 +9,8 @@
 //   level       the level                             irq        whether the interrupt line is asserted
 //   read        the status is read                    .          a line feed
 //   ?4014       the number of a write to a register   memory     the number of a clock with 5 bytes of memory
+//   y0          why a channel is silent: CHANNEL:NUMBER/VALUE
+//   ~40c00003   a sheet from level 40, address c000, 03 bytes, in hex: NUMBER: and the levels
 //   "TEXT       the rest of the line is written       #TEXT      a comment, up to the end of the line
 ghost use Prim.Native.Nat.{_≤_, _<_};
 ghost use lib.ListN.{length};
@@ -72,7 +74,7 @@ fn hex(token: &[u8], at: usize) -> u8
 
 // The register that four hex digits stand for.
 fn register(token: &[u8], at: usize) -> u16
-    requires { ⌜ at < 2 ⌝ }
+    requires { ⌜ at < 4 ⌝ }
 {
     let high = hex(token, at) as u16;
     let low = hex(token, at + 2) as u16;
@@ -214,6 +216,46 @@ fn short_memory(s: State) {
     io::print_decimal(STDOUT_FILENO, m.number as u64);
 }
 
+fn reason(s: State, channel: u64) {
+    let r = chip_why::why(s, channel);
+    text(b" ");
+    io::print_decimal(STDOUT_FILENO, channel);
+    text(b":");
+    io::print_decimal(STDOUT_FILENO, chip_why::number_of(r) as u64);
+    text(b"/");
+    io::print_decimal(STDOUT_FILENO, chip_why::value_of(r) as u64);
+}
+
+fn wide(x: u8) -> u16 {
+    x as u16
+}
+
+// The first n of some levels.
+fn levels(out: &[u8], n: usize) {
+    let mut i = 0;
+    while i < out.len() {
+        if i < n {
+            shown(b'h', wide(out[i]));
+        }
+        i += 1;
+    }
+}
+
+fn sheet(memory: &[u8], token: &[u8]) {
+    let mut out = [0u8; 16];
+    let w = chip_sheet::sheet(
+        memory,
+        hex(token, 1) as u64,
+        register(token, 3) as u64,
+        hex(token, 7) as u64,
+        &mut out,
+    );
+    text(b" ");
+    io::print_decimal(STDOUT_FILENO, w.number as u64);
+    text(b":");
+    levels(&out, w.length as usize);
+}
+
 // A command that leaves the state as it is.
 fn told(s: State, token: &[u8]) {
     match byte_at(token, 0) {
@@ -221,6 +263,7 @@ fn told(s: State, token: &[u8]) {
         b'i' => shown(b'i', seen(s, b'i')),
         b'?' => asked(s, register(token, 1)),
         b'm' => short_memory(s),
+        b'y' => reason(s, count(token) as u64),
         b'.' => text(b"\n"),
         b'"' => inner(token),
         _ => {}
@@ -235,6 +278,10 @@ fn act(s: State, token: &[u8], memory: &[u8]) -> State {
         b'o' => chip_api::power_on(),
         b'r' => read(s),
         b'w' | b'h' | b't' => clocks(s, memory, count(token), kind),
+        b'~' => {
+            sheet(memory, token);
+            s
+        }
         _ => {
             told(s, token);
             s
