@@ -9,6 +9,7 @@ pub mod judge;
 pub mod lines;
 pub mod logs;
 pub mod meters;
+pub mod players;
 pub mod random;
 pub mod reasons;
 pub mod sheets;

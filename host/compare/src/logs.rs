@@ -81,7 +81,7 @@ fn joined(lines: &[String], stop: u64) -> Vec<u8> {
 }
 
 /// A log to be heard: it sounds, and has few enough clocks to go through one by one.
-fn sounding(random: &mut Random) -> Vec<u8> {
+pub(crate) fn sounding(random: &mut Random) -> Vec<u8> {
     let clocks = random.pick(&[50, 1_000, 20_000, 60_000, 120_000]);
     let bounds = Bounds { clocks, turns: 20_000, lines: 200, longest_wait: clocks / random.within(1..=20) + 1 };
     let mut draft = Draft::default();
@@ -247,7 +247,7 @@ const LINES: [&str; 52] = [
 ];
 
 /// Damages a log in one way.
-fn damage(random: &mut Random, log: &mut Vec<u8>) {
+pub(crate) fn damage(random: &mut Random, log: &mut Vec<u8>) {
     let length = log.len() as u64;
     let at = |random: &mut Random| random.within(0..=length.max(1) - 1) as usize;
     let starts: Vec<usize> = [0].into_iter().chain((1..log.len()).filter(|&i| log[i - 1] == b'\n')).collect();
@@ -301,6 +301,12 @@ fn damage(random: &mut Random, log: &mut Vec<u8>) {
             log.splice(other..other, line);
         }
     }
+}
+
+/// Cuts a log somewhere in its last lines.
+pub(crate) fn cut_short(random: &mut Random, log: &mut Vec<u8>) {
+    let cut = random.within(0..=30.min(log.len() as u64));
+    log.truncate(log.len() - cut as usize);
 }
 
 /// A right log of about so many lines, with loops in each other and large numbers.
@@ -493,27 +499,6 @@ fn heard(log: &[u8], memory: &[u8], mut bytes: Vec<u8>, random: &mut Random) -> 
     Ok(whole.len() as u64)
 }
 
-/// Any bytes as a player get an answer that keeps to the text: drawn ones, and a player with a byte changed.
-fn any_player(random: &mut Random, log: &[u8], memory: &[u8]) -> Result<(), String> {
-    let mut bytes: Vec<u8> = (0..raw::player_size()).map(|_| random.byte()).collect();
-    if !log.windows(5).any(|window| window == b"loop=") && raw::begin(&mut bytes, log, memory) == 0 {
-        raw::play_on(&mut bytes, log, memory, &mut vec![0; random.within(0..=400) as usize]);
-        let place = random.within(0..=bytes.len() as u64 - 1) as usize;
-        bytes[place] = random.byte();
-    }
-    let kept = bytes.clone();
-    let mut text = vec![b'?'; random.within(0..=100) as usize];
-    let answer = raw::play_on(&mut bytes, log, memory, &mut text);
-    let written = if answer as u8 == 0 { (answer >> 32) as usize } else { 0 };
-    if written > text.len() || text[written..].iter().any(|&byte| byte != b'?') {
-        return Err(format!("any bytes as a player: {answer:#x}, the text {:?}", String::from_utf8_lossy(&text)));
-    }
-    if answer as u8 != 0 && (answer >> 32 != 0 || bytes != kept) {
-        return Err(format!("any bytes as a player: {answer:#x}, and the player changed"));
-    }
-    Ok(())
-}
-
 /// Draws and judges logs; a failing one is told whole.
 pub fn compare(seed: u64, logs: u64, memory: &[u8]) -> Result<String, String> {
     let mut tally = Tally::default();
@@ -521,7 +506,7 @@ pub fn compare(seed: u64, logs: u64, memory: &[u8]) -> Result<String, String> {
         let random = &mut Random::new(seed, "logs", number);
         let log = log(random);
         debug_assert!(log.len() <= MOST_BYTES * 2);
-        let judged = judge(&log, memory, random, &mut tally).and_then(|()| any_player(random, &log, memory));
+        let judged = judge(&log, memory, random, &mut tally);
         if let Err(difference) = judged {
             let shown = log.escape_ascii().to_string().replace("\\n", "\n");
             return Err(format!("seed {seed}, log {number}: {difference}\n{shown}"));

@@ -3,7 +3,7 @@
 use compare::case::{self, Case, Outcome};
 use compare::judge::{self, Tally, judge};
 use compare::random::Random;
-use compare::{draw, every, imports, lines, logs, meters, reasons, sheets, stored};
+use compare::{draw, every, imports, lines, logs, meters, players, reasons, sheets, stored};
 use reading::{Chip, MEMORY};
 use std::process::ExitCode;
 use std::time::Instant;
@@ -17,7 +17,7 @@ compare check FILE                                      hold the library to the 
 compare log-cases N FOLDER [--seed N]                   write N logs, a sample.bin and the texts that the reading gives
 compare judged FOLDER                                   write what the crate logs prints about the logs of a folder
 compare played FOLDER                                   write what the crate cases prints about them, with sample.bin
---each N: so many reasons, meters and sheets, half as many imports
+--each N: so many reasons, meters and sheets, half as many players and imports
 --archive: an error where the library's archive isn't linked; --brief: no more parts after one that differs";
 
 /// What the command line asks for.
@@ -165,6 +165,7 @@ fn compare(asked: &Asked) -> bool {
     part("lines", &mut || lines::compare(seed, asked.logs * 50, &memory));
     part("cuts", &mut || lines::cuts(seed, asked.logs / 20));
     part("logs", &mut || logs::compare(seed, asked.logs, &memory));
+    part("players", &mut || players::compare(seed, asked.each / 2, &memory));
     part("imports", &mut || imports::compare(seed, asked.each / 2));
     good
 }

@@ -1,5 +1,6 @@
 //! Document 01, with the change requests that have landed, read in plain Rust, clock by clock, from the papers and from
-//! nothing else.
+//! nothing else; but the bytes of a cursor and of a player, which the papers leave free, are the library's (`layout`), and so is
+//! what becomes of those that no log led to (`cursor`, `player`).
 //!
 //! The library that this is compared with leaps; this reading never does. It is written to be held against the paper
 //! line by line, so each rule stands in it once and in the paper's words.
@@ -7,6 +8,8 @@
 pub mod boundary;
 pub mod bytes;
 pub mod chip;
+pub mod cursor;
+pub mod layout;
 pub mod log;
 pub mod meter;
 pub mod mixer;

@@ -1,11 +1,15 @@
 //! The log's operations and the player in pieces, on bytes and numbers: what a caller in C is answered.
 //!
 //! An answer about a log is number + 2^8 x place + 2^32 x value. A player is bytes, which the caller keeps between two
-//! pieces and doesn't look into; how full a piece gets is free, and here it takes as many lines as fit.
+//! pieces; how full a piece gets is free, and here it takes as many lines as fit.
 
 use crate::chip::Chip;
-use crate::log::{self, Fault, Item};
-use crate::{MEMORY, bytes, number, play};
+use crate::cursor::{Cursor, Step};
+pub use crate::layout::player::SIZE;
+use crate::layout::player::{CURSOR, LAST, PHASE, STATE, TIME, WAIT};
+use crate::log::{self, Fault, Item, MOST_DEPTH};
+use crate::plain::plain;
+use crate::{MEMORY, MOST_CLOCKS, number, play};
 
 fn refused(fault: Fault) -> u64 {
     u64::from(fault.number) | (fault.place as u64) << 8
@@ -40,106 +44,142 @@ pub fn body(log: &[u8], offset: u64) -> u64 {
     answer(log::body(log, offset), |part| part.start as u64 | (part.len() as u64) << 16)
 }
 
-/// How many bytes a player is: as many as the library's, whose bytes hold other numbers.
-pub const SIZE: usize = 190;
-
-/// Of these, where the chip's begin and end; zeros stand behind them.
-const CHIP: (usize, usize) = (23, 23 + bytes::SIZE);
-
-/// Where a player stands.
+/// A player, one small turn at a time. One that its log didn't lead to turns as crates/play_model/specs/Turns.antt defines it.
 #[derive(Clone, Copy, Debug, PartialEq, Eq)]
-struct Player {
-    /// 0: nothing is written; 1: `play=1` is; 2: the first level is; 3: `stop` is.
-    stage: u8,
-    /// The item that comes next or is waited for.
-    item: u64,
-    /// Clocks left of a wait that has begun.
-    left: u32,
-    time: u64,
+pub struct Player {
+    /// Where it stands in the log.
+    pub cursor: Cursor,
+    /// 0: `play=1` is due; 1: the first level; 2: what the log says; above: all is over.
+    pub phase: u8,
+    /// Clocks left of a wait under way.
+    pub wait: u32,
+    /// The time in clocks.
+    pub time: u32,
     /// The level last written.
-    level: u16,
-    chip: Chip,
+    pub last: u16,
+    /// The chip's state.
+    pub chip: Chip,
 }
 
-impl Player {
-    const FIRST: Self = Self { stage: 0, item: 0, left: 0, time: 0, level: 0, chip: Chip::POWER_ON };
+/// What a turn says.
+#[derive(Clone, Debug, PartialEq, Eq)]
+pub enum Said {
+    /// Nothing.
+    Nothing,
+    /// A line, with its line feed.
+    Line(String),
+    /// That all is over; the player stays.
+    Over,
+    /// A refusal; the player stays.
+    Refused(Fault),
+}
 
-    fn encode(&self) -> [u8; SIZE] {
+/// The latest time to which a wait may lead.
+const LATEST: u64 = 2_000_000_000;
+
+impl Player {
+    const FIRST: Self = Self {
+        cursor: Cursor { at: 0, open: 0, starts: [0; MOST_DEPTH], left: [0; MOST_DEPTH] },
+        phase: 0,
+        wait: 0,
+        time: 0,
+        last: 0,
+        chip: Chip::POWER_ON,
+    };
+
+    /// The player as bytes.
+    pub fn encode(&self) -> [u8; SIZE] {
         let mut bytes = [0; SIZE];
-        bytes[0] = self.stage;
-        bytes[1..9].copy_from_slice(&self.item.to_le_bytes());
-        bytes[9..13].copy_from_slice(&self.left.to_le_bytes());
-        bytes[13..21].copy_from_slice(&self.time.to_le_bytes());
-        bytes[21..23].copy_from_slice(&self.level.to_le_bytes());
-        bytes[CHIP.0..CHIP.1].copy_from_slice(&self.chip.encode());
+        PHASE.put(&mut bytes, self.phase.into());
+        WAIT.put(&mut bytes, self.wait.into());
+        TIME.put(&mut bytes, self.time.into());
+        LAST.put(&mut bytes, self.last.into());
+        STATE.of_mut(&mut bytes).copy_from_slice(&self.chip.encode());
+        CURSOR.of_mut(&mut bytes).copy_from_slice(&self.cursor.encode());
         bytes
     }
 
-    fn decode(bytes: &[u8]) -> Option<Self> {
+    /// The player that the bytes are; none where they are of another length or their state isn't in range.
+    pub fn decode(bytes: &[u8]) -> Option<Self> {
         if bytes.len() != SIZE {
             return None;
         }
-        let number = |from: usize, to: usize| bytes[from..to].iter().rev().fold(0, |sum, &b| sum << 8 | u64::from(b));
-        let player = Self {
-            stage: bytes[0],
-            item: number(1, 9),
-            left: number(9, 13) as u32,
-            time: number(13, 21),
-            level: number(21, 23) as u16,
-            chip: Chip::decode(&bytes[CHIP.0..CHIP.1])?,
-        };
-        (player.left <= 1_000_000).then_some(player)
+        Some(Self {
+            cursor: Cursor::decode(CURSOR.of(bytes)),
+            phase: PHASE.get(bytes) as u8,
+            wait: WAIT.get(bytes) as u32,
+            time: TIME.get(bytes) as u32,
+            last: LAST.get(bytes) as u16,
+            chip: Chip::decode(STATE.of(bytes))?,
+        })
     }
 
-    /// The level's line, if the level isn't the one last written.
-    fn hear(&mut self) -> Option<String> {
-        let level = self.chip.level();
-        if level == self.level {
-            return None;
-        }
-        self.level = level;
-        Some(format!("level={}:{level}\n", self.time))
+    /// The level's line, which is the last written from now on.
+    fn level(&mut self, level: u16) -> Said {
+        self.last = level;
+        Said::Line(format!("level={}:{level}\n", self.time))
     }
 
-    /// The next line; none where all are written.
-    fn line(&mut self, items: &[Item], memory: &[u8]) -> Option<String> {
-        match self.stage {
+    /// One turn.
+    pub fn turn(&mut self, log: &[u8], memory: &[u8]) -> Said {
+        match self.phase {
             0 => {
-                self.stage = 1;
-                return Some("play=1\n".into());
+                self.phase = 1;
+                Said::Line("play=1\n".into())
             }
             1 => {
-                self.stage = 2;
-                self.level = self.chip.level();
-                return Some(format!("level=0:{}\n", self.level));
+                self.phase = 2;
+                self.level(self.chip.level())
             }
-            2 => {}
-            _ => return None,
+            2 if self.wait == 0 => self.follow(log),
+            2 => self.go_on(memory),
+            _ => Said::Over,
         }
-        while let Some(item) = items.get(self.item as usize) {
-            match *item {
-                Item::Wait(clocks) => {
-                    self.left = if self.left == 0 { clocks } else { self.left };
-                    self.chip.clock(memory);
-                    self.time = self.time.wrapping_add(1);
-                    self.left -= 1;
-                    self.item += u64::from(self.left == 0);
-                }
-                Item::Write(register, value) => {
-                    self.item += 1;
-                    self.chip.write(register, value);
-                }
-                Item::Read => {
-                    self.item += 1;
-                    return Some(format!("read={}:{:02x}\n", self.time, self.chip.read_status()));
+    }
+
+    /// The line that the cursor comes to.
+    fn follow(&mut self, log: &[u8]) -> Said {
+        match self.cursor.step(log) {
+            Err(fault) => return Said::Refused(fault),
+            Ok(Step::Moved) => {}
+            Ok(Step::End) => {
+                self.phase = 3;
+                return Said::Line(format!("stop={}\n", self.time));
+            }
+            Ok(Step::Item(Item::Wait(clocks))) => self.wait = clocks,
+            Ok(Step::Item(Item::Write(register, value))) => {
+                self.chip.write(register, value);
+                let level = self.chip.level();
+                if level != self.last {
+                    return self.level(level);
                 }
             }
-            if let Some(line) = self.hear() {
-                return Some(line);
+            // It leaves the level.
+            Ok(Step::Item(Item::Read)) => {
+                return Said::Line(format!("read={}:{:02x}\n", self.time, self.chip.read_status()));
             }
         }
-        self.stage = 3;
-        Some(format!("stop={}\n", self.time))
+        Said::Nothing
+    }
+
+    /// The wait up to its next line but one, or its end: a run with room for one record.
+    fn go_on(&mut self, memory: &[u8]) -> Said {
+        let refused = |number| Said::Refused(Fault { number, place: 0 });
+        if u64::from(self.wait) > MOST_CLOCKS {
+            return refused(number::CLOCKS);
+        }
+        if u64::from(self.time) + u64::from(self.wait) > LATEST {
+            return refused(number::TOTALS);
+        }
+        let (ran, begun) = (plain(self.chip, memory, self.wait.into(), 1), self.time);
+        self.chip = ran.chip;
+        self.wait -= ran.done as u32;
+        self.time += ran.done as u32;
+        let Some(record) = ran.records.first() else {
+            return Said::Nothing;
+        };
+        self.last = record.level;
+        Said::Line(format!("level={}:{}\n", u64::from(begun) + record.clock, record.level))
     }
 }
 
@@ -157,6 +197,9 @@ pub fn begin(player: &mut [u8], log: &[u8], memory: &[u8]) -> u64 {
     })
 }
 
+/// So many turns in a row that say nothing end a piece; a log that passes has fewer.
+pub const MOST_SILENT: u64 = 4_000_010;
+
 /// Writes the next lines to the text, as many as fit. The answer is 2^8 x over + 2^32 x bytes written; refused, that about a log.
 pub fn play_on(player: &mut [u8], log: &[u8], memory: &[u8], text: &mut [u8]) -> u64 {
     if memory.len() != MEMORY {
@@ -165,25 +208,33 @@ pub fn play_on(player: &mut [u8], log: &[u8], memory: &[u8], text: &mut [u8]) ->
     let Some(mut now) = Player::decode(player) else {
         return number::STATE.into();
     };
-    let items = match log::items(log) {
-        Ok(items) => items,
-        Err(fault) => return fault.number.into(),
+    let (mut written, mut silent) = (0, 0);
+    // Behind the last line that was written.
+    let mut behind = now;
+    let over = loop {
+        match now.turn(log, memory) {
+            Said::Nothing => {
+                silent += 1;
+                if silent == MOST_SILENT {
+                    behind = now;
+                    break false;
+                }
+            }
+            Said::Line(line) => {
+                let Some(place) = text.get_mut(written..written + line.len()) else {
+                    break false;
+                };
+                place.copy_from_slice(line.as_bytes());
+                written += line.len();
+                (behind, silent) = (now, 0);
+            }
+            Said::Over => break true,
+            Said::Refused(fault) if written == 0 => return refused(fault),
+            Said::Refused(_) => break false,
+        }
     };
-    let mut written = 0;
-    loop {
-        let mut next = now;
-        let Some(line) = next.line(&items, memory) else {
-            break;
-        };
-        let Some(place) = text.get_mut(written..written + line.len()) else {
-            break;
-        };
-        place.copy_from_slice(line.as_bytes());
-        written += line.len();
-        now = next;
-    }
-    player.copy_from_slice(&now.encode());
-    u64::from(now.stage >= 3) << 8 | (written as u64) << 32
+    player.copy_from_slice(&behind.encode());
+    u64::from(over) << 8 | (written as u64) << 32
 }
 
 /// Writes the text of a refusal; nothing where it doesn't fit. The answer is 2^32 x bytes written.
