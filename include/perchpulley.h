@@ -1,9 +1,12 @@
 /* Perchpulley: a proved player of 2A03 sound logs.
  *
- * Every function here answers for any bytes and any numbers, and changes nothing but what it says.
+ * NO POINTER MAY BE NULL, also where the length behind it is 0.
  *
- * A slice is a pointer and then a length, in items. The pointer is valid for that many items and not null, also where
- * the length is 0; slices lent to one call don't overlap, and nobody else writes them meanwhile.
+ * Every function here answers for any bytes and any numbers, and changes nothing but what it says. Each may be called from
+ * any thread: nothing is kept between two calls but the bytes that the caller keeps.
+ *
+ * A slice is a pointer and then a length, in items. The pointer is valid for that many items; slices lent to one call
+ * don't overlap, and nobody else writes them meanwhile.
  *
  * An answer is one 64-bit number: its low 8 bits are the answer's number, PERCH_DONE or a refusal, and the bits above
  * are its value. A refused call answers its number, about a log its place too, with value 0, and leaves all that was
@@ -35,17 +38,20 @@
 extern "C" {
 #endif
 
+#define PERCH_VERSION 2            /* of this header; perch_version() is the library's */
 #define PERCH_STATE_SIZE 91        /* bytes of a state; perch_state_size() at run time */
 #define PERCH_MEMORY_SIZE 32768    /* bytes of sample memory, $8000 to $FFFF */
 #define PERCH_MOST_CLOCKS 1000000  /* clocks that one run may be asked for */
 #define PERCH_MOST_SHEET 4081      /* bytes that one sheet may be asked for */
 #define PERCH_PLAYER_SIZE 190      /* bytes of a player; perch_player_size() at run time */
+#define PERCH_PLAYER_TIME 5        /* the first of the four bytes of a player that tell its time */
+#define PERCH_CURSOR_SIZE 88       /* bytes of a cursor; perch_cursor_size() at run time */
 #define PERCH_LONGEST_LINE 23      /* bytes of the longest line that a player writes, with its line feed */
 #define PERCH_REFUSAL_SIZE 40      /* bytes in which the text of any refusal fits */
 
 #define PERCH_DONE 0
 #define PERCH_REFUSED_MEMORY 1    /* sample memory isn't PERCH_MEMORY_SIZE bytes */
-#define PERCH_REFUSED_STATE 2     /* the bytes are no state in range, or no player */
+#define PERCH_REFUSED_STATE 2     /* the bytes are no state in range, no player or no cursor */
 #define PERCH_REFUSED_CLOCKS 3    /* a run of more than PERCH_MOST_CLOCKS */
 #define PERCH_REFUSED_REGISTER 4  /* register not among $4000..$4013, $4015, $4017 */
 #define PERCH_REFUSED_LONG 5      /* log longer than 60,000 bytes */
@@ -79,6 +85,10 @@ extern "C" {
 /* Of a run's answer: the clocks done, and the records written. */
 #define PERCH_CLOCKS(answer) ((uint32_t)((answer) >> 8 & 0xffffff))
 #define PERCH_RECORDS(answer) ((uint32_t)((uint64_t)(answer) >> 32))
+
+/* The library's version. Every change of a size, a layout or a function raises it: where it isn't PERCH_VERSION, this header
+ * isn't the library's, and nothing else here holds. */
+uint32_t perch_version(void);
 
 /* How many bytes a state is. */
 size_t perch_state_size(void);
@@ -166,6 +176,12 @@ float perch_level_fraction(uint16_t level);
 /* Checks a log of n bytes. The value is the clocks in all. Refused: 4, 5, 7 to 10, 14 to 19. */
 uint64_t perch_check(const uint8_t *log, size_t n);
 
+/* The same, but the value is the turns in all: 1 for a wait, write or read; N times (1 + body) for a loop. */
+uint64_t perch_turns(const uint8_t *log, size_t n);
+
+/* The same, but the value is how many items the log stands for: its waits, writes and reads, its loops unrolled. */
+uint64_t perch_items(const uint8_t *log, size_t n);
+
 /* Item k, from 0, of the waits, writes and reads that the log stands for, its loops unrolled. The value is
  * kind x 2^24 + what it holds: of a wait its clocks; of a write 256 x register + value; of a read 0. Refused: as the
  * log, then 11. */
@@ -182,6 +198,32 @@ uint64_t perch_body(const uint8_t *log, size_t n, uint64_t offset);
 #define PERCH_START(answer) ((uint32_t)((uint64_t)(answer) >> 32 & 0xffff))
 #define PERCH_LENGTH(answer) ((uint32_t)((uint64_t)(answer) >> 48))
 
+/* CURSORS. A cursor goes through a log's items one behind the other, where perch_item would begin anew for each. It is
+ * PERCH_CURSOR_SIZE bytes that the caller keeps between two calls, every number low byte first; a copy of them is a bookmark.
+ *
+ *   byte   0  the place of the line that comes next (8)
+ *          8  how many loops are open (8)
+ *         16  where the body of each starts, from the outermost on (8 times 8)
+ *         80  how many turns each has left behind this one (8 times 1)
+ *
+ * Any such bytes are a cursor; one that says that more than eight loops are open counts as having none open. */
+
+/* How many bytes a cursor is. */
+size_t perch_cursor_size(void);
+
+/* Makes the c bytes a cursor at a log's beginning, whatever they held. Refused: c isn't the size of a cursor (2). */
+uint64_t perch_cursor_start(uint8_t *cursor, size_t c);
+
+/* The next item, as perch_item has it, and the cursor moves behind it. At the log's end the kind is PERCH_END and the cursor
+ * stays at the `stop` line. Of a log that passes the check, call k, from 0, behind a start gives item k, and behind the last
+ * item every call the end. The log isn't checked: one that doesn't pass is gone through as far as its lines are right. Where
+ * 2,000,002 lines in a row gave no item the kind is PERCH_MOVED and the cursor is behind them; a log that passes never comes to
+ * that. Refused: c isn't the size of a cursor (2); 5; as the line that the cursor comes to, with the loops open that it
+ * says: 4, 7, 8, 14 to 18. */
+uint64_t perch_cursor_next(uint8_t *cursor, size_t c, const uint8_t *log, size_t n);
+#define PERCH_END 0
+#define PERCH_MOVED 4
+
 /* WHAT OTHER PLAYERS WROTE. Brings a VGM stream, the n bytes behind a VGM file's header, in as a log over the front of the
  * text. Commands: $B4 register value; the waits $61, $62, $63 and $70..$7F, in samples at 44,100 a second; $66 the end,
  * behind which nothing is read. The log passes perch_check and stands for exactly those writes, each at the clock
@@ -191,7 +233,12 @@ uint64_t perch_body(const uint8_t *log, size_t n, uint64_t offset);
  * place (the low 56 bits of it). */
 uint64_t perch_import(const uint8_t *stream, size_t n, uint8_t *text, size_t t);
 
-/* THE PLAYER IN PIECES. A player is PERCH_PLAYER_SIZE bytes that the caller keeps between two pieces. */
+/* THE PLAYER IN PIECES. A player is PERCH_PLAYER_SIZE bytes that the caller keeps between two pieces.
+ *
+ * A copy of them is a bookmark: kept and played on later, with the same log and memory, it gives the same lines again. The
+ * bytes hold no pointers, so that they can be written to a file too, for a library of the same version. The four bytes from
+ * PERCH_PLAYER_TIME on, low byte first, are the time in clocks up to which the player has come: that of its last line or
+ * later, and not past its next line. */
 
 /* How many bytes a player is. */
 size_t perch_player_size(void);

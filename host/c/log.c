@@ -1,5 +1,6 @@
-/* Logs, streams, samples and levels from C: what is asked of a log, a VGM stream brought in, why a channel is silent, a
- * sample's sheet, a meter. Exit status 0 where every answer is as expected. */
+/* The whole header from C, every macro and every refusal of it: what is asked of a log, its items by a cursor, the player, a VGM
+ * stream brought in, the chip, why a channel is silent, a sample's sheet, a meter. Exit status 0 where every answer is as
+ * expected. */
 #include <stdio.h>
 #include <string.h>
 
@@ -20,14 +21,27 @@ static uint64_t check(const char *log)
     return perch_check((const uint8_t *)log, strlen(log));
 }
 
+static const char song[] = "log=1\nwrite=4011:40\nloop=3\nwait=10\nread=4015\ndone=loop\nstop=30\n";
+
+static void sizes(void)
+{
+    expect("the version", perch_version(), PERCH_VERSION);
+    expect("a state", perch_state_size(), PERCH_STATE_SIZE);
+    expect("a player", perch_player_size(), PERCH_PLAYER_SIZE);
+    expect("a cursor", perch_cursor_size(), PERCH_CURSOR_SIZE);
+}
+
 static void logs(void)
 {
-    const char *log = "log=1\nwrite=4011:40\nloop=3\nwait=10\nread=4015\ndone=loop\nstop=30\n";
+    static uint8_t longest[60001];
+    const char *log = song;
     const uint8_t *bytes = (const uint8_t *)log;
     uint64_t answer = check(log);
 
     expect("a log that passes", PERCH_NUMBER(answer), PERCH_DONE);
     expect("its clocks", PERCH_LOG_VALUE(answer), 30);
+    expect("its turns", perch_turns(bytes, strlen(log)), (uint64_t)10 << 32);
+    expect("its items", perch_items(bytes, strlen(log)), (uint64_t)7 << 32);
     answer = perch_item(bytes, strlen(log), 0);
     expect("item 0", PERCH_KIND(answer), PERCH_WRITE);
     expect("what it holds", PERCH_HELD(answer), 0x401140);
@@ -39,6 +53,12 @@ static void logs(void)
     expect("a body's length", PERCH_LENGTH(answer), 18);
     expect("no loop at 6", PERCH_NUMBER(perch_body(bytes, strlen(log), 6)), PERCH_REFUSED_LOOP);
 
+    expect("60,001 bytes", perch_check(longest, sizeof longest), PERCH_REFUSED_LONG);
+    expect("60,000 bytes", PERCH_NUMBER(perch_check(longest, sizeof longest - 1)), PERCH_REFUSED_KEY);
+    expect("nine loops", PERCH_NUMBER(check("log=1\nloop=2\nloop=2\nloop=2\nloop=2\nloop=2\nloop=2\nloop=2\nloop=2\nloop=2\n")),
+           PERCH_REFUSED_DEPTH);
+    expect("too many turns", PERCH_NUMBER(check("log=1\nloop=255\nloop=255\nloop=255\ndone=loop\ndone=loop\ndone=loop\nstop=0\n")),
+           PERCH_REFUSED_TOTALS);
     answer = check("log=1\nwait=1000001\nstop=0\n");
     expect("a wait too long", PERCH_NUMBER(answer), PERCH_REFUSED_RANGE);
     expect("its place", PERCH_PLACE(answer), 11);
@@ -52,10 +72,96 @@ static void logs(void)
     expect("another stop", PERCH_NUMBER(check("log=1\nstop=1\n")), PERCH_REFUSED_STOP);
 }
 
+/* The items one behind the other, and what a cursor says that its log didn't lead to. */
+static void cursors(void)
+{
+    static const char spin[] = "log=1\nloop=255\nloop=255\nloop=255\ndone=loop\ndone=loop\ndone=loop\nstop=0\n";
+    const uint8_t *log = (const uint8_t *)song;
+    uint8_t cursor[PERCH_CURSOR_SIZE], mark[PERCH_CURSOR_SIZE];
+    const size_t c = sizeof cursor, n = strlen(song);
+    uint64_t k, answer;
+
+    memset(cursor, 0xff, c);
+    expect("a start", perch_cursor_start(cursor, c), PERCH_DONE);
+    for (k = 0; k < PERCH_LOG_VALUE(perch_items(log, n)); k++)
+        expect("the cursor's item", perch_cursor_next(cursor, c, log, n), perch_item(log, n, k));
+    memcpy(mark, cursor, c);
+    expect("the end", PERCH_KIND(perch_cursor_next(cursor, c, log, n)), PERCH_END);
+    memcpy(cursor, mark, c);
+    expect("the end again", perch_cursor_next(cursor, c, log, n), PERCH_DONE);
+    expect("less than a cursor", perch_cursor_start(cursor, c - 1), PERCH_REFUSED_STATE);
+    expect("no place to step from", perch_cursor_next(cursor, c - 1, log, n), PERCH_REFUSED_STATE);
+
+    perch_cursor_start(cursor, c);
+    cursor[0] = 1;
+    memcpy(mark, cursor, c);
+    answer = perch_cursor_next(cursor, c, log, n);
+    expect("in mid-line", PERCH_NUMBER(answer), PERCH_REFUSED_KEY);
+    expect("its place", PERCH_PLACE(answer), 1);
+    expect("the cursor stays", (uint64_t)memcmp(cursor, mark, c), 0);
+    perch_cursor_start(cursor, c);
+    expect("many turns of nothing", PERCH_KIND(perch_cursor_next(cursor, c, (const uint8_t *)spin, strlen(spin))), PERCH_MOVED);
+}
+
+/* The player's lines, from a bookmark too. */
+static void players(void)
+{
+    static uint8_t memory[PERCH_MEMORY_SIZE];
+    static const char expected[] = "play=1\nlevel=0:8074\nlevel=0:16620\nread=10:00\nread=20:00\nread=30:00\nstop=30\n";
+    const uint8_t *log = (const uint8_t *)song;
+    uint8_t player[PERCH_PLAYER_SIZE], mark[PERCH_PLAYER_SIZE];
+    uint8_t text[100], refusal[PERCH_REFUSAL_SIZE];
+    const size_t n = strlen(song), m = sizeof memory, p = sizeof player;
+    size_t written = 0;
+    uint64_t answer = perch_begin(player, p, log, n, memory, m);
+    int pieces = 0;
+
+    expect("a beginning", answer, PERCH_DONE);
+    do {
+        if (pieces == 1)
+            memcpy(mark, player, p);
+        answer = perch_play_on(player, p, log, n, memory, m, text + written, PERCH_LONGEST_LINE);
+        expect("a piece", PERCH_NUMBER(answer), PERCH_DONE);
+        written += PERCH_WRITTEN(answer);
+    } while (!PERCH_OVER(answer) && ++pieces < 20);
+    expect("the text's length", written, strlen(expected));
+    expect("the text", (uint64_t)memcmp(text, expected, strlen(expected)), 0);
+    expect("its time", player[PERCH_PLAYER_TIME], 30);
+    expect("and above", player[PERCH_PLAYER_TIME + 1] | player[PERCH_PLAYER_TIME + 2] | player[PERCH_PLAYER_TIME + 3], 0);
+    answer = perch_play_on(mark, p, log, n, memory, m, text, sizeof text);
+    written = PERCH_WRITTEN(answer);
+    expect("from the bookmark", (uint64_t)memcmp(text, expected + strlen(expected) - written, written), 0);
+    expect("some lines", written > 0 && written < strlen(expected), 1);
+    expect("less memory", perch_begin(player, p, log, n, memory, m - 1), PERCH_REFUSED_MEMORY);
+    expect("less than a player", perch_begin(player, p - 1, log, n, memory, m), PERCH_REFUSED_STATE);
+
+    answer = perch_refusal_text(255, UINT64_MAX, refusal, sizeof refusal);
+    expect("a refusal's text", PERCH_WRITTEN(answer), strlen("play=1\nrefused=255:3709551615\n"));
+    expect("the last ten digits", (uint64_t)memcmp(refusal, "play=1\nrefused=255:3709551615\n", PERCH_WRITTEN(answer)), 0);
+}
+
+static void chips(void)
+{
+    static uint8_t memory[PERCH_MEMORY_SIZE];
+    uint8_t state[PERCH_STATE_SIZE];
+    uint32_t words[2];
+    const size_t n = sizeof state, m = sizeof memory;
+    uint64_t answer;
+
+    perch_power_on(state, n);
+    expect("no such register", perch_write(state, n, 0x4014, 0), PERCH_REFUSED_REGISTER);
+    expect("a run too long", perch_run(state, n, memory, m, PERCH_MOST_CLOCKS + 1, words, 2), PERCH_REFUSED_CLOCKS);
+    answer = perch_run(state, n, memory, m, PERCH_MOST_CLOCKS, words, 2);
+    expect("the longest run", PERCH_CLOCKS(answer), PERCH_MOST_CLOCKS);
+    expect("no records", PERCH_RECORDS(answer), 0);
+    expect("the level as a float", (uint64_t)(PERCH_LEVEL_FRACTION(perch_level(state, n)) * 32768.0f), 8074);
+}
+
 static void streams(void)
 {
     const uint8_t stream[] = {0xb4, 0x11, 0x40, 0x62, 0x66};
     const uint8_t block[] = {0x67, 0x66, 0xc2};
+    const uint8_t wrong_register[] = {0xb4, 0x14, 0x00};
     const char *expected = "log=1\nwrite=4011:40\nwait=29829\nstop=29829\n";
     uint8_t text[60];
     uint64_t answer = perch_import(stream, sizeof stream, text, sizeof text);
@@ -63,6 +169,8 @@ static void streams(void)
     expect("a stream", PERCH_NUMBER(answer), PERCH_DONE);
     expect("its log's length", PERCH_VALUE(answer), strlen(expected));
     expect("its log", (uint64_t)memcmp(text, expected, strlen(expected)), 0);
+    expect("no such register", PERCH_NUMBER(perch_import(wrong_register, 3, text, sizeof text)), PERCH_REFUSED_VGM_REGISTER);
+    expect("no end", PERCH_NUMBER(perch_import(stream, 4, text, sizeof text)), PERCH_REFUSED_STREAM_END);
     expect("a data block", perch_import(block, sizeof block, text, sizeof text), PERCH_REFUSED_COMMAND);
     expect("no room", perch_import(stream, sizeof stream, text, 5), PERCH_REFUSED_ROOM);
 }
@@ -79,6 +187,14 @@ static void channels(void)
     perch_write(state, sizeof state, 0x4003, 0x08);
     expect("a low period", PERCH_VALUE(perch_why(state, sizeof state, 0)), PERCH_WHY_PERIOD);
     perch_write(state, sizeof state, 0x4002, 0x20);
+    perch_write(state, sizeof state, 0x4003, 0x0f);
+    expect("a high target", PERCH_VALUE(perch_why(state, sizeof state, 0)), PERCH_WHY_TARGET);
+    perch_write(state, sizeof state, 0x4003, 0x08);
+    perch_write(state, sizeof state, 0x4000, 0x3f);
+    expect("a low step", PERCH_VALUE(perch_why(state, sizeof state, 0)), PERCH_WHY_STEP);
+    perch_write(state, sizeof state, 0x4000, 0xf0);
+    expect("no volume", PERCH_VALUE(perch_why(state, sizeof state, 0)), PERCH_WHY_VOLUME);
+    perch_write(state, sizeof state, 0x4000, 0xff);
     expect("sounds", PERCH_VALUE(perch_why(state, sizeof state, 0)), PERCH_WHY_SOUNDS + 15);
     expect("the triangle", perch_why(state, sizeof state, 2), PERCH_REFUSED_CHANNEL);
 }
@@ -94,6 +210,10 @@ static void samples(void)
     expect("after eight ones", levels[0], 80);
     expect("after a one and seven zeros", levels[1], 68);
     expect("behind them", levels[2], 9);
+    expect("an address too low", perch_sheet(memory, sizeof memory, 64, 0x7fff, 2, levels, 3), PERCH_REFUSED_SHEET_ADDRESS);
+    expect("too long a sheet", perch_sheet(memory, sizeof memory, 64, 0xc000, PERCH_MOST_SHEET + 1, levels, 3),
+           PERCH_REFUSED_SHEET_LENGTH);
+    expect("too short a buffer", perch_sheet(memory, sizeof memory, 64, 0xc000, 4, levels, 3), PERCH_REFUSED_SHEET_BUFFER);
     expect("a level of 128", perch_sheet(memory, sizeof memory, 128, 0xc000, 2, levels, 3), PERCH_REFUSED_SHEET_LEVEL);
 }
 
@@ -101,12 +221,15 @@ static void meters(void)
 {
     const uint32_t levels[] = {8074, 16620, 8074};
     const uint32_t records[] = {1, 16620, 5, 8074};
+    const uint32_t silence[] = {0, 0}, high[] = {32768};
     uint64_t answer = perch_meter(levels, 3);
 
     expect("moving", PERCH_CASE(answer), PERCH_METER_MOVING);
     expect("lowest", PERCH_LOWEST(answer), 8074);
     expect("highest", PERCH_HIGHEST(answer), 16620);
     expect("steady", PERCH_CASE(perch_meter(levels, 1)), PERCH_METER_STEADY);
+    expect("silent", PERCH_CASE(perch_meter(silence, 2)), PERCH_METER_SILENT);
+    expect("no level", perch_meter(high, 1), PERCH_REFUSED_LEVEL);
     expect("none", PERCH_CASE(perch_meter(levels, 0)), PERCH_METER_NONE);
     expect("records", perch_meter_records(records, 4, 0, 2, PERCH_NO_LEVEL), answer);
     expect("with the level before", PERCH_LOWEST(perch_meter_records(records, 4, 0, 1, 8074)), 8074);
@@ -115,7 +238,11 @@ static void meters(void)
 
 int main(void)
 {
+    sizes();
     logs();
+    cursors();
+    players();
+    chips();
     streams();
     channels();
     samples();

@@ -2,8 +2,10 @@
 
 pub mod case;
 pub mod counts;
+pub mod cursors;
 pub mod draw;
 pub mod every;
+pub mod free;
 pub mod imports;
 pub mod judge;
 pub mod lines;

@@ -202,9 +202,11 @@ pub fn compare(seed: u64, logs: u64, memory: &[u8]) -> Result<String, String> {
 }
 
 /// Holds what the library answers about a log to what the reading answers.
-fn judge(log: &[u8], memory: &[u8]) -> Result<(), String> {
+pub(crate) fn judge(log: &[u8], memory: &[u8]) -> Result<(), String> {
     let answer = player::check(log);
     same(|| "check".into(), answer, raw::check(log))?;
+    same(|| "turns".into(), player::turns(log), raw::turns(log))?;
+    same(|| "items".into(), player::items(log), raw::items(log))?;
     same(|| "item 0".into(), player::item(log, 0), raw::item(log, 0))?;
     same(|| "body at 6".into(), player::body(log, 6), raw::body(log, 6))?;
     let mut player = vec![0; raw::player_size()];

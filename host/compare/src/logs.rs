@@ -373,6 +373,8 @@ pub fn judge(log: &[u8], memory: &[u8], random: &mut Random, tally: &mut Tally) 
     let answer = player::check(log);
     tally.numbers[usize::from(answer as u8)] += 1;
     same(|| "check".into(), answer, raw::check(log))?;
+    same(|| "turns".into(), player::turns(log), raw::turns(log))?;
+    same(|| "items".into(), player::items(log), raw::items(log))?;
 
     let items = log::items(log);
     let count = items.as_ref().map_or(0, |items| items.len() as u64);

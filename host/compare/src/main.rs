@@ -3,7 +3,7 @@
 use compare::case::{self, Case, Outcome};
 use compare::judge::{self, Tally, judge};
 use compare::random::Random;
-use compare::{draw, every, imports, lines, logs, meters, players, reasons, sheets, stored};
+use compare::{cursors, draw, every, free, imports, lines, logs, meters, players, reasons, sheets, stored};
 use reading::{Chip, MEMORY};
 use std::process::ExitCode;
 use std::time::Instant;
@@ -15,9 +15,11 @@ compare cases N [--seed N]                              write N cases with the r
 compare questions FILE                                  write the cases of a file with zeros for every answer
 compare check FILE                                      hold the library to the cases of a file
 compare log-cases N FOLDER [--seed N]                   write N logs, a sample.bin and the texts that the reading gives
+compare examples FOLDER                                 hold the library to the reading on the logs of a folder, with sample.bin
+compare text LOG SAMPLE                                 write what the player writes for a log, by the reading
 compare judged FOLDER                                   write what the crate logs prints about the logs of a folder
 compare played FOLDER                                   write what the crate cases prints about them, with sample.bin
---each N: so many reasons, meters and sheets, half as many players and imports
+--each N: so many reasons, meters, sheets and texts, half as many whole logs, cursors, players and imports
 --archive: an error where the library's archive isn't linked; --brief: no more parts after one that differs";
 
 /// What the command line asks for.
@@ -165,6 +167,9 @@ fn compare(asked: &Asked) -> bool {
     part("lines", &mut || lines::compare(seed, asked.logs * 50, &memory));
     part("cuts", &mut || lines::cuts(seed, asked.logs / 20));
     part("logs", &mut || logs::compare(seed, asked.logs, &memory));
+    part("whole", &mut || free::compare(seed, asked.each / 2, &memory));
+    part("texts", &mut || free::texts(seed, asked.each));
+    part("cursors", &mut || cursors::compare(seed, asked.each / 2));
     part("players", &mut || players::compare(seed, asked.each / 2, &memory));
     part("imports", &mut || imports::compare(seed, asked.each / 2));
     good
@@ -235,6 +240,8 @@ fn main() -> ExitCode {
         ["questions", path] => write_questions(path),
         ["check", path] => check_cases(path),
         ["log-cases", count, folder] => write_logs(&asked, count, folder),
+        ["examples", folder] => stored::examples(folder).map(|told| print!("{told}")),
+        ["text", log, sample] => stored::text(log, sample).map(|text| print!("{text}")),
         ["judged", folder] => stored::judged(folder).map(|text| print!("{text}")),
         ["played", folder] => stored::played(folder).map(|text| print!("{text}")),
         _ => Err(USAGE.into()),

@@ -47,20 +47,20 @@ const SEEN: [(&str, u64); 18] = [
     ("1", 50),
     ("2", 20),
     ("3", 50),
-    ("4", 5),
-    ("5", 20),
+    ("4", 1),
+    ("5", 10),
     ("7", 100),
     ("8", 300),
     ("9", 50),
     ("14", 300),
-    ("15", 20),
+    ("15", 10),
     ("16", 1),
-    ("17", 5),
+    ("17", 10),
     ("18", 100),
 ];
 
 /// Any number of a log's length, or near it, or of 64 bits.
-fn place(random: &mut Random, log: &[u8]) -> u64 {
+pub(crate) fn place(random: &mut Random, log: &[u8]) -> u64 {
     let length = log.len() as u64;
     match random.within(0..=9) {
         0 => {
@@ -168,7 +168,7 @@ fn damaged(random: &mut Random, bytes: &mut [u8], log: &mut Vec<u8>) -> &'static
 }
 
 /// A log with more turns than any that passes, which say nothing.
-fn spinning() -> Vec<u8> {
+pub(crate) fn spinning() -> Vec<u8> {
     let loops = 3;
     ["log=1\n".to_string(), "loop=255\n".repeat(loops), "done=loop\n".repeat(loops), "stop=0\n".into()]
         .concat()
@@ -176,7 +176,7 @@ fn spinning() -> Vec<u8> {
 }
 
 /// A right log with few clocks and loops in each other, a read or a write here and there.
-fn looped(random: &mut Random) -> Vec<u8> {
+pub(crate) fn looped(random: &mut Random) -> Vec<u8> {
     let depth = random.within(1..=8) as usize;
     let mut log = String::from("log=1\n");
     let line = |random: &mut Random| match random.within(0..=3) {

@@ -1,5 +1,6 @@
 //! What the programs of the crates `logs` and `cases` print about their stored logs, by the reading.
 
+use perch::raw;
 use reading::log::{self, Fault, Item, Line};
 use reading::{MEMORY, number, play};
 use std::path::{Path, PathBuf};
@@ -16,6 +17,70 @@ fn logs(folder: &str) -> Result<Vec<(String, Vec<u8>)>, String> {
     paths.sort();
     let name = |path: &Path| path.file_stem().unwrap_or_default().to_string_lossy().into_owned();
     paths.iter().map(|path| Ok((name(path), read(path)?))).collect()
+}
+
+/// A log with more clocks is held to the reading's first lines, those of so many clocks.
+const MOST_CLOCKS: u128 = 20_000_000;
+const FIRST_CLOCKS: u64 = 3_000_000;
+
+/// Plays the logs of a folder with its sample.bin in the library, and holds their texts to the reading's.
+pub fn examples(folder: &str) -> Result<String, String> {
+    let path = format!("{folder}/sample.bin");
+    let memory = std::fs::read(&path).map_err(|error| format!("{path}: {error}"))?;
+    let (mut bytes, mut told) = (0, Vec::new());
+    for (name, log) in logs(folder)? {
+        let long = log::check(&log).is_ok_and(|all| all.clocks > MOST_CLOCKS);
+        let ours = if long {
+            play::beginning(&log, &memory, FIRST_CLOCKS).map_err(|fault| format!("{name}: {fault:?}"))?
+        } else {
+            play::text(&log, &memory)
+        };
+        let theirs = if long { first_lines(&log, &memory, ours.len()) } else { whole_text(&log, &memory) };
+        if theirs != ours.as_bytes() {
+            let at = theirs.iter().zip(ours.as_bytes()).take_while(|(a, b)| a == b).count();
+            let shown = |text: &[u8]| text[at..text.len().min(at + 100)].escape_ascii().to_string();
+            return Err(format!(
+                "{name}: at byte {at} the reading {}, the library {}",
+                shown(ours.as_bytes()),
+                shown(&theirs)
+            ));
+        }
+        bytes += ours.len();
+        told.push(if long { format!("{name}, its first {FIRST_CLOCKS} clocks") } else { name });
+    }
+    Ok(format!("{} examples as the reading has them, {bytes} bytes: {}\n", told.len(), told.join("; ")))
+}
+
+/// The text of a log in the library.
+fn whole_text(log: &[u8], memory: &[u8]) -> Vec<u8> {
+    match perch::Player::new(log, memory) {
+        Err(fault) => perch::refusal_text(fault),
+        Ok(player) => player.flatten().collect(),
+    }
+}
+
+/// The first bytes of it.
+fn first_lines(log: &[u8], memory: &[u8], bytes: usize) -> Vec<u8> {
+    let mut player = vec![0; raw::player_size()];
+    raw::begin(&mut player, log, memory);
+    let mut text = Vec::new();
+    while text.len() < bytes {
+        // A piece gets a line for sure from 23 bytes on.
+        let mut piece = vec![0; (bytes - text.len()).max(23)];
+        let written = (raw::play_on(&mut player, log, memory, &mut piece) >> 32) as usize;
+        if written == 0 {
+            break;
+        }
+        text.extend(&piece[..written]);
+    }
+    text.truncate(bytes);
+    text
+}
+
+/// What the player writes for a log, by the reading.
+pub fn text(log: &str, sample: &str) -> Result<String, String> {
+    let read = |path: &str| std::fs::read(path).map_err(|error| format!("{path}: {error}"));
+    Ok(play::text(&read(log)?, &read(sample)?))
 }
 
 /// What `crates/test_logs/stdout` holds: of each log the check, some items, some bodies, and a cursor's way.

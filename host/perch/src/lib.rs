@@ -25,6 +25,19 @@
 //! ```
 //!
 //! ```
+//! # use perch::{Found, Item};
+//! let log = b"log=1\nloop=3\nwait=10\nread=4015\ndone=loop\nstop=30\n";
+//! assert_eq!((perch::check(log)?, perch::turns(log)?, perch::items(log)?), (30, 9, 6));
+//! let mut cursor = perch::Cursor::new();
+//! assert_eq!(cursor.next(log)?, Found::Item(Item::Wait(10)));
+//! let bookmark = cursor;
+//! assert_eq!(cursor.next(log)?, Found::Item(Item::Read));
+//! assert_eq!({ bookmark }.next(log)?, Found::Item(Item::Read));
+//! assert_eq!(perch::all_items(log)?.count(), 6);
+//! # Ok::<(), perch::Fault>(())
+//! ```
+//!
+//! ```
 //! let log = perch::import(&[0xb4, 0x11, 0x40, 0x62, 0x66])?;
 //! assert_eq!(log, b"log=1\nwrite=4011:40\nwait=29829\nstop=29829\n");
 //! # Ok::<(), perch::Fault>(())
@@ -56,13 +69,15 @@
 //! # Ok::<(), perch::Refusal>(())
 //! ```
 
+mod cursor;
 mod log;
 mod meter;
 pub mod raw;
 mod sheet;
 mod why;
 
-pub use log::{Fault, Item, LOG, Player, body, check, import, item, refusal_text};
+pub use cursor::{CURSOR, Cursor, Found, all_items};
+pub use log::{Fault, Item, LOG, Player, body, check, import, item, items, refusal_text, turns};
 pub use meter::{Meter, meter, meter_records};
 pub use sheet::sheet;
 pub use why::{Channel, Why};
@@ -74,6 +89,14 @@ pub const MEMORY: usize = 32_768;
 
 /// How many bytes a state is.
 pub const STATE: usize = 91;
+
+/// The version of the header that this wraps; the library's is `version()`.
+pub const VERSION: u32 = 2;
+
+/// The version of the library linked. One of another version has other sizes, layouts or functions.
+pub fn version() -> u32 {
+    raw::version()
+}
 
 /// What these functions are linked to.
 pub const LINKED: &str = if ARCHIVE { "the archive" } else { "the stand-in" };

@@ -24,7 +24,7 @@ impl fmt::Display for Fault {
 impl std::error::Error for Fault {}
 
 /// The value of an answer about a log, or its fault.
-fn value(answer: u64) -> Result<u64, Fault> {
+pub(crate) fn value(answer: u64) -> Result<u64, Fault> {
     match answer as u8 {
         0 => Ok(answer >> 32),
         number => Err(Fault { refusal: Refusal(number), place: (answer >> 8 & 0xff_ffff) as usize }),
@@ -47,15 +47,29 @@ pub fn check(log: &[u8]) -> Result<u64, Fault> {
     value(raw::check(log))
 }
 
-/// Item k of the log's list, from 0.
-pub fn item(log: &[u8], k: u64) -> Result<Item, Fault> {
-    let value = value(raw::item(log, k))?;
+/// Checks a log and gives its turns in all.
+pub fn turns(log: &[u8]) -> Result<u64, Fault> {
+    value(raw::turns(log))
+}
+
+/// Checks a log and gives how many items it stands for.
+pub fn items(log: &[u8]) -> Result<u64, Fault> {
+    value(raw::items(log))
+}
+
+/// The item of an answer's value.
+pub(crate) fn item_of(value: u64) -> Item {
     let held = value as u32 & 0xff_ffff;
-    Ok(match value >> 24 {
+    match value >> 24 {
         1 => Item::Wait(held),
         2 => Item::Write((held >> 8) as u16, held as u8),
         _ => Item::Read,
-    })
+    }
+}
+
+/// Item k of the log's list, from 0.
+pub fn item(log: &[u8], k: u64) -> Result<Item, Fault> {
+    value(raw::item(log, k)).map(item_of)
 }
 
 /// The bytes between the loop line at the offset and its `done`.

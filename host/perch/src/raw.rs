@@ -11,6 +11,18 @@ use standin::{
     perch_power_on, perch_read_status, perch_refusal_text, perch_run, perch_run_plain, perch_sheet, perch_state_size,
     perch_why, perch_write,
 };
+#[cfg(not(archive))]
+use standin::{perch_cursor_next, perch_cursor_size, perch_cursor_start, perch_items, perch_turns, perch_version};
+
+#[cfg(archive)]
+unsafe extern "C" {
+    safe fn perch_version() -> u32;
+    fn perch_turns(log: *const u8, n: usize) -> u64;
+    fn perch_items(log: *const u8, n: usize) -> u64;
+    safe fn perch_cursor_size() -> usize;
+    fn perch_cursor_start(cursor: *mut u8, c: usize) -> u64;
+    fn perch_cursor_next(cursor: *mut u8, c: usize, log: *const u8, n: usize) -> u64;
+}
 
 #[cfg(archive)]
 unsafe extern "C" {
@@ -211,4 +223,34 @@ pub fn level_fraction(level: u16) -> f32 {
 /// Writes the level after each byte of a sample; the value is how many they are.
 pub fn sheet(memory: &[u8], level: u64, address: u64, length: u64, buffer: &mut [u8]) -> u64 {
     unsafe { perch_sheet(memory.as_ptr(), memory.len(), level, address, length, buffer.as_mut_ptr(), buffer.len()) }
+}
+
+/// The library's version.
+pub fn version() -> u32 {
+    perch_version()
+}
+
+/// The turns of a log in all.
+pub fn turns(log: &[u8]) -> u64 {
+    unsafe { perch_turns(log.as_ptr(), log.len()) }
+}
+
+/// How many items a log stands for.
+pub fn items(log: &[u8]) -> u64 {
+    unsafe { perch_items(log.as_ptr(), log.len()) }
+}
+
+/// How many bytes a cursor is.
+pub fn cursor_size() -> usize {
+    perch_cursor_size()
+}
+
+/// Makes the bytes a cursor at a log's beginning.
+pub fn cursor_start(cursor: &mut [u8]) -> u64 {
+    unsafe { perch_cursor_start(cursor.as_mut_ptr(), cursor.len()) }
+}
+
+/// The next item, as `item` has it; the value is 0 at the log's end.
+pub fn cursor_next(cursor: &mut [u8], log: &[u8]) -> u64 {
+    unsafe { perch_cursor_next(cursor.as_mut_ptr(), cursor.len(), log.as_ptr(), log.len()) }
 }

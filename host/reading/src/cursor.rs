@@ -4,7 +4,9 @@
 //! library's choice, as crates/log_cursor/specs/Stepping.antt defines it.
 
 use crate::layout::cursor::{LEFT, OPEN, PLACE, SIZE, STARTS};
-use crate::log::{Fault, Item, Line, MOST_DEPTH, line_at};
+use crate::log::{Fault, Item, Line, MOST_BYTES, MOST_DEPTH, line_at};
+use crate::number;
+use crate::player::{held, refused};
 
 /// Where a cursor stands.
 #[derive(Clone, Copy, Debug, Default, PartialEq, Eq)]
@@ -83,4 +85,42 @@ impl Cursor {
         }
         Ok(Step::Moved)
     }
+}
+
+/// So many steps in a row that come to no item end a call; a log that passes has fewer.
+pub const MOST_STEPS: u64 = 2_000_002;
+
+/// The kind that says so.
+const MOVED: u64 = 4;
+
+/// Makes the bytes a cursor at a log's beginning. Refused: 2 (they are of another length).
+pub fn start(cursor: &mut [u8]) -> u64 {
+    if cursor.len() != SIZE {
+        return number::STATE.into();
+    }
+    cursor.copy_from_slice(&Cursor::default().encode());
+    0
+}
+
+/// The next item, as a number; 0 at the log's end. Refused: 2, 5, then as the line that the cursor comes to.
+pub fn next(cursor: &mut [u8], log: &[u8]) -> u64 {
+    if cursor.len() != SIZE {
+        return number::STATE.into();
+    }
+    if log.len() > MOST_BYTES {
+        return number::LONG.into();
+    }
+    let mut now = Cursor::decode(cursor);
+    let mut value = MOVED << 24;
+    for _ in 0..MOST_STEPS {
+        match now.step(log) {
+            Ok(Step::Moved) => continue,
+            Ok(Step::Item(item)) => value = held(item),
+            Ok(Step::End) => value = 0,
+            Err(fault) => return refused(fault),
+        }
+        break;
+    }
+    cursor.copy_from_slice(&now.encode());
+    value << 32
 }

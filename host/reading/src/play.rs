@@ -15,7 +15,12 @@ pub fn check(log: &[u8], memory: &[u8]) -> Result<log::Totals, Fault> {
 
 /// The text of a refusal.
 pub fn refusal(fault: Fault) -> String {
-    format!("play=1\nrefused={}:{}\n", fault.number, fault.place)
+    refusal_line(fault.number, &fault.place.to_string())
+}
+
+/// The same, with the place's digits.
+pub(crate) fn refusal_line(number: u8, place: &str) -> String {
+    format!("play=1\nrefused={number}:{place}\n")
 }
 
 /// All that the player writes for a log.
@@ -24,6 +29,21 @@ pub fn text(log: &[u8], memory: &[u8]) -> String {
         Ok(items) => sounds(&items, memory),
         Err(fault) => refusal(fault),
     }
+}
+
+/// The first lines for a log that passes: those of its first items, with so many clocks at most.
+pub fn beginning(log: &[u8], memory: &[u8], clocks: u64) -> Result<String, Fault> {
+    check(log, memory)?;
+    let mut left = clocks;
+    let mut fits = |item: &Item| match item {
+        Item::Wait(clocks) => left.checked_sub(u64::from(*clocks)).inspect(|rest| left = *rest).is_some(),
+        _ => true,
+    };
+    let first: Vec<Item> = log::items(log)?.into_iter().take_while(|item| fits(item)).collect();
+    let mut text = sounds(&first, memory);
+    // Without the line of the end.
+    text.truncate(text.trim_end().rfind('\n').map_or(0, |feed| feed + 1));
+    Ok(text)
 }
 
 /// The lines of a list.

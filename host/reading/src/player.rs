@@ -11,7 +11,7 @@ use crate::log::{self, Fault, Item, MOST_DEPTH};
 use crate::plain::plain;
 use crate::{MEMORY, MOST_CLOCKS, number, play};
 
-fn refused(fault: Fault) -> u64 {
+pub(crate) fn refused(fault: Fault) -> u64 {
     u64::from(fault.number) | (fault.place as u64) << 8
 }
 
@@ -22,6 +22,16 @@ fn answer<T>(result: Result<T, Fault>, value: impl FnOnce(T) -> u64) -> u64 {
 /// The clocks in all.
 pub fn check(log: &[u8]) -> u64 {
     answer(log::check(log), |totals| totals.clocks as u64)
+}
+
+/// The turns in all.
+pub fn turns(log: &[u8]) -> u64 {
+    answer(log::check(log), |totals| totals.turns as u64)
+}
+
+/// How many items the log stands for.
+pub fn items(log: &[u8]) -> u64 {
+    answer(log::check(log), |totals| totals.items as u64)
 }
 
 /// An item as a number: 2^24 and the clocks of a wait; 2 x 2^24, 256 x register and the value of a write; 3 x 2^24 for a
@@ -200,6 +210,9 @@ pub fn begin(player: &mut [u8], log: &[u8], memory: &[u8]) -> u64 {
 /// So many turns in a row that say nothing end a piece; a log that passes has fewer.
 pub const MOST_SILENT: u64 = 4_000_010;
 
+/// The bytes of the shortest line.
+const SHORTEST: usize = 7;
+
 /// Writes the next lines to the text, as many as fit. The answer is 2^8 x over + 2^32 x bytes written; refused, that about a log.
 pub fn play_on(player: &mut [u8], log: &[u8], memory: &[u8], text: &mut [u8]) -> u64 {
     if memory.len() != MEMORY {
@@ -212,6 +225,10 @@ pub fn play_on(player: &mut [u8], log: &[u8], memory: &[u8], text: &mut [u8]) ->
     // Behind the last line that was written.
     let mut behind = now;
     let over = loop {
+        // Where the shortest line has no room the next one needn't be looked for.
+        if now.phase < 3 && text.len() - written < SHORTEST {
+            break false;
+        }
         match now.turn(log, memory) {
             Said::Nothing => {
                 silent += 1;
@@ -237,9 +254,11 @@ pub fn play_on(player: &mut [u8], log: &[u8], memory: &[u8], text: &mut [u8]) ->
     u64::from(over) << 8 | (written as u64) << 32
 }
 
-/// Writes the text of a refusal; nothing where it doesn't fit. The answer is 2^32 x bytes written.
+/// Writes the text of a refusal, of a place of more than ten digits the last ten; nothing where it doesn't fit. The answer is
+/// 2^32 x bytes written.
 pub fn refusal_text(number: u8, place: u64, text: &mut [u8]) -> u64 {
-    let whole = play::refusal(Fault { number, place: place as usize });
+    let digits = place.to_string();
+    let whole = play::refusal_line(number, &digits[digits.len().saturating_sub(10)..]);
     let Some(start) = text.get_mut(..whole.len()) else {
         return 0;
     };

@@ -8,7 +8,7 @@
 //! two of them overlap.
 #![allow(clippy::missing_safety_doc, missing_docs)]
 
-use reading::{boundary, meter, mixer, player as pieces, sheet, vgm, why};
+use reading::{boundary, cursor as cursors, layout, meter, mixer, player as pieces, sheet, vgm, why};
 use std::slice::{from_raw_parts, from_raw_parts_mut};
 
 #[cfg_attr(feature = "export", unsafe(no_mangle))]
@@ -169,4 +169,34 @@ pub unsafe extern "C" fn perch_sheet(
     b: usize,
 ) -> u64 {
     unsafe { sheet::sheet(from_raw_parts(memory, m), level, address, length, from_raw_parts_mut(buffer, b)) }
+}
+
+#[cfg_attr(feature = "export", unsafe(no_mangle))]
+pub extern "C" fn perch_version() -> u32 {
+    layout::VERSION
+}
+
+#[cfg_attr(feature = "export", unsafe(no_mangle))]
+pub unsafe extern "C" fn perch_turns(log: *const u8, n: usize) -> u64 {
+    pieces::turns(unsafe { from_raw_parts(log, n) })
+}
+
+#[cfg_attr(feature = "export", unsafe(no_mangle))]
+pub unsafe extern "C" fn perch_items(log: *const u8, n: usize) -> u64 {
+    pieces::items(unsafe { from_raw_parts(log, n) })
+}
+
+#[cfg_attr(feature = "export", unsafe(no_mangle))]
+pub extern "C" fn perch_cursor_size() -> usize {
+    layout::cursor::SIZE
+}
+
+#[cfg_attr(feature = "export", unsafe(no_mangle))]
+pub unsafe extern "C" fn perch_cursor_start(cursor: *mut u8, c: usize) -> u64 {
+    cursors::start(unsafe { from_raw_parts_mut(cursor, c) })
+}
+
+#[cfg_attr(feature = "export", unsafe(no_mangle))]
+pub unsafe extern "C" fn perch_cursor_next(cursor: *mut u8, c: usize, log: *const u8, n: usize) -> u64 {
+    unsafe { cursors::next(from_raw_parts_mut(cursor, c), from_raw_parts(log, n)) }
 }
