@@ -79,7 +79,8 @@ fn started(random: &mut Random, counts: &mut Counts) -> Result<(), String> {
     counts.add(if answer == 0 { "started" } else { "2" });
     // A refused step.
     if ours.len() != layout::SIZE {
-        same(|| "a cursor of another length".into(), number::STATE.into(), raw::cursor_next(&mut theirs, b"log=1\n"))?;
+        let log = if random.one_in(2) { b"log=1\n".to_vec() } else { vec![b'\n'; 60_001] };
+        same(|| "a cursor of another length".into(), number::STATE.into(), raw::cursor_next(&mut theirs, &log))?;
         if ours != theirs {
             return Err("a refused step changed the cursor".into());
         }
