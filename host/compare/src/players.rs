@@ -13,15 +13,17 @@ use reading::{MEMORY, MOST_CLOCKS};
 /// The longest line: a text of so many bytes gets one.
 const LONGEST: usize = 23;
 
-/// The most clocks of a piece, and of one player in 64: the machine goes one by one.
+/// The most clocks of a piece, and of one with the longest wait: the machine goes one by one.
 const MOST_WORKED: u64 = 40_000;
-const MOST_WORKED_RARELY: u64 = 1_000_000;
+const MOST_WORKED_RARELY: u64 = 1_000_000 + MOST_WORKED;
 
 /// More turns than any piece has been seen to go behind its last line.
 const MOST_TURNS: u64 = 3 * MOST_SILENT;
 
+const LONGEST_WAIT: &str = "a wait of 1,000,000 clocks";
+
 /// What can be damaged, and how often it must come up in 10,000 players.
-const DAMAGE: [(&str, u64); 13] = [
+const DAMAGE: [(&str, u64); 15] = [
     ("nothing", 300),
     ("the place", 1000),
     ("a place in mid-line", 300),
@@ -31,6 +33,8 @@ const DAMAGE: [(&str, u64); 13] = [
     ("the turns left", 1000),
     ("the time", 500),
     ("the wait", 500),
+    (LONGEST_WAIT, 20),
+    ("a wait up to the latest time", 100),
     ("the phase", 500),
     ("the last level", 500),
     ("the log", 500),
@@ -117,16 +121,25 @@ fn damaged(random: &mut Random, bytes: &mut [u8], log: &mut Vec<u8>) -> &'static
         }
         27..=29 => {
             let any = random.bits();
+            let wait = layout::WAIT.get(bytes).clamp(1, MOST_CLOCKS);
+            if random.one_in(4) {
+                // A wait that ends at the latest time, or one clock behind it.
+                layout::WAIT.put(bytes, wait);
+                layout::TIME.put(bytes, 2_000_000_000 - wait + random.within(0..=1));
+                return "a wait up to the latest time";
+            }
             let near = 2_000_000_000 + random.within(0..=2000) - 1000;
-            layout::TIME
-                .put(bytes, random.pick(&[any, any % 1_000_000_000, near, 2_000_000_000, 2_000_000_001, 0, u64::MAX]));
+            let times = [any, any % 1_000_000_000, near, 2_000_000_000, 2_000_000_001, 0, u64::MAX];
+            layout::TIME.put(bytes, random.pick(&times));
             return "the time";
         }
         30..=32 => {
-            let few = random.within(0..=2000);
-            let most = if random.one_in(8) { MOST_CLOCKS } else { few };
-            let any = random.bits();
-            layout::WAIT.put(bytes, random.pick(&[0, 1, few, few, few, most, MOST_CLOCKS + 1, u64::MAX, any]));
+            if random.one_in(20) {
+                layout::WAIT.put(bytes, MOST_CLOCKS);
+                return LONGEST_WAIT;
+            }
+            let (few, any) = (random.within(0..=2000), random.bits());
+            layout::WAIT.put(bytes, random.pick(&[0, 1, few, few, few, MOST_CLOCKS + 1, u64::MAX, any]));
             return "the wait";
         }
         33..=35 => {
@@ -341,6 +354,7 @@ fn judge(
         let most = random.pick(&[30, 30, 100, 400]);
         raw::play_on(&mut bytes, log, memory, &mut vec![0; random.within(0..=most) as usize]);
     }
+    let mut worked = MOST_WORKED;
     if spins {
         *log = spinning();
         layout::CURSOR.of_mut(&mut bytes).fill(0);
@@ -348,9 +362,12 @@ fn judge(
         layout::PHASE.put(&mut bytes, 2);
     }
     for _ in 0..if spins { 0 } else { random.pick(&[1, 1, 2, 3, 4]) } {
-        counts.add(damaged(random, &mut bytes, log));
+        let what = damaged(random, &mut bytes, log);
+        counts.add(what);
+        if what == LONGEST_WAIT {
+            worked = MOST_WORKED_RARELY;
+        }
     }
-    let worked = if random.one_in(64) { MOST_WORKED_RARELY } else { MOST_WORKED };
     for _ in 0..random.within(1..=4) {
         let size = if random.one_in(4) { random.within(0..=22) } else { random.within(23..=200) };
         let memory = if random.one_in(100) { &memory[..random.pick(&[0, 1, MEMORY - 1])] } else { memory };
