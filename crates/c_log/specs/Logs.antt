@@ -1,4 +1,4 @@
--- Logs at the boundary: the check, item k and a loop's body, each answer in one number. A refusal has its place, and value 0.
+-- Logs at the boundary: the check, the totals, item k and a loop's body, each answer in one number. A refusal has its place, and value 0.
 use Prim.Native.Nat.{ℕ, _+_, _*_, _^_}
 use mathlib.Core.List.{List}
 use lib.ListN.{length}
@@ -22,6 +22,13 @@ logPacked number place value = number + 2 ^ 8 * place + 2 ^ 32 * value
 -- the check: its value is the clocks in all
 abbrev pub checkPacked : List ℕ → ℕ
 checkPacked log = logPacked (checkOf log .number) (checkOf log .place) (checkOf log .clocks)
+
+-- the same with the turns in all, and with the items in all: the waits, writes and reads that the log stands for
+abbrev pub turnsPacked : List ℕ → ℕ
+turnsPacked log = logPacked (checkOf log .number) (checkOf log .place) (checkOf log .turns)
+
+abbrev pub itemsPacked : List ℕ → ℕ
+itemsPacked log = logPacked (checkOf log .number) (checkOf log .place) (checkOf log .items)
 
 -- "kind x 2^24 + what it holds": 1, a wait and its clocks; 2, a write, its register and its value; 3, a read
 abbrev pub accessValue : Access → ℕ

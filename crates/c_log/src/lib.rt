@@ -1,20 +1,19 @@
 // What is asked of a log, each answer in one 64-bit number: whether it passes, its items, and the bodies of its loops.
 ghost use mathlib.Core.Path.{_≡_};
-ghost use Prim.Native.Nat.{_^_, _≤_, _<_};
+ghost use Prim.Native.Nat.{_^_, _%_, _≤_, _<_};
 ghost use Rattle.log_judge.specs.Tree.{actClocks};
 ghost use Rattle.log_parts.specs.Bodies.{bodyCheckOf};
-ghost use Rattle.c_log.specs.Logs.{logPacked, checkPacked, accessValue, actValue, itemPacked, bodyValue, bodyPacked};
+ghost use Rattle.c_log.specs.Logs.{logPacked, checkPacked, turnsPacked, itemsPacked, accessValue, actValue, itemPacked, bodyValue, bodyPacked};
 use bus::Access;
 use log_judge::Reading;
 use log_line::Act;
 use log_parts::Found;
 
-// An answer about a log in one number.
-fn pack_log(number: u8, place: usize, value: u64) -> u64
-    requires { ⌜ (place ≤ 60000) × (value < 2 ^ 32) ⌝ }
-    ensures { λ r. ⌜ r ≡ logPacked number place value ⌝ }
+// An answer about a log in one number. Of the place it has 24 bits; a log's places have 16.
+pub fn pack(number: u8, place: usize, value: u32) -> u64
+    ensures { λ r. ⌜ r ≡ logPacked number (place % 2 ^ 24) value ⌝ }
 {
-    number as u64 + 256 * place as u64 + 4294967296 * value
+    number as u64 + 256 * (place % 16777216) as u64 + 4294967296 * value as u64
 }
 
 // Checks a log; the value is its clocks in all. Refused: 4 to 10.
@@ -22,7 +21,23 @@ pub fn check(log: &[u8]) -> u64
     ensures { λ r. ⌜ r ≡ checkPacked (now (log .entry)) ⌝ }
 {
     let c = log_check::check(log);
-    pack_log(c.number, c.place, c.clocks)
+    pack(c.number, c.place, c.clocks as u32)
+}
+
+// The same; the value is its turns in all.
+pub fn turns(log: &[u8]) -> u64
+    ensures { λ r. ⌜ r ≡ turnsPacked (now (log .entry)) ⌝ }
+{
+    let c = log_check::check(log);
+    pack(c.number, c.place, c.turns as u32)
+}
+
+// The same; the value is its items in all.
+pub fn items(log: &[u8]) -> u64
+    ensures { λ r. ⌜ r ≡ itemsPacked (now (log .entry)) ⌝ }
+{
+    let c = log_check::check(log);
+    pack(c.number, c.place, c.items as u32)
 }
 
 fn access_value(x: Access) -> u64
@@ -34,10 +49,9 @@ fn access_value(x: Access) -> u64
     }
 }
 
-// An act in one number: its kind, and what it holds.
-fn act_value(a: Act) -> u64
-    requires { ⌜ actClocks a ≤ 1000000 ⌝ }
-    ensures { λ r. ⌜ (r ≡ actValue a) × (r < 2 ^ 32) ⌝ }
+// An act in one number: its kind, and what it holds. 32 bits have that of a log's acts.
+pub fn act_value(a: Act) -> u64
+    ensures { λ r. ⌜ (r ≡ actValue a) × (actClocks a ≤ 1000000 → r < 2 ^ 32) ⌝ }
 {
     match a {
         Act::Wait(n) => 16777216 + n as u64,
@@ -51,8 +65,8 @@ pub fn item(log: &[u8], k: u64) -> u64
 {
     let f = log_parts::item(log, k);
     match f {
-        Found::Is(a) => pack_log(0, 0, act_value(a)),
-        Found::Refused(number, place) => pack_log(number, place, 0),
+        Found::Is(a) => pack(0, 0, act_value(a) as u32),
+        Found::Refused(number, place) => pack(number, place, 0),
     }
 }
 
@@ -79,5 +93,5 @@ pub fn body(log: &[u8], offset: u64) -> u64
     let at = offset as usize;
     let a = log_parts::body_check(log, at);
     let value = body_value(log, at, a.number);
-    pack_log(a.number, a.place, value)
+    pack(a.number, a.place, value as u32)
 }

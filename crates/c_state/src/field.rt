@@ -16,7 +16,7 @@ pub(crate) fn flag_at(b: &[u8], i: usize) -> bool
 }
 
 // The byte k places after `at`.
-pub(crate) fn byte_after(b: &[u8], at: usize, k: usize) -> u8
+pub fn byte_after(b: &[u8], at: usize, k: usize) -> u8
     ensures { λ r. ⌜ r ≡ byteOf (now (b .entry)) (at + k) ⌝ }
 {
     if b.len() <= at {

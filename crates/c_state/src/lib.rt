@@ -4,7 +4,7 @@ ghost use lib.ListN.{getD};
 ghost use Rattle.c_state.specs.Bytes.{flagPlaces, flagsRight, isState, stateOf};
 ghost use Rattle.c_state.specs.Encoded.{encoded};
 
-mod field;
+pub mod field;
 mod reader;
 mod writer;
 

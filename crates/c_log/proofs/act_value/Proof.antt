@@ -1,3 +1,4 @@
+use mathlib.Core.Path.{refl}
 use native.Mathlib.Omega.{arith}
 use borrow.Author.Needs.{needs}
 use Rattle.log_judge.specs.Tree.{actClocks}
@@ -6,12 +7,10 @@ use Rattle.c_log.proofs.act_value.Tie as tie
 
 returns : tie.Need-returns
 unfolding actClocks
-returns c =
-    let h = rw (c .before .a .given .1) at (c .before .before .before .pre) in
-    (rw (c .before .a .given .1), omega arith)
+returns c = rw (c .before .a .given .1) (refl, λ h. omega arith)
 
 returns-2 : tie.Need-returns-2
-returns-2 c = (rw (c .before .before .a2 .given .1) (c .access-value .ensures .0), c .access-value .ensures .1)
+returns-2 c = (rw (c .before .before .a2 .given .1) (c .access-value .ensures .0), λ h. c .access-value .ensures .1)
 
 pub act-value-spec : {M : Type 1} → statement M
 act-value-spec =

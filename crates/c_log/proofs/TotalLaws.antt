@@ -1,0 +1,56 @@
+-- What is answered about a whole log fits its bits. Assumes nothing.
+use Prim.Native.Nat.{ℕ, _%_, _^_, _≤_, _<_}
+use mathlib.Core.Path.{_≡_, refl}
+use mathlib.Core.Bool.{Bool, true, false}
+use mathlib.Core.List.{List}
+use native.Mathlib.Omega.{arith}
+use borrow.Author.Tests.{ltb-false}
+use lib.ListN.{length}
+use lib.Dec.{eqb, ltb}
+use Rattle.arith.specs.Pick.{pick, either}
+use Rattle.arith.proofs.PickLaws.{pick-both, pick-each}
+use Rattle.log_judge.specs.declared.Checked.{Checked}
+use Rattle.log_judge.specs.Judge.{Verdict, right, wrong, judged}
+use Rattle.log_judge.specs.Tree.{Tree, clocks, turns, acts}
+use Rattle.log_judge.specs.Whole.{treeOf, Stopping, stopOf, refusal, passed, heavy, weighed, unlessWrong, checkOf}
+use Rattle.log_judge.proofs.CheckLaws.{acts-le}
+
+-- a place in a log has 24 bits
+pub place-is : (place : ℕ) → place ≤ 60000 → place % 2 ^ 24 ≡ place
+place-is place h = omega arith
+
+-- turns and items are a log's that passes, or 0
+pub record Counted (c : Checked) : Type 0 where
+  pub turns : c .turns ≤ 1000000
+  pub items : c .items ≤ 1000000
+
+none : (k p : ℕ) → Counted (refusal k p)
+none k p = record { turns = omega arith; items = omega arith }
+
+light : (t : Tree) → heavy t ≡ false → turns t ≤ 1000000
+unfolding heavy
+light t h = go (ltb 2000000000 (clocks t)) h
+  where
+    go : (b : Bool) → either b (ltb 1000000 (turns t)) ≡ false → turns t ≤ 1000000
+    go true f = absurd (let z : _≡_ {A = ℕ} 0 1 = cc in omega arith)
+    go false f = ltb-false 1000000 (turns t) f
+
+weighed-counted : (t : Tree) (s : Stopping) → Counted (weighed t s)
+unfolding weighed
+weighed-counted t s =
+    pick-each Counted (heavy t) (λ e. none 9 (s .place))
+    (λ e.
+    let l = light t e in
+    let a = acts-le t in
+    pick-both Counted (eqb (s .number) (clocks t)) (record { turns = l; items = omega arith }) (none 10 (s .place)))
+
+unless-counted : (v : Verdict) (c : Checked) → Counted c → Counted (unlessWrong v c)
+unfolding unlessWrong
+unless-counted right c h = h
+unless-counted (wrong k p) c h = none k p
+
+pub counted : (log : List ℕ) → Counted (checkOf log)
+unfolding checkOf
+counted log =
+    pick-each Counted (ltb 60000 (length log)) (λ e. none 5 0)
+    (λ e. unless-counted (judged log) (weighed (treeOf log) (stopOf log)) (weighed-counted (treeOf log) (stopOf log)))
