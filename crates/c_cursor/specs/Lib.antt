@@ -1,3 +1,4 @@
 pub mod Numbers
 pub mod Cursors
 pub mod Next
+pub mod Limits

@@ -1,17 +1,19 @@
 -- The operations on a cursor's bytes: at a log's beginning, and the next item.
 use Prim.Native.Nat.{ℕ, zero, suc, _+_, _*_, _^_}
+use mathlib.Core.Bool.{Bool, true, false}
 use mathlib.Core.List.{List}
 use lib.ListN.{length}
 use lib.Dec.{eqb}
 use Rattle.arith.specs.Pick.{pick}
 use Rattle.machine.specs.Saying.{Said, over, on, says, refused, Turn}
-use Rattle.log_line.specs.declared.Act.{Act}
 use Rattle.log_cursor.specs.declared.Cursor.{Cursor}
-use Rattle.log_cursor.specs.Stepping.{Go, stepOf, beginning}
+use Rattle.log_cursor.specs.declared.Found.{Found}
+use Rattle.log_cursor.specs.declared.Stepped.{Stepped}
+use Rattle.log_cursor.specs.Stepping.{stepped, stepOf, beginning}
 use Rattle.c_log.specs.Logs.{logPacked, actValue}
 use Rattle.c_cursor.specs.Cursors.{cursorSize, cursorBytes, cursorOf, cursorEncoded}
 
--- AT THE BEGINNING: 2 for another length
+-- AT THE BEGINNING: any bytes of a cursor's length, whatever they held; 2 for another length
 abbrev pub startPacked : List ℕ → ℕ
 startPacked b = pick (eqb (length b) cursorSize) 0 2
 
@@ -20,47 +22,47 @@ startBytes b = cursorEncoded beginning b
 
 -- THE NEXT ITEM
 
--- goes on where a step said nothing
-unfoldable pub silent : {A B : Type 0} → Said A → B → B → B
-silent over here further = here
-silent on here further = further
-silent (says a) here further = here
-silent (refused k p) here further = here
+-- a step that said something ends a search
+unfoldable pub ended : {A B : Type 0} → Said A → B → B → B
+ended over here further = here
+ended on here further = further
+ended (says a) here further = here
+ended (refused k p) here further = here
 
 -- steps up to the first that says something, at most f of them
 unfoldable pub nextIn : {S A : Type 0} → (S → Turn S A) → ℕ → S → Turn S A
 nextIn step zero s = record { said = on; state = s }
-nextIn step (suc f) s = silent (step s .said) (step s) (nextIn step f (step s .state))
+nextIn step (suc f) s = ended (step s .said) (step s) (nextIn step f (step s .state))
 
--- from a cursor on: a log that passes has no more steps between two items, nor in all
-unfoldable pub nextOf : List ℕ → Cursor → Go
-nextOf log c = nextIn (stepOf log) 2000002 c
+-- from a cursor on; a log that passes has no more steps in all
+unfoldable pub nextOf : List ℕ → Cursor → Stepped
+nextOf log c = stepped (nextIn (stepOf log) 2000002 c)
 
--- "kind x 2^24 + what it holds", as an item's; 0, the log's end; 4, the cursor moved and came to no item yet
-abbrev pub saidPacked : Said Act → ℕ
-saidPacked over = logPacked 0 0 0
-saidPacked on = logPacked 0 0 (4 * 2 ^ 24)
-saidPacked (says a) = logPacked 0 0 (actValue a)
-saidPacked (refused k p) = logPacked k p 0
+-- "kind x 2^24 + what it holds", as an item's; kind 0, the log's end; kind 4, the cursor has moved and came to no item yet
+abbrev pub foundPacked : Found → ℕ
+foundPacked (Found.Act a) = logPacked 0 0 (actValue a)
+foundPacked Found.End = logPacked 0 0 0
+foundPacked Found.Moved = logPacked 0 0 (4 * 2 ^ 24)
+foundPacked (Found.Refused k p) = logPacked k p 0
 
--- the bytes afterwards: the cursor's where it came to; refused, as they were
-abbrev pub unlessRefused : Said Act → List ℕ → List ℕ → List ℕ
-unlessRefused over new old = new
-unlessRefused on new old = new
-unlessRefused (says a) new old = new
-unlessRefused (refused k p) new old = old
+abbrev pub isRefused : Found → Bool
+isRefused (Found.Act a) = false
+isRefused Found.End = false
+isRefused Found.Moved = false
+isRefused (Found.Refused k p) = true
 
 -- 2 for another length; then the number and the place of the line that the cursor comes to
 unfoldable pub nextPacked : List ℕ → List ℕ → ℕ
-nextPacked log b = pick (eqb (length b) cursorSize) (saidPacked (nextOf log (cursorOf b) .said)) 2
+nextPacked log b = pick (eqb (length b) cursorSize) (foundPacked (nextOf log (cursorOf b) .found)) 2
+
+-- the bytes afterwards: the cursor's where it came to; refused, as they were
+abbrev pub moved : Stepped → List ℕ → List ℕ
+moved s b = pick (isRefused (s .found)) b (cursorBytes (s .cursor))
 
 unfoldable pub nextBytes : List ℕ → List ℕ → List ℕ
-nextBytes log b =
-    pick (eqb (length b) cursorSize)
-    (unlessRefused (nextOf log (cursorOf b) .said) (cursorBytes (nextOf log (cursorOf b) .state)) b)
-    b
+nextBytes log b = pick (eqb (length b) cursorSize) (moved (nextOf log (cursorOf b)) b) b
 
--- CALLS: the bytes b behind a start and k calls of the next item, each with the bytes as the one before left them
+-- CALLS: the bytes b behind a start and k calls for the next item, each with the bytes as the one before left them
 unfoldable pub called : List ℕ → ℕ → List ℕ → List ℕ
 called log zero b = startBytes b
 called log (suc k) b = nextBytes log (called log k b)

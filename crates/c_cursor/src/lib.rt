@@ -1,17 +1,16 @@
 // A cursor over a log as 88 bytes, for callers in other languages: its fields in their order, low byte first. Any 88 bytes are a cursor.
 ghost use mathlib.Core.Path.{_≡_};
-ghost use Rattle.log_cursor.specs.Stepping.{stepped, told};
+ghost use Rattle.arith.specs.Pick.{pick};
 ghost use Rattle.c_cursor.specs.Cursors.{cursorSize, cursorOf, cursorEncoded};
-ghost use Rattle.c_cursor.specs.Next.{startPacked, startBytes, nextOf, nextPacked, nextBytes};
+ghost use Rattle.c_cursor.specs.Next.{startPacked, startBytes, isRefused, nextPacked, nextBytes};
 
-pub mod number;
 mod found;
+pub mod number;
 mod reader;
 mod writer;
 
 use log_cursor::Cursor;
 use log_cursor::Found;
-use log_cursor::Stepped;
 
 // How many bytes a cursor is.
 pub fn size() -> usize
@@ -47,4 +46,42 @@ pub fn encode(c: Cursor, b: &mut [u8])
         number::put_wide(b, 8, 8, c.depth as u64);
         writer::put_loops(&starts, &left, b);
     }
+}
+
+// Makes the bytes a cursor at a log's beginning, whatever they held. Refused: 2, for another length.
+pub fn start(cursor: &mut [u8]) -> u64
+    ensures { λ r. ⌜ r ≡ startPacked (now (cursor .entry)) ⌝ }
+    ensures { λ r. ⌜ now (cursor .exit) ≡ startBytes (now (cursor .entry)) ⌝ }
+{
+    if cursor.len() == 88 {
+        encode(log_cursor::start(), cursor);
+        return 0;
+    }
+    2
+}
+
+// The cursor written to the bytes, unless what was found is a refusal.
+fn store(f: Found, c: Cursor, b: &mut [u8])
+    ensures { λ r. ⌜ now (b .exit) ≡ pick (isRefused f) (now (b .entry)) (cursorEncoded c (now (b .entry))) ⌝ }
+{
+    if found::is_refused(f) {
+        return;
+    }
+    encode(c, b);
+}
+
+// The next item of a log, its value the act's, and the cursor moved behind it; value 0 at the log's end; 4 x 2^24 where 2,000,002 steps
+// came to no item. Refused: 2, for another length; then as the line that the cursor comes to, with its place in the log.
+pub fn next(cursor: &mut [u8], log: &[u8]) -> u64
+    ensures { λ r. ⌜ r ≡ nextPacked (now (log .entry)) (now (cursor .entry)) ⌝ }
+    ensures { λ r. ⌜ now (cursor .exit) ≡ nextBytes (now (log .entry)) (now (cursor .entry)) ⌝ }
+{
+    if cursor.len() != 88 {
+        return 2;
+    }
+    let s = found::find(log, decode(cursor));
+    let f = s.found;
+    let c = s.cursor;
+    store(f, c, cursor);
+    found::pack(f)
 }

@@ -1,10 +1,13 @@
 -- The loop's invariant: what is left to be stored makes the whole.
 use Prim.Native.Nat.{_+_, _-_, _≤_}
-use mathlib.Core.Path.{_≡_, refl, sym, _∙_}
+use mathlib.Core.Path.{_≡_, refl, sym, ap, _∙_}
+use mathlib.Core.List.{List}
 use native.Mathlib.Nat.{add-zero, sub-zero}
 use native.Mathlib.Omega.{arith}
-use lib.ListN.{length, length-set}
+use lib.ListN.{length}
 use lib.Seq.{sets}
+use Prim.Native.Nat.{ℕ}
+use Rattle.c_state.specs.Bytes.{high}
 use Rattle.c_cursor.specs.Numbers.{wideBytes}
 use Rattle.c_cursor.proofs.WideLaws.{wide-step, wide-done}
 use Rattle.c_cursor.proofs.number.put_wide.Statement.{statement}
@@ -20,12 +23,6 @@ abbrev μ-loop : tie.MeasureT-loop
 loop-holds : tie.Need-loop-holds Inv-loop μ-loop
 loop-holds c = (omega arith, refl, rw (add-zero, sub-zero))
 
-add-b : tie.Need-add-b Inv-loop μ-loop
-add-b c = omega arith
-
-slice-write-b : tie.Need-slice-write-b Inv-loop μ-loop
-slice-write-b c = omega arith
-
 add-i : tie.Need-add-i Inv-loop μ-loop
 add-i c = omega arith
 
@@ -34,9 +31,15 @@ loop-less c = omega arith
 
 loop-again : tie.Need-loop-again Inv-loop μ-loop
 loop-again c =
-    let l = c .before .before .loop in
-    let a = c .before .before .before .before .args in
-    (omega arith, length-set (l .b) _ _ ∙ l .inv .1, wide-step (l .b) (a .at) (l .i) (a .n) (l .rest) _ (c .before .loop-test .taken) (c .low-byte .ensures) ∙ l .inv .2)
+    let l = c .before .before .before .before .before .before .loop in
+    let a = c .before .before .before .before .before .before .before .before .args in
+    let less = c .before .before .before .before .before .loop-test .taken in (
+      omega arith,
+      c .before .b .given ∙ l .inv .1,
+      ap (λ (b : List ℕ). sets b (a .at + (l .i + 1)) (wideBytes (a .n - (l .i + 1)) (high (l .rest)))) (c .before .before .put-after .ensures)
+          ∙ wide-step (l .b) (a .at) (l .i) (a .n) (l .rest) _ less (c .before .before .before .low-byte .ensures)
+          ∙ l .inv .2,
+    )
 
 same-length : tie.Need-same-length Inv-loop μ-loop
 same-length c = c .before .loop .inv .1
@@ -50,4 +53,4 @@ returns c =
 pub put-wide-spec : {M : Type 1} → statement M
 put-wide-spec =
     tie.close
-    (tie.spec Inv-loop μ-loop loop-holds (λ c κs. tt) add-b slice-write-b add-i loop-less loop-again same-length returns)
+    (tie.spec Inv-loop μ-loop loop-holds (λ c κs. tt) (λ c κs. tt) add-i loop-less loop-again same-length returns)

@@ -24,9 +24,6 @@ loop-holds c =
 sub-i : tie.Need-sub-i Inv-loop μ-loop
 sub-i c = omega arith
 
-add-byte-at : tie.Need-add-byte-at Inv-loop μ-loop
-add-byte-at c = omega arith
-
 -- a number of at most seven bytes, and another byte
 fits-more : tie.Need-add-r Inv-loop μ-loop
 fits-more c =
@@ -50,7 +47,7 @@ loop-again c =
     let more : a .n - (l .i - 1) ≡ suc (a .n - l .i) = omega arith in
     let w = c .wide .ensures in (
       omega arith,
-      ap (λ (x : ℕ). x + 256 * l .r) (w .0 ∙ c .before .byte-at .ensures)
+      ap (λ (x : ℕ). x + 256 * l .r) (w .0 ∙ c .before .byte-after .ensures)
           ∙ ap (λ (r : ℕ). byteOf (a .b .now) (a .at + (l .i - 1)) + 256 * r) (l .inv .1)
           ∙ wide-more (a .b .now) (a .at) (l .i) (a .n) (c .before .before .loop-test .taken) (l .inv .0),
       rw more (room-more _ _ (a .n - l .i) (w .1) (l .inv .2)),
@@ -66,4 +63,4 @@ returns c =
 pub wide-at-spec : {M : Type 1} → statement M
 wide-at-spec =
     tie.close
-    (tie.spec Inv-loop μ-loop loop-holds sub-i add-byte-at (λ c κs. tt) (λ c κs. tt) mul-r add-r loop-less loop-again returns)
+    (tie.spec Inv-loop μ-loop loop-holds sub-i (λ c κs. tt) (λ c κs. tt) mul-r add-r loop-less loop-again returns)

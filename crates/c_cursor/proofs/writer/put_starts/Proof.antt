@@ -32,11 +32,6 @@ mul-put-wide-2 c = omega arith
 shared-slice-read-put-wide : tie.Need-shared-slice-read-put-wide Inv-loop μ-loop
 shared-slice-read-put-wide c = omega arith
 
-put-wide-requires : tie.Need-put-wide-requires Inv-loop μ-loop
-put-wide-requires c κs =
-    let l = c .before .before .before .loop in
-    omega (arith, l .inv .0, l .inv .1)
-
 add-k : tie.Need-add-k Inv-loop μ-loop
 add-k c = let l = c .before .before .before .before .before .before .loop in omega (arith, l .inv .0)
 
@@ -65,4 +60,4 @@ returns c =
 pub put-starts-spec : {M : Type 1} → statement M
 put-starts-spec =
     tie.close
-    (tie.spec Inv-loop μ-loop loop-holds mul-put-wide add-put-wide mul-put-wide-2 shared-slice-read-put-wide put-wide-requires add-k loop-less loop-again same-length returns)
+    (tie.spec Inv-loop μ-loop loop-holds mul-put-wide add-put-wide mul-put-wide-2 shared-slice-read-put-wide (λ c κs. tt) add-k loop-less loop-again same-length returns)
