@@ -13,10 +13,12 @@ use log_cursor::Cursor;
 use log_cursor::Found;
 
 // How many bytes a cursor is.
+pub const SIZE: usize = 88;
+
 pub fn size() -> usize
     ensures { λ r. ⌜ r ≡ cursorSize ⌝ }
 {
-    88
+    SIZE
 }
 
 // The cursor that bytes stand for.
@@ -35,11 +37,11 @@ pub fn decode(b: &[u8]) -> Cursor
     }
 }
 
-// Writes a cursor to bytes. Other than 88 bytes stay as they are.
+// Writes a cursor to bytes. Other than so many bytes stay as they are.
 pub fn encode(c: Cursor, b: &mut [u8])
     ensures { λ r. ⌜ now (b .exit) ≡ cursorEncoded c (now (b .entry)) ⌝ }
 {
-    if b.len() == 88 {
+    if b.len() == SIZE {
         let starts = c.starts;
         let left = c.left;
         number::put_wide(b, 0, 8, c.at as u64);
@@ -53,7 +55,7 @@ pub fn start(cursor: &mut [u8]) -> u64
     ensures { λ r. ⌜ r ≡ startPacked (now (cursor .entry)) ⌝ }
     ensures { λ r. ⌜ now (cursor .exit) ≡ startBytes (now (cursor .entry)) ⌝ }
 {
-    if cursor.len() == 88 {
+    if cursor.len() == SIZE {
         encode(log_cursor::start(), cursor);
         return 0;
     }
@@ -76,7 +78,7 @@ pub fn next(cursor: &mut [u8], log: &[u8]) -> u64
     ensures { λ r. ⌜ r ≡ nextPacked (now (log .entry)) (now (cursor .entry)) ⌝ }
     ensures { λ r. ⌜ now (cursor .exit) ≡ nextBytes (now (log .entry)) (now (cursor .entry)) ⌝ }
 {
-    if cursor.len() != 88 {
+    if cursor.len() != SIZE {
         return 2;
     }
     let s = found::find(log, decode(cursor));

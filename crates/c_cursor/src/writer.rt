@@ -5,6 +5,7 @@ ghost use Prim.Native.Nat.{_+_, _*_, _≤_};
 ghost use lib.ListN.{length};
 ghost use lib.Seq.{sets};
 ghost use Rattle.c_cursor.specs.Numbers.{widesBytes};
+ghost use Rattle.c_cursor.specs.Cursors.{cursorSize};
 use super::number;
 
 // The starts of loops, eight bytes each, from `at` on.
@@ -33,7 +34,7 @@ fn put_left(b: &mut [u8], at: usize, left: &[u8])
 
 // The open loops.
 pub(crate) fn put_loops(starts: &[usize; 8], left: &[u8; 8], b: &mut [u8])
-    requires { ⌜ length (now b) ≡ 88 ⌝ }
+    requires { ⌜ length (now b) ≡ cursorSize ⌝ }
     ensures { λ r. ⌜ now (b .exit) ≡ sets (now (b .entry)) 16 (widesBytes 8 (now (starts .entry)) ++ widesBytes 1 (now (left .entry))) ⌝ }
     ensures { λ r. ⌜ (length (now (starts .entry)) ≡ 8) × (length (now (left .entry)) ≡ 8) ⌝ }
 {

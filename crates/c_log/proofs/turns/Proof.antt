@@ -6,7 +6,9 @@ use Rattle.c_log.proofs.turns.Statement.{statement}
 use Rattle.c_log.proofs.turns.Tie as tie
 
 cast-pack : tie.Need-cast-pack
-cast-pack c = rw (c .before .check .ensures) (omega (arith, counted (now (c .before .before .before .args .log)) .turns))
+cast-pack c =
+    let h = counted (now (c .before .before .before .args .log)) in
+    rw (c .before .check .ensures) (omega (arith, h .turns, h .items))
 
 returns : tie.Need-returns
 returns c =
