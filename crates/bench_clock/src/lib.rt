@@ -19,7 +19,7 @@ fn work(s: State, memory: &[u8], n: u64) -> State
     state
 }
 
-// Works n clocks on the state that the bytes stand for, whatever they are. Other than 91 bytes stay as they are.
+// Works n clocks on the state that the bytes stand for, whatever they are. Other bytes than a state's stay as they are.
 #[no_mangle]
 pub extern "C" fn pace_clocks(state: &mut [u8], memory: &[u8], n: u64)
     ensures { λ r. ⌜ now (state .exit) ≡ encoded (iterate (chipClock (now (memory .entry))) n (stateOf (now (state .entry)))) (now (state .entry)) ⌝ }

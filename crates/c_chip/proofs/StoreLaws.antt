@@ -1,4 +1,4 @@
--- The bytes after an answer: only a state's 91 bytes are written over. Assumes nothing.
+-- The bytes after an answer: only bytes of a state's length are written over. Assumes nothing.
 use mathlib.Core.Path.{_≡_, refl}
 use mathlib.Core.Bool.{Bool, true, false}
 use mathlib.Core.List.{List}
@@ -9,7 +9,7 @@ use borrow.Author.Tests.{eq-eqb, eqb-true}
 use Rattle.arith.specs.Pick.{pick, both}
 use Rattle.arith.proofs.PickLaws.{both-left}
 use Rattle.chip.specs.declared.State.{State}
-use Rattle.c_state.specs.Bytes.{stateBytes, flagPlaces, flagsRight, isState}
+use Rattle.c_state.specs.Bytes.{stateSize, stateBytes, flagPlaces, flagsRight, isState}
 use Rattle.c_state.specs.Encoded.{encoded}
 use Rattle.c_chip.specs.Boundary.{bytesAfter, powerNumber}
 
@@ -18,14 +18,14 @@ pub written-by : (t : Bool) (x y b : List ℕ) → (t ≡ true → x ≡ y) → 
 written-by true x y b h = h refl
 written-by false x y b h = refl
 
-stored-by : (t : Bool) (b : List ℕ) (s : State) → (t ≡ true → length b ≡ 91) → pick t (encoded s b) b ≡ pick t (stateBytes s) b
+stored-by : (t : Bool) (b : List ℕ) (s : State) → (t ≡ true → length b ≡ stateSize) → pick t (encoded s b) b ≡ pick t (stateBytes s) b
 unfolding encoded
-stored-by t b s h = written-by t (encoded s b) (stateBytes s) b (λ e. rw (eq-eqb (length b) 91 (h e)))
+stored-by t b s h = written-by t (encoded s b) (stateBytes s) b (λ e. rw (eq-eqb (length b) stateSize (h e)))
 
--- a state is 91 bytes
-state-long : (b : List ℕ) → isState b ≡ true → length b ≡ 91
+-- a state has its length
+state-long : (b : List ℕ) → isState b ≡ true → length b ≡ stateSize
 unfolding isState
-state-long b e = eqb-true (length b) 91 (both-left (eqb (length b) 91) (flagsRight b flagPlaces) e)
+state-long b e = eqb-true (length b) stateSize (both-left (eqb (length b) stateSize) (flagsRight b flagPlaces) e)
 
 -- what is done is not the refusal
 done-only : {A : Type 0} (number : A → ℕ) (t : Bool) (x y : A) → eqb (number y) 0 ≡ false → eqb (number (pick t x y)) 0 ≡ true → t ≡ true
@@ -45,7 +45,7 @@ power-done true e = refl
 power-done false e = e
 
 pub stored-on : (b : List ℕ) (s : State) → pick (eqb (powerNumber b) 0) (encoded s b) b ≡ bytesAfter (powerNumber b) s b
-stored-on b s = stored-by (eqb (powerNumber b) 0) b s (λ e. eqb-true (length b) 91 (power-done (eqb (length b) 91) e))
+stored-on b s = stored-by (eqb (powerNumber b) 0) b s (λ e. eqb-true (length b) stateSize (power-done (eqb (length b) stateSize) e))
 
 -- without a state the number is a refusal's
 pub no-state-refused : (t : Bool) → eqb (pick t 2 1) 0 ≡ false

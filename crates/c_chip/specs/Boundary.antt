@@ -1,4 +1,4 @@
--- What C and Rust get: for any bytes, the answer of the operation on the state that they stand for. "A state crosses as 91 bytes"; bytes that are
+-- What C and Rust get: for any bytes, the answer of the operation on the state that they stand for. A state crosses as bytes (crate `c_state`); bytes that are
 -- no state's are a state out of range, refused with 2. Where it is refused the bytes stay.
 use Prim.Native.Nat.{ℕ, _+_, _*_}
 use mathlib.Core.Bool.{Bool, false}
@@ -13,7 +13,7 @@ use Rattle.chip_api.specs.declared.Moved.{Moved}
 use Rattle.chip_api.specs.declared.Status.{Status}
 use Rattle.chip_api.specs.declared.Asserted.{Asserted}
 use Rattle.chip_api.specs.declared.Mixed.{Mixed}
-use Rattle.c_state.specs.Bytes.{stateOf, stateBytes, isState}
+use Rattle.c_state.specs.Bytes.{stateSize, flagByte, stateOf, stateBytes, isState}
 
 -- "number + 256 x value"
 abbrev pub packed : ℕ → ℕ → ℕ
@@ -23,9 +23,12 @@ packed number value = number + 256 * value
 abbrev pub bytesAfter : ℕ → State → List ℕ → List ℕ
 bytesAfter number s b = pick (eqb number 0) (stateBytes s) b
 
--- power-on writes any 91 bytes, whatever they held: 2 for another length
+-- power-on writes any bytes of a state's length, whatever they held: 2 for another length
 abbrev pub powerNumber : List ℕ → ℕ
-powerNumber b = pick (eqb (length b) 91) 0 2
+powerNumber b = pick (eqb (length b) stateSize) 0 2
+
+abbrev pub powerPacked : List ℕ → ℕ
+powerPacked b = packed (powerNumber b) 0
 
 abbrev pub powerBytes : List ℕ → List ℕ
 powerBytes b = bytesAfter (powerNumber b) powerOn b
@@ -34,21 +37,42 @@ powerBytes b = bytesAfter (powerNumber b) powerOn b
 unfoldable pub bytesIn : List ℕ → Bool
 bytesIn b = both (isState b) (inRange (stateOf b))
 
+abbrev pub inRangePacked : List ℕ → ℕ
+inRangePacked b = packed 0 (flagByte (bytesIn b))
+
 -- a write: 2, then 4
 unfoldable pub writeFrom : ℕ → ℕ → List ℕ → Moved
 writeFrom register value b = pick (isState b) (writeAnswer register value (stateOf b)) (moved 2 (stateOf b))
+
+abbrev pub writePacked : ℕ → ℕ → List ℕ → ℕ
+writePacked register value b = packed (writeFrom register value b .number) 0
+
+abbrev pub writeBytes : ℕ → ℕ → List ℕ → List ℕ
+writeBytes register value b = bytesAfter (writeFrom register value b .number) (writeFrom register value b .state) b
 
 -- a status read: 2
 unfoldable pub statusFrom : List ℕ → Status
 statusFrom b = pick (isState b) (statusAnswer (stateOf b)) (record { number = 2; byte = 0; state = stateOf b })
 
+abbrev pub statusPacked : List ℕ → ℕ
+statusPacked b = packed (statusFrom b .number) (statusFrom b .byte)
+
+abbrev pub statusBytes : List ℕ → List ℕ
+statusBytes b = bytesAfter (statusFrom b .number) (statusFrom b .state) b
+
 -- the interrupt line: 2
 unfoldable pub lineFrom : List ℕ → Asserted
 lineFrom b = pick (isState b) (lineAnswer (stateOf b)) (record { number = 2; asserted = false })
 
+abbrev pub linePacked : List ℕ → ℕ
+linePacked b = packed (lineFrom b .number) (flagByte (lineFrom b .asserted))
+
 -- the level: 2
 unfoldable pub levelFrom : List ℕ → Mixed
 levelFrom b = pick (isState b) (levelAnswer (stateOf b)) (record { number = 2; level = 0 })
+
+abbrev pub levelPacked : List ℕ → ℕ
+levelPacked b = packed (levelFrom b .number) (levelFrom b .level)
 
 -- the number where sample memory is asked for and the bytes are no state's: "Lowest number first"
 abbrev pub noState : List ℕ → ℕ
@@ -57,3 +81,9 @@ noState memory = pick (isMemory memory) 2 1
 -- one clock: 1, then 2
 unfoldable pub clockFrom : List ℕ → List ℕ → Moved
 clockFrom memory b = pick (isState b) (clockAnswer memory (stateOf b)) (moved (noState memory) (stateOf b))
+
+abbrev pub clockPacked : List ℕ → List ℕ → ℕ
+clockPacked memory b = packed (clockFrom memory b .number) 0
+
+abbrev pub clockBytes : List ℕ → List ℕ → List ℕ
+clockBytes memory b = bytesAfter (clockFrom memory b .number) (clockFrom memory b .state) b

@@ -1,11 +1,10 @@
-// The chip's operations on a state that is 91 bytes lent in place (crate `c_state`). An answer is one 64-bit number: its number, and above
+// The chip's operations on a state that is bytes lent in place (crate `c_state`). An answer is one 64-bit number: its number, and above
 // its low byte its value. Bytes that are no state in range are refused, and stay.
 ghost use mathlib.Core.Path.{_≡_};
 ghost use lib.Dec.{eqb};
 ghost use Rattle.arith.specs.Pick.{pick};
-ghost use Rattle.c_state.specs.Bytes.{flagByte};
 ghost use Rattle.c_state.specs.Encoded.{encoded};
-ghost use Rattle.c_chip.specs.Boundary.{packed, bytesAfter, powerNumber, powerBytes, bytesIn, writeFrom, statusFrom, lineFrom, levelFrom, noState, clockFrom};
+ghost use Rattle.c_chip.specs.Boundary.{packed, powerNumber, powerPacked, powerBytes, bytesIn, inRangePacked, writeFrom, writePacked, writeBytes, statusFrom, statusPacked, statusBytes, lineFrom, linePacked, levelFrom, levelPacked, noState, clockFrom, clockPacked, clockBytes};
 use chip::State;
 use chip_api::Asserted;
 use chip_api::Mixed;
@@ -31,12 +30,12 @@ pub fn store(number: u8, s: State, b: &mut [u8])
 fn power_number(b: &[u8]) -> u8
     ensures { λ r. ⌜ r ≡ powerNumber (now (b .entry)) ⌝ }
 {
-    if b.len() == 91 { 0 } else { 2 }
+    if b.len() == c_state::SIZE { 0 } else { 2 }
 }
 
 // Makes the bytes the state at power-on, whatever they held. Refused: 2, for another length.
 pub fn power_on(state: &mut [u8]) -> u64
-    ensures { λ r. ⌜ r ≡ packed (powerNumber (now (state .entry))) 0 ⌝ }
+    ensures { λ r. ⌜ r ≡ powerPacked (now (state .entry)) ⌝ }
     ensures { λ r. ⌜ now (state .exit) ≡ powerBytes (now (state .entry)) ⌝ }
 {
     let number = power_number(state);
@@ -56,7 +55,7 @@ fn bytes_in(b: &[u8]) -> bool
 
 // Value 1 where the bytes are a state in range, else 0. Nothing is refused.
 pub fn in_range(state: &[u8]) -> u64
-    ensures { λ r. ⌜ r ≡ packed 0 (flagByte (bytesIn (now (state .entry)))) ⌝ }
+    ensures { λ r. ⌜ r ≡ inRangePacked (now (state .entry)) ⌝ }
 {
     let within = bytes_in(state);
     let value = arith::pick_u16(within, 1, 0);
@@ -78,8 +77,8 @@ fn write_from(b: &[u8], register: u16, value: u8) -> Moved
 
 // Writes a value to a register. Refused: 2, 4.
 pub fn write(state: &mut [u8], register: u16, value: u8) -> u64
-    ensures { λ r. ⌜ r ≡ packed (writeFrom register value (now (state .entry)) .number) 0 ⌝ }
-    ensures { λ r. ⌜ now (state .exit) ≡ bytesAfter (writeFrom register value (now (state .entry)) .number) (writeFrom register value (now (state .entry)) .state) (now (state .entry)) ⌝ }
+    ensures { λ r. ⌜ r ≡ writePacked register value (now (state .entry)) ⌝ }
+    ensures { λ r. ⌜ now (state .exit) ≡ writeBytes register value (now (state .entry)) ⌝ }
 {
     let m = write_from(state, register, value);
     let s = m.state;
@@ -103,8 +102,8 @@ fn status_from(b: &[u8]) -> Status
 
 // Reads $4015, which clears the frame flag; the value is the byte read. Refused: 2.
 pub fn read_status(state: &mut [u8]) -> u64
-    ensures { λ r. ⌜ r ≡ packed (statusFrom (now (state .entry)) .number) (statusFrom (now (state .entry)) .byte) ⌝ }
-    ensures { λ r. ⌜ now (state .exit) ≡ bytesAfter (statusFrom (now (state .entry)) .number) (statusFrom (now (state .entry)) .state) (now (state .entry)) ⌝ }
+    ensures { λ r. ⌜ r ≡ statusPacked (now (state .entry)) ⌝ }
+    ensures { λ r. ⌜ now (state .exit) ≡ statusBytes (now (state .entry)) ⌝ }
 {
     let m = status_from(state);
     let s = m.state;
@@ -128,7 +127,7 @@ fn line_from(b: &[u8]) -> Asserted
 
 // Value 1 where the interrupt line is asserted. Refused: 2.
 pub fn interrupt_line(state: &[u8]) -> u64
-    ensures { λ r. ⌜ r ≡ packed (lineFrom (now (state .entry)) .number) (flagByte (lineFrom (now (state .entry)) .asserted)) ⌝ }
+    ensures { λ r. ⌜ r ≡ linePacked (now (state .entry)) ⌝ }
 {
     let m = line_from(state);
     let value = arith::pick_u16(m.asserted, 1, 0);
@@ -150,7 +149,7 @@ fn level_from(b: &[u8]) -> Mixed
 
 // The mixed level. Refused: 2.
 pub fn level(state: &[u8]) -> u64
-    ensures { λ r. ⌜ r ≡ packed (levelFrom (now (state .entry)) .number) (levelFrom (now (state .entry)) .level) ⌝ }
+    ensures { λ r. ⌜ r ≡ levelPacked (now (state .entry)) ⌝ }
 {
     let m = level_from(state);
     pack(m.number, m.level)
@@ -179,8 +178,8 @@ fn clock_from(b: &[u8], memory: &[u8]) -> Moved
 
 // Works one clock. Refused: 1, 2.
 pub fn clock(state: &mut [u8], memory: &[u8]) -> u64
-    ensures { λ r. ⌜ r ≡ packed (clockFrom (now (memory .entry)) (now (state .entry)) .number) 0 ⌝ }
-    ensures { λ r. ⌜ now (state .exit) ≡ bytesAfter (clockFrom (now (memory .entry)) (now (state .entry)) .number) (clockFrom (now (memory .entry)) (now (state .entry)) .state) (now (state .entry)) ⌝ }
+    ensures { λ r. ⌜ r ≡ clockPacked (now (memory .entry)) (now (state .entry)) ⌝ }
+    ensures { λ r. ⌜ now (state .exit) ≡ clockBytes (now (memory .entry)) (now (state .entry)) ⌝ }
 {
     let m = clock_from(state, memory);
     let s = m.state;

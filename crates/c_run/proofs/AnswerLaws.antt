@@ -17,7 +17,7 @@ use Rattle.run_answer.proofs.AnswerLaws.{number-fine}
 use Rattle.c_state.specs.Bytes.{isState, stateOf}
 use Rattle.c_state.specs.Encoded.{encoded}
 use Rattle.c_chip.specs.Boundary.{bytesAfter, noState}
-use Rattle.c_run.specs.Runs.{runPacked, runFrom}
+use Rattle.c_run.specs.Runs.{ranPacked, runFrom}
 use Rattle.c_chip.proofs.StoreLaws.{stored-from, no-state-refused}
 
 answer-most : (memory : List ℕ) (s : State) (count : ℕ) (words : List ℕ) → answer memory s count words .done ≤ 1_000_000
@@ -36,8 +36,8 @@ module _ (memory b : List ℕ) (count : ℕ) (words : List ℕ) (r : Ran) (e : r
       (pick-both (λ (r : Ran). r .done ≤ 1_000_000) (isState b) (answer-most memory (stateOf b) count words) (omega arith))
 
   -- the answer
-  pub run-packed : (n : ℕ) → n ≡ runPacked r → n ≡ runPacked (runFrom memory b count words)
-  run-packed n p = p ∙ ap (λ (r : Ran). runPacked r) e
+  pub run-packed : (n : ℕ) → n ≡ ranPacked r → n ≡ ranPacked (runFrom memory b count words)
+  run-packed n p = p ∙ ap (λ (r : Ran). ranPacked r) e
 
   -- the bytes
   pub run-stored :

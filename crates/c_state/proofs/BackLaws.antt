@@ -11,7 +11,7 @@ use lib.Dec.{leb, eqb}
 use borrow.Author.Tests.{leb-true, eqb-true}
 use Rattle.arith.specs.Pick.{pick, both}
 use Rattle.arith.proofs.PickLaws.{both-left, both-right}
-use Rattle.c_state.specs.Bytes.{flagByte, low, high, byteOf, flagOf, pairOf, squareBytes, triangleBytes, noiseBytes, dmcBytes, frameBytes, stateBytes, squareOf, triangleOf, noiseOf, dmcOf, frameOf, stateOf, flagPlaces, flagsRight, isState}
+use Rattle.c_state.specs.Bytes.{flagByte, low, high, byteOf, flagOf, pairOf, squareBytes, triangleBytes, noiseBytes, dmcBytes, frameBytes, stateBytes, stateSize, squareOf, triangleOf, noiseOf, dmcOf, frameOf, stateOf, flagPlaces, flagsRight, isState}
 
 -- n bytes, from k places after `at` on
 unfoldable gather : List ℕ → ℕ → ℕ → ℕ → List ℕ
@@ -98,8 +98,8 @@ module _ (b : List ℕ) (bytes : (i : ℕ) → byteOf b i ≤ 255) where
   pub read-written : isState b ≡ true → stateBytes (stateOf b) ≡ b
   unfolding stateBytes stateOf isState
   read-written e =
-      let size : length b ≡ 91 = eqb-true (length b) 91 (both-left (eqb (length b) 91) (flagsRight b flagPlaces) e) in
-      let k₁ = split b (squarePlaces 0) (squarePlaces 21 ++ (trianglePlaces 42 ++ (noisePlaces 53 ++ (dmcPlaces 67 ++ framePlaces 85)))) (kept b flagPlaces (both-right (eqb (length b) 91) (flagsRight b flagPlaces) e)) in
+      let size : length b ≡ stateSize = eqb-true (length b) stateSize (both-left (eqb (length b) stateSize) (flagsRight b flagPlaces) e) in
+      let k₁ = split b (squarePlaces 0) (squarePlaces 21 ++ (trianglePlaces 42 ++ (noisePlaces 53 ++ (dmcPlaces 67 ++ framePlaces 85)))) (kept b flagPlaces (both-right (eqb (length b) stateSize) (flagsRight b flagPlaces) e)) in
       let k₂ = split b (squarePlaces 21) (trianglePlaces 42 ++ (noisePlaces 53 ++ (dmcPlaces 67 ++ framePlaces 85))) (k₁ .1) in
       let k₃ = split b (trianglePlaces 42) (noisePlaces 53 ++ (dmcPlaces 67 ++ framePlaces 85)) (k₂ .1) in
       let k₄ = split b (noisePlaces 53) (dmcPlaces 67 ++ framePlaces 85) (k₃ .1) in
@@ -124,5 +124,5 @@ module _ (b : List ℕ) (bytes : (i : ℕ) → byteOf b i ≤ 255) where
       (gathered b 67 0 18 (omega arith)
       ∙ ap (λ (l : List ℕ). gather b 67 0 18 ++ l)
       (gathered b 85 0 6 (omega arith)
-      ∙ ap (λ (l : List ℕ). gather b 85 0 6 ++ l) (drop-of-length-le b {i = 91} (omega arith))
+      ∙ ap (λ (l : List ℕ). gather b 85 0 6 ++ l) (drop-of-length-le b {i = stateSize} (omega arith))
       ∙ append-nil (gather b 85 0 6))))))))

@@ -10,7 +10,7 @@ use Rattle.arith.specs.Pick.{pick, both}
 use Rattle.arith.proofs.PickLaws.{both-left, both-right}
 use Rattle.chip_square.specs.declared.Square.{Square}
 use Rattle.chip.specs.declared.State.{State}
-use Rattle.c_state.specs.Bytes.{flagByte, low, high, byteOf, flagOf, pairOf, squareBytes, triangleBytes, noiseBytes, dmcBytes, frameBytes, stateBytes, squareOf, triangleOf, noiseOf, dmcOf, frameOf, stateOf, flagPlaces, flagsRight, isState}
+use Rattle.c_state.specs.Bytes.{stateSize, flagByte, low, high, byteOf, flagOf, pairOf, squareBytes, triangleBytes, noiseBytes, dmcBytes, frameBytes, stateBytes, squareOf, triangleOf, noiseOf, dmcOf, frameOf, stateOf, flagPlaces, flagsRight, isState}
 
 -- WRITTEN AND READ BACK
 
@@ -27,8 +27,8 @@ flag-most false = refl
 pair-read : (x : ℕ) → low x + 256 * high x ≡ x
 pair-read x = omega arith
 
--- a state is 91 bytes
-pub state-size : (s : State) → length (stateBytes s) ≡ 91
+-- how many bytes a state is
+pub state-size : (s : State) → length (stateBytes s) ≡ stateSize
 unfolding squareBytes triangleBytes noiseBytes dmcBytes frameBytes stateBytes
 state-size s = refl
 

@@ -6,7 +6,7 @@ use native.Mathlib.Omega.{arith}
 use lib.ListN.{length, take, drop, length-append, length-drop, drop-of-length-le}
 use lib.Seq.{paste, take-at, take-length, drop-append-add}
 use Rattle.chip.specs.declared.State.{State}
-use Rattle.c_state.specs.Bytes.{squareBytes, triangleBytes, noiseBytes, dmcBytes, frameBytes, stateBytes}
+use Rattle.c_state.specs.Bytes.{stateSize, squareBytes, triangleBytes, noiseBytes, dmcBytes, frameBytes, stateBytes}
 
 -- a part copied behind what is done
 put-next : (done rest part : List ℕ) (at n : ℕ) → length done ≡ at → length part ≡ n → paste (done ++ rest) at part n ≡ (done ++ part) ++ drop n rest
@@ -16,7 +16,7 @@ put-next done rest part at n e l =
 -- six parts, of the lengths of a state's
 put-six :
     (old a b c d e f : List ℕ)
-    → length old ≡ 91
+    → length old ≡ stateSize
     → length a ≡ 21
     → length b ≡ 21
     → length c ≡ 11
@@ -39,7 +39,7 @@ put-six old a b c d e f ho ha hb hc hd he hf =
 -- the bytes after each part of a state
 pub put-state :
     (s : State) (old b₁ b₂ b₃ b₄ b₅ b₆ : List ℕ)
-    → length old ≡ 91
+    → length old ≡ stateSize
     → b₁ ≡ paste old 0 (squareBytes (s .square1)) 21
     → b₂ ≡ paste b₁ 21 (squareBytes (s .square2)) 21
     → b₃ ≡ paste b₂ 42 (triangleBytes (s .triangle)) 11

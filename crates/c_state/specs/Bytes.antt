@@ -13,6 +13,10 @@ use Rattle.chip_dmc.specs.declared.Dmc.{Dmc}
 use Rattle.chip_frame.specs.declared.Frame.{Frame}
 use Rattle.chip.specs.declared.State.{State}
 
+-- how many bytes a state is
+abbrev pub stateSize : ℕ
+stateSize = 91
+
 -- WRITTEN
 
 abbrev pub flagByte : Bool → ℕ
@@ -270,6 +274,6 @@ unfoldable pub flagsRight : List ℕ → List ℕ → Bool
 flagsRight b [] = true
 flagsRight b (i ∷ is) = both (leb (byteOf b i) 1) (flagsRight b is)
 
--- these bytes are a state's: 91 of them, and every flag 0 or 1
+-- these bytes are a state's: as many as a state is, and every flag 0 or 1
 unfoldable pub isState : List ℕ → Bool
-isState b = both (eqb (length b) 91) (flagsRight b flagPlaces)
+isState b = both (eqb (length b) stateSize) (flagsRight b flagPlaces)

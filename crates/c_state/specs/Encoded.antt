@@ -5,8 +5,8 @@ use lib.ListN.{length}
 use lib.Dec.{eqb}
 use Rattle.arith.specs.Pick.{pick}
 use Rattle.chip.specs.declared.State.{State}
-use Rattle.c_state.specs.Bytes.{stateBytes}
+use Rattle.c_state.specs.Bytes.{stateSize, stateBytes}
 
--- the state's bytes; where other than 91 bytes are lent, those as they were
+-- the state's bytes; where other than so many bytes are lent, those as they were
 unfoldable pub encoded : State → List ℕ → List ℕ
-encoded s old = pick (eqb (length old) 91) (stateBytes s) old
+encoded s old = pick (eqb (length old) stateSize) (stateBytes s) old

@@ -1,7 +1,7 @@
 // A state as 91 bytes, for callers in other languages: the fields in document 01's order, low byte first, a flag as 0 or 1.
 ghost use mathlib.Core.Path.{_≡_};
 ghost use lib.ListN.{getD};
-ghost use Rattle.c_state.specs.Bytes.{flagPlaces, flagsRight, isState, stateOf};
+ghost use Rattle.c_state.specs.Bytes.{stateSize, flagPlaces, flagsRight, isState, stateOf};
 ghost use Rattle.c_state.specs.Encoded.{encoded};
 
 pub mod field;
@@ -9,6 +9,15 @@ mod reader;
 mod writer;
 
 use chip::State;
+
+// How many bytes a state is.
+pub const SIZE: usize = 91;
+
+pub fn size() -> usize
+    ensures { λ r. ⌜ r ≡ stateSize ⌝ }
+{
+    SIZE
+}
 
 // The places of the flags.
 const FLAGS: [usize; 32] = [
@@ -110,12 +119,12 @@ fn flags_right(b: &[u8]) -> bool
     true
 }
 
-// Whether bytes are a state's: 91 of them, and every flag 0 or 1.
+// Whether bytes are a state's: as many as a state is, and every flag 0 or 1.
 pub fn is_state(b: &[u8]) -> bool
     ensures { λ r. ⌜ r ≡ isState (now (b .entry)) ⌝ }
 {
     let right = flags_right(b);
-    arith::both_of(b.len() == 91, right)
+    arith::both_of(b.len() == SIZE, right)
 }
 
 // The state that bytes stand for.
@@ -138,11 +147,11 @@ pub fn decode(b: &[u8]) -> State
     }
 }
 
-// Writes a state to bytes. Other than 91 bytes stay as they are.
+// Writes a state to bytes. Other than so many bytes stay as they are.
 pub fn encode(s: State, b: &mut [u8])
     ensures { λ r. ⌜ now (b .exit) ≡ encoded s (now (b .entry)) ⌝ }
 {
-    if b.len() == 91 {
+    if b.len() == SIZE {
         writer::put_square(s.square1, b, 0);
         writer::put_square(s.square2, b, 21);
         writer::put_triangle(s.triangle, b, 42);

@@ -1,4 +1,4 @@
-// Why a channel is silent, asked of a state that is 91 bytes (crate `c_state`). The answer is one number: its number, and above its low
+// Why a channel is silent, asked of a state that is bytes (crate `c_state`). The answer is one number: its number, and above its low
 // byte its value.
 ghost use mathlib.Core.Path.{_≡_};
 ghost use Rattle.c_why.specs.Packed.{whyFrom, whyPacked};
