@@ -2,4 +2,3 @@ pub mod BackLaws
 pub mod CodeLaws
 pub mod PartLaws
 pub mod PlaceLaws
-pub mod WideLaws

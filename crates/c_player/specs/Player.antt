@@ -1,55 +1,41 @@
--- A player as 190 bytes, low byte first in every number: phase 1, wait 4, time 4, last 2, the state's 91 as the crate `c_state` has them, and the
--- cursor: its place 8, its depth 8, the eight starts 8 each, the eight turns left 1 each.
-use Prim.Native.Nat.{ℕ, zero, suc, _+_, _*_, _^_, _<_}
-use mathlib.Core.Path.{_≡_}
+-- A player as bytes, low byte first in every number: phase 1, wait 4, time 4, last 2, the cursor's as the crate `c_cursor` has them, and last
+-- the state's as the crate `c_state` has them.
+use Prim.Native.Nat.{ℕ, _+_, _^_, _<_}
 use mathlib.Core.Bool.{Bool}
-use mathlib.Core.List.{List, [], _∷_, _++_}
-use lib.ListN.{length, getD, take, drop}
+use mathlib.Core.List.{List, _++_}
+use lib.ListN.{length, take, drop}
 use lib.Dec.{eqb}
 use Rattle.arith.specs.Pick.{pick, both}
-use Rattle.c_state.specs.Bytes.{low, high, byteOf, stateBytes, stateOf, isState}
-use Rattle.log_cursor.specs.declared.Cursor.{Cursor}
+use Rattle.c_state.specs.Bytes.{stateSize, stateBytes, stateOf, isState}
+use Rattle.c_cursor.specs.Numbers.{wideBytes, wideOf}
+use Rattle.c_cursor.specs.Cursors.{cursorSize, cursorBytes, cursorOf, CursorFits}
 use Rattle.play_model.specs.declared.Player.{Player}
 
+-- where the cursor and the state begin, and how many bytes a player is
+abbrev pub cursorPlace : ℕ
+cursorPlace = 11
+
+abbrev pub statePlace : ℕ
+statePlace = cursorPlace + cursorSize
+
+abbrev pub playerSize : ℕ
+playerSize = statePlace + stateSize
+
 -- WRITTEN
-
--- a number in n bytes
-unfoldable pub wideBytes : ℕ → ℕ → List ℕ
-wideBytes zero x = []
-wideBytes (suc n) x = low x ∷ wideBytes n (high x)
-
--- numbers one behind the other, n bytes each
-unfoldable pub widesBytes : ℕ → List ℕ → List ℕ
-widesBytes n [] = []
-widesBytes n (x ∷ xs) = wideBytes n x ++ widesBytes n xs
-
-unfoldable pub cursorBytes : Cursor → List ℕ
-cursorBytes c = wideBytes 8 (c .at) ++ (wideBytes 8 (c .depth) ++ (widesBytes 8 (c .starts) ++ widesBytes 1 (c .left)))
-
 unfoldable pub playerBytes : Player → List ℕ
 playerBytes p =
     wideBytes 1 (p .phase)
     ++ (wideBytes 4 (p .wait)
-    ++ (wideBytes 4 (p .time) ++ (wideBytes 2 (p .last) ++ (stateBytes (p .state) ++ cursorBytes (p .cursor)))))
+    ++ (wideBytes 4 (p .time) ++ (wideBytes 2 (p .last) ++ (cursorBytes (p .cursor) ++ stateBytes (p .state)))))
 
 -- READ: past the bytes' end everything is 0
 
--- the number in the n bytes from `at` on
-unfoldable pub wideOf : List ℕ → ℕ → ℕ → ℕ
-wideOf b at zero = 0
-wideOf b at (suc n) = byteOf b at + 256 * wideOf b (at + 1) n
+-- the bytes of the cursor, and of the state
+abbrev pub cursorPart : List ℕ → List ℕ
+cursorPart b = take cursorSize (drop cursorPlace b)
 
--- k numbers of n bytes each, from `at` on
-unfoldable pub widesOf : List ℕ → ℕ → ℕ → ℕ → List ℕ
-widesOf b at n zero = []
-widesOf b at n (suc k) = wideOf b at n ∷ widesOf b (at + n) n k
-
-unfoldable pub cursorOf : List ℕ → Cursor
-cursorOf b = record { at = wideOf b 102 8; depth = wideOf b 110 8; starts = widesOf b 118 8 8; left = widesOf b 182 1 8 }
-
--- the bytes of the state
 abbrev pub statePart : List ℕ → List ℕ
-statePart b = take 91 (drop 11 b)
+statePart b = drop statePlace b
 
 unfoldable pub playerAt : List ℕ → Player
 playerAt b =
@@ -59,24 +45,21 @@ playerAt b =
       time = wideOf b 5 4;
       last = wideOf b 9 2;
       state = stateOf (statePart b);
-      cursor = cursorOf b;
+      cursor = cursorOf (cursorPart b);
     }
 
--- these bytes are a player's: 190 of them, and those of the state are a state's
+-- these bytes are a player's: as many as a player is, and those of the state are a state's
 unfoldable pub isPlayer : List ℕ → Bool
-isPlayer b = both (eqb (length b) 190) (isState (statePart b))
+isPlayer b = both (eqb (length b) playerSize) (isState (statePart b))
 
--- what writing a player to lent bytes leaves in them: the player's bytes; where other than 190 bytes are lent, those as they were
+-- what writing a player to lent bytes leaves in them: the player's bytes; where other than so many bytes are lent, those as they were
 unfoldable pub playerEncoded : Player → List ℕ → List ℕ
-playerEncoded p old = pick (eqb (length old) 190) (playerBytes p) old
+playerEncoded p old = pick (eqb (length old) playerSize) (playerBytes p) old
 
--- the ranges of a player's types, which every player has: u8, u32, u16, usize, and arrays of eight
+-- the ranges of a player's types, which every player has: u8, u32, u16, and a cursor's
 pub record PlayerFits (p : Player) : Type 0 where
   pub phase : p .phase < 256
   pub wait : p .wait < 2 ^ 32
   pub time : p .time < 2 ^ 32
   pub last : p .last < 2 ^ 16
-  pub at : p .cursor .at < 2 ^ 64
-  pub depth : p .cursor .depth < 2 ^ 64
-  pub starts : (length (p .cursor .starts) ≡ 8) × ((i : ℕ) → getD (p .cursor .starts) i 0 < 2 ^ 64)
-  pub left : (length (p .cursor .left) ≡ 8) × ((i : ℕ) → getD (p .cursor .left) i 0 < 256)
+  pub cursor : CursorFits (p .cursor)

@@ -1,20 +1,34 @@
-// A player as 190 bytes, for callers in other languages: its fields in their order, low byte first, the state as the crate `c_state` has it.
+// A player as bytes, for callers in other languages: its fields in their order, low byte first, the cursor as the crate `c_cursor` has it, and
+// last the state as the crate `c_state` has it.
 ghost use mathlib.Core.Path.{_≡_};
-ghost use Rattle.c_player.specs.Player.{playerAt, isPlayer, playerEncoded};
+ghost use Rattle.c_player.specs.Player.{playerSize, playerAt, isPlayer, playerEncoded};
 
-mod number;
 mod reader;
 mod writer;
 
+use c_cursor::number;
 use play_model::Player;
 
-// Whether bytes are a player's: 190 of them, and those of the state are a state's.
+// Where the cursor and the state begin, and how many bytes a player is.
+pub(crate) const CURSOR: usize = 11;
+
+pub(crate) const STATE: usize = CURSOR + c_cursor::SIZE;
+
+pub const SIZE: usize = STATE + c_state::SIZE;
+
+pub fn size() -> usize
+    ensures { λ r. ⌜ r ≡ playerSize ⌝ }
+{
+    SIZE
+}
+
+// Whether bytes are a player's: as many as a player is, and those of the state are a state's.
 pub fn is_player(b: &[u8]) -> bool
     ensures { λ r. ⌜ r ≡ isPlayer (now (b .entry)) ⌝ }
 {
     let part = reader::state_part(b);
     let right = c_state::is_state(part);
-    arith::both_of(b.len() == 190, right)
+    arith::both_of(b.len() == SIZE, right)
 }
 
 // The player that bytes stand for.
@@ -25,8 +39,8 @@ pub fn decode(b: &[u8]) -> Player
     let wait = number::u32_at(b, 1);
     let time = number::u32_at(b, 5);
     let last = number::u16_at(b, 9);
+    let cursor = c_cursor::decode(reader::cursor_part(b));
     let state = c_state::decode(reader::state_part(b));
-    let cursor = reader::cursor_at(b);
     Player {
         phase: phase,
         wait: wait,
@@ -37,13 +51,13 @@ pub fn decode(b: &[u8]) -> Player
     }
 }
 
-// Writes a player to bytes. Other than 190 bytes stay as they are.
+// Writes a player to bytes. Other than so many bytes stay as they are.
 pub fn encode(p: Player, b: &mut [u8])
     ensures { λ r. ⌜ now (b .exit) ≡ playerEncoded p (now (b .entry)) ⌝ }
 {
-    if b.len() == 190 {
+    if b.len() == SIZE {
         writer::put_numbers(p.phase, p.wait, p.time, p.last, b);
-        writer::put_state(p.state, b);
         writer::put_cursor(p.cursor, b);
+        writer::put_state(p.state, b);
     }
 }

@@ -10,8 +10,9 @@ unfolding playerEncoded
 returns c =
     let a = c .before .before .before .before .before .before .before .before .before .before .before .before .before .before .args in
     let size = c .before .before .before .before .before .before .before .before .before .before .before .before .if1 .taken in
-    let last = c .before .before .put-cursor .ensures in
-    rw (eq-eqb _ _ size) (put-player (a .p) (a .b .now) _ _ _ size (last .1) (c .before .before .before .before .before .before .before .before .before .before .put-numbers .ensures) (c .before .before .before .before .before .before .put-state .ensures) (last .0))
+    let cursor = c .before .before .before .before .before .before .put-cursor .ensures in
+    rw (eq-eqb _ _ size)
+    (put-player (a .p) (a .b .now) _ _ _ size (cursor .1) (c .before .before .before .before .before .before .before .before .before .before .put-numbers .ensures) (cursor .0) (c .before .before .put-state .ensures))
 
 returns-2 : tie.Need-returns-2
 unfolding playerEncoded

@@ -13,4 +13,4 @@ returns c =
     put-numbers (a .phase) (a .wait) (a .time) (a .last) (a .b .now) _ _ _ _ (c₁ .put-wide .ensures) (c₂ .put-wide2 .ensures) (c₃ .put-wide3 .ensures) (c₄ .put-wide4 .ensures)
 
 pub put-numbers-spec : {M : Type 1} → statement M
-put-numbers-spec = tie.close (tie.spec (λ c κs. search needs) (λ c κs. search needs) (λ c κs. search needs) (λ c κs. search needs) (λ c. search needs) returns)
+put-numbers-spec = tie.close (tie.spec (λ c κs. tt) (λ c κs. tt) (λ c κs. tt) (λ c κs. tt) (λ c. search needs) returns)
