@@ -1,12 +1,12 @@
 -- THE PIECES THAT A CALLER JOINS ARE THE WHOLE TEXT, for any list of calls of `play_on` behind a `begin`. Assumes nothing.
-use Prim.Native.Nat.{ℕ, zero, suc, _+_, _*_, _/_, _%_, _^_, _≤_, _<_}
+use Prim.Native.Nat.{ℕ, _+_, _*_, _/_, _%_, _^_, _≤_, _<_}
 use mathlib.Core.Path.{_≡_, refl, ap, _∙_}
 use mathlib.Core.Bool.{Bool, true, false}
 use mathlib.Core.List.{List, _++_}
 use native.Mathlib.Omega.{arith}
 use borrow.Author.Tests.{eq-eqb, ne-eqb}
-use lib.ListN.{length, getD, take, replicate}
-use lib.Dec.{eqb}
+use lib.ListN.{length, take}
+use lib.Dec.{eqb, leb}
 use Rattle.arith.specs.Pick.{pick}
 use Rattle.c_state.specs.Bytes.{flagByte}
 use Rattle.chip_api.specs.Answer.{isMemory}
@@ -16,8 +16,12 @@ use Rattle.play_model.specs.Turns.{freshPlayer, endedPlayer}
 use Rattle.play.specs.Playing.{PlayedOn}
 use Rattle.play.specs.Calls as play
 use Rattle.play.specs.Whole.{playNumber, begunOf}
-use Rattle.play.proofs.Whole.{Beginning, pieces-whole, never-halted, gets-line}
-use Rattle.c_player.specs.Player.{playerBytes, playerAt, isPlayer, PlayerFits}
+use Rattle.play.proofs.Whole.{Beginning, pieces-whole, never-halted, gets-line, comes-to-end}
+use Rattle.log_judge.specs.Tree.{acts}
+use Rattle.log_judge.specs.Whole.{treeOf}
+use Rattle.play_model.specs.Sound.{notesOf}
+use Rattle.c_cursor.proofs.Calls.{beginning-fits}
+use Rattle.c_player.specs.Player.{playerSize, playerBytes, playerAt, isPlayer, PlayerFits}
 use Rattle.c_player.proofs.CodeLaws.{written-read, player-right}
 use Rattle.c_play.specs.Players.{playerAfter, beginNumber, beginBytes, PlayedFrom, Continued}
 use Rattle.c_play.specs.Pieces.{writtenOf, overOf, Pieces, none, piece}
@@ -34,29 +38,15 @@ over-is false l = ne-eqb ((2 ^ 8 * 0 + 2 ^ 32 * l) / 2 ^ 8 % 2) 1 (λ h. omega a
 
 -- the player at the beginning
 
-zeros : (n i : ℕ) → getD {A = ℕ} (replicate n 0) i 0 ≡ 0
-zeros zero i = refl
-zeros (suc n) zero = refl
-zeros (suc n) (suc i) = zeros n i
-
 fresh-fits : PlayerFits freshPlayer
 unfolding freshPlayer
 fresh-fits =
-    record {
-      phase = omega arith;
-      wait = omega arith;
-      time = omega arith;
-      last = omega arith;
-      at = omega arith;
-      depth = omega arith;
-      starts = (refl, λ i. omega (arith, zeros 8 i));
-      left = (refl, λ i. omega (arith, zeros 8 i));
-    }
+    record { phase = omega arith; wait = omega arith; time = omega arith; last = omega arith; cursor = beginning-fits }
 
 module _ (log memory : List ℕ) where
   begun-fresh : (b : List ℕ) → beginNumber log memory b ≡ 0 → (playNumber log memory ≡ 0) × (beginBytes log memory b ≡ playerBytes freshPlayer)
   unfolding beginNumber begunOf
-  begun-fresh b e = by (eqb (length b) 190) e
+  begun-fresh b e = by (eqb (length b) playerSize) e
     where
       refused : (t : Bool) → pick {A = ℕ} t 2 1 ≡ 0 → ⊥
       refused true h = omega arith
@@ -70,27 +60,27 @@ module _ (log memory : List ℕ) where
   -- bytes of a player are played as the player
   playing : (b text text′ : List ℕ) (q : Player) (r : Played) → b ≡ playerBytes q → PlayerFits q → PlayedFrom log memory b text text′ r → PlayedOn log memory q text text′ r
   playing b text text′ q r e f d =
-      let i : isPlayer b ≡ true = ap isPlayer e ∙ player-right q (f .starts .0) (f .left .0) in
+      let i : isPlayer b ≡ true = ap isPlayer e ∙ player-right q (f .cursor .starts .0) (f .cursor .left .0) in
       let a : playerAt b ≡ q = ap playerAt e ∙ written-read q f in
       rw a at (rw i at d)
 
   -- a list of calls with bytes is a list of calls with the players that they stand for
-  pub record Held (b joined : List ℕ) (over : Bool) : Type 0 where
+  pub record Held (b joined : List ℕ) (count : ℕ) (over : Bool) : Type 0 where
     pub player : Player
-    pub count : ℕ
     pub calls : play.Calls log memory freshPlayer joined count player over
     pub bytes : b ≡ playerBytes player
     pub fits : PlayerFits player
     pub passes : playNumber log memory ≡ 0
 
   -- a call goes on from there, and is not refused; and a text of 23 bytes or more gets a line, or the player is over
-  pub record Gone (b′ joined text text′ : List ℕ) (answer : ℕ) : Type 0 where
+  pub record Gone (b′ joined : List ℕ) (count : ℕ) (text text′ : List ℕ) (answer : ℕ) : Type 0 where
     pub done : answer ≡ 2 ^ 8 * flagByte (overOf answer) + 2 ^ 32 * writtenOf answer
     pub line : 23 ≤ length text → overOf answer ≡ false → 0 < writtenOf answer
-    pub held : Held b′ (joined ++ take (writtenOf answer) text′) (overOf answer)
+    pub held : Held b′ (joined ++ take (writtenOf answer) text′) (pick (leb 23 (length text)) (count + 1) count) (overOf answer)
 
-  gone : (b b′ joined text text′ : List ℕ) (answer : ℕ) → Held b joined false → Continued log memory b b′ text text′ answer → Gone b′ joined text text′ answer
-  gone b b′ joined text text′ answer h k =
+  gone : (b b′ joined : List ℕ) (count : ℕ) (text text′ : List ℕ) (answer : ℕ) → Held b joined count false → Continued log memory b b′ text text′ answer
+      → Gone b′ joined count text text′ answer
+  gone b b′ joined count text text′ answer h k =
       let r = k .played in
       let does = playing b text text′ (h .player) r (h .bytes) (h .fits) (k .does) in
       let zero = never-halted log memory (h .passes) (h .calls) text text′ r does .0 in
@@ -104,7 +94,6 @@ module _ (log memory : List ℕ) where
             rw (o, w)
             (record {
               player = r .player;
-              count = _;
               calls = play.call text text′ r (h .calls) does;
               bytes = k .keeps ∙ rw (eq-eqb (r .number) 0 zero);
               fits = k .fits;
@@ -112,17 +101,21 @@ module _ (log memory : List ℕ) where
             });
       }
 
-  pub held : {b joined : List ℕ} {over : Bool} → Pieces log memory b joined over → Held b joined over
+  pub held : {b joined : List ℕ} {n : ℕ} {over : Bool} → Pieces log memory b joined n over → Held b joined n over
   held (none b e) =
       let begun = begun-fresh b (omega arith) in
-      record { player = freshPlayer; count = 0; calls = play.none; bytes = begun .1; fits = fresh-fits; passes = begun .0 }
-  held (piece {b = b} {joined = joined} b′ text text′ answer p k) = gone b b′ joined text text′ answer (held p) k .held
+      record { player = freshPlayer; calls = play.none; bytes = begun .1; fits = fresh-fits; passes = begun .0 }
+  held (piece {b = b} {joined = joined} {n = n} b′ text text′ answer p k) = gone b b′ joined n text text′ answer (held p) k .held
 
   -- THE PIECES JOINED ARE A BEGINNING OF THE WHOLE TEXT, AND ALL OF IT WHEN THE LAST CALL SAID OVER
-  pub pieces-joined : {b joined : List ℕ} {over : Bool} (p : Pieces log memory b joined over) → Beginning log memory (held p .passes) joined over
+  pub pieces-joined : {b joined : List ℕ} {n : ℕ} {over : Bool} (p : Pieces log memory b joined n over) → Beginning log memory (held p .passes) joined over
   pieces-joined p = pieces-whole log memory (held p .passes) (held p .calls)
 
   -- NO CALL IS REFUSED, AND A TEXT OF 23 BYTES OR MORE GETS A LINE UNTIL THE PLAYER IS OVER
-  pub piece-on : {b joined : List ℕ} → Pieces log memory b joined false → (b′ text text′ : List ℕ) (answer : ℕ) → Continued log memory b b′ text text′ answer
-      → Gone b′ joined text text′ answer
-  piece-on {b = b} {joined = joined} p b′ text text′ answer k = gone b b′ joined text text′ answer (held p) k
+  pub piece-on : {b joined : List ℕ} {n : ℕ} → Pieces log memory b joined n false → (b′ text text′ : List ℕ) (answer : ℕ) → Continued log memory b b′ text text′ answer
+      → Gone b′ joined n text text′ answer
+  piece-on {b = b} {joined = joined} {n = n} p b′ text text′ answer k = gone b b′ joined n text text′ answer (held p) k
+
+  -- SO THEY COME TO AN END: behind more texts of 23 bytes or more than there are lines the last call said over
+  pub pieces-end : {b joined : List ℕ} {n : ℕ} (over : Bool) → Pieces log memory b joined n over → length (notesOf memory (acts (treeOf log))) < n → over ≡ true
+  pieces-end over p more = comes-to-end log memory (held p .passes) over (held p .calls) more

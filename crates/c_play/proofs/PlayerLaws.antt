@@ -24,7 +24,7 @@ use Rattle.play_text.specs.Notes.{refusalText}
 use Rattle.play.specs.Playing.{Piece, Untouched, Answered, Where, PlayedOn}
 use Rattle.play.specs.Whole.{playPlace, begunOf}
 use Rattle.play_text.proofs.TextLaws.{refusal-size}
-use Rattle.c_player.specs.Player.{playerBytes, playerAt, statePart, isPlayer, playerEncoded}
+use Rattle.c_player.specs.Player.{playerSize, playerBytes, playerAt, statePart, isPlayer, playerEncoded}
 use Rattle.c_chip.specs.Boundary.{noState}
 use Rattle.c_log.specs.Logs.{logPacked}
 use Rattle.c_play.specs.Players.{playerAfter, beginNumber, beginPlace, beginPacked, beginBytes, PlayedFrom}
@@ -97,20 +97,20 @@ module _ (log memory : List ℕ) (p : Player) (before after : List ℕ) (r : Pla
   played-fits x =
       where-both (isMemory memory) (where-both (inRange (p .state)) answered-fits (untouched-fits 2 0)) (untouched-fits 1 0) x
 
--- only a player's 190 bytes are written over
+-- only bytes of a player's length are written over
 
-pub player-stored : (t : Bool) (p : Player) (b : List ℕ) → (t ≡ true → length b ≡ 190) → pick t (playerEncoded p b) b ≡ pick t (playerBytes p) b
+pub player-stored : (t : Bool) (p : Player) (b : List ℕ) → (t ≡ true → length b ≡ playerSize) → pick t (playerEncoded p b) b ≡ pick t (playerBytes p) b
 unfolding playerEncoded
-player-stored t p b h = written-by t (playerEncoded p b) (playerBytes p) b (λ e. rw (eq-eqb (length b) 190 (h e)))
+player-stored t p b h = written-by t (playerEncoded p b) (playerBytes p) b (λ e. rw (eq-eqb (length b) playerSize (h e)))
 
-player-long : (b : List ℕ) → isPlayer b ≡ true → length b ≡ 190
+player-long : (b : List ℕ) → isPlayer b ≡ true → length b ≡ playerSize
 unfolding isPlayer
-player-long b e = eqb-true (length b) 190 (both-left (eqb (length b) 190) (isState (statePart b)) e)
+player-long b e = eqb-true (length b) playerSize (both-left (eqb (length b) playerSize) (isState (statePart b)) e)
 
-done-player : (log memory b before after : List ℕ) (r : Played) → PlayedFrom log memory b before after r → eqb (r .number) 0 ≡ true → length b ≡ 190
+done-player : (log memory b before after : List ℕ) (r : Played) → PlayedFrom log memory b before after r → eqb (r .number) 0 ≡ true → length b ≡ playerSize
 done-player log memory b before after r x e = go (isPlayer b) refl x
   where
-    go : (t : Bool) → isPlayer b ≡ t → Where t (PlayedOn log memory (playerAt b) before after r) (Untouched (playerAt b) (noState memory) 0 before after r) → length b ≡ 190
+    go : (t : Bool) → isPlayer b ≡ t → Where t (PlayedOn log memory (playerAt b) before after r) (Untouched (playerAt b) (noState memory) 0 before after r) → length b ≡ playerSize
     go true f y = player-long b f
     go false f y =
         let n = ap (λ (x : Played). eqb (x .number) 0) (y .answer) in
@@ -128,16 +128,16 @@ unfolding begunOf playPlace
 begun-place log memory = pick-both (λ (p : ℕ). p ≤ 60000) (isMemory memory) (check-limits log .place) (omega arith)
 
 module _ (log memory b : List ℕ) where
-  pub not-begun : (length b ≡ 190 → ⊥) → (logPacked (noState memory) 0 0 ≡ beginPacked log memory b) × (b ≡ beginBytes log memory b)
+  pub not-begun : (length b ≡ playerSize → ⊥) → (logPacked (noState memory) 0 0 ≡ beginPacked log memory b) × (b ≡ beginBytes log memory b)
   unfolding beginNumber beginPlace
-  not-begun h = rw (ne-eqb (length b) 190 h) (refl, rw (no-state-refused (isMemory memory)))
+  not-begun h = rw (ne-eqb (length b) playerSize h) (refl, rw (no-state-refused (isMemory memory)))
 
-  pub begun : length b ≡ 190 → (g : Begun) → g ≡ begunOf log memory → (answer : ℕ) → answer ≡ logPacked (g .number) (g .place) 0
+  pub begun : length b ≡ playerSize → (g : Begun) → g ≡ begunOf log memory → (answer : ℕ) → answer ≡ logPacked (g .number) (g .place) 0
       → (b′ : List ℕ) → b′ ≡ pick (eqb (g .number) 0) (playerEncoded (g .player) b) b
       → (answer ≡ beginPacked log memory b) × (b′ ≡ beginBytes log memory b)
   unfolding beginNumber beginPlace
   begun h g e answer f b′ k =
-      rw (eq-eqb (length b) 190 h, ← e)
+      rw (eq-eqb (length b) playerSize h, ← e)
       (f, k ∙ player-stored (eqb (g .number) 0) (g .player) b (λ t. h))
 
 -- the text of a refusal has 40 bytes at most

@@ -1,4 +1,4 @@
--- The player at the boundary. A player crosses as 190 bytes (crate `c_player`), which the caller keeps between two pieces.
+-- The player at the boundary. A player crosses as bytes (crate `c_player`), which the caller keeps between two pieces.
 use Prim.Native.Nat.{ℕ, _+_, _*_, _^_, _<_, _%_}
 use mathlib.Core.Path.{_≡_}
 use mathlib.Core.List.{List}
@@ -12,7 +12,7 @@ use Rattle.play.specs.declared.Played.{Played}
 use Rattle.play_text.specs.Notes.{refusalText}
 use Rattle.play.specs.Playing.{Where, Untouched, PlayedOn}
 use Rattle.play.specs.Whole.{begunOf}
-use Rattle.c_player.specs.Player.{playerBytes, playerAt, isPlayer, PlayerFits}
+use Rattle.c_player.specs.Player.{playerSize, playerBytes, playerAt, isPlayer, PlayerFits}
 use Rattle.c_chip.specs.Boundary.{noState}
 use Rattle.c_log.specs.Logs.{logPacked}
 
@@ -20,12 +20,12 @@ use Rattle.c_log.specs.Logs.{logPacked}
 abbrev pub playerAfter : ℕ → Player → List ℕ → List ℕ
 playerAfter number p b = pick (eqb number 0) (playerBytes p) b
 
--- a beginning: 1, then 2 (the bytes lent aren't 190), then the log's number with its place
+-- a beginning: 1, then 2 (other than a player's bytes are lent), then the log's number with its place
 unfoldable pub beginNumber : List ℕ → List ℕ → List ℕ → ℕ
-beginNumber log memory b = pick (eqb (length b) 190) (begunOf log memory .number) (noState memory)
+beginNumber log memory b = pick (eqb (length b) playerSize) (begunOf log memory .number) (noState memory)
 
 unfoldable pub beginPlace : List ℕ → List ℕ → List ℕ → ℕ
-beginPlace log memory b = pick (eqb (length b) 190) (begunOf log memory .place) 0
+beginPlace log memory b = pick (eqb (length b) playerSize) (begunOf log memory .place) 0
 
 abbrev pub beginPacked : List ℕ → List ℕ → List ℕ → ℕ
 beginPacked log memory b = logPacked (beginNumber log memory b) (beginPlace log memory b) 0
@@ -36,7 +36,7 @@ beginBytes log memory b = playerAfter (beginNumber log memory b) (begunOf log me
 -- done: "2^8 x over + 2^32 x bytes written"; refused: "number + 2^8 x place", as every answer about a log (24 bits of it: a log's places have 16)
 abbrev pub piecePacked : Played → ℕ
 piecePacked r =
-    pick (eqb (r .number) 0) (2 ^ 8 * flagByte (r .over) + 2 ^ 32 * r .length) (r .number + 2 ^ 8 * (r .place % 2 ^ 24))
+    pick (eqb (r .number) 0) (2 ^ 8 * flagByte (r .over) + 2 ^ 32 * r .length) (logPacked (r .number) (r .place % 2 ^ 24) 0)
 
 -- a piece: 1, then 2 (bytes that are no player's, or hold a state out of range), then what the player comes to
 abbrev pub PlayedFrom : List ℕ → List ℕ → List ℕ → List ℕ → List ℕ → Played → Type 0

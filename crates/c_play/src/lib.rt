@@ -1,4 +1,4 @@
-// The player in pieces, a player being 190 bytes lent in place (crate `c_player`), which the caller keeps between two pieces. Bytes
+// The player in pieces, a player being bytes lent in place (crate `c_player`), which the caller keeps between two pieces. Bytes
 // that are no player's are refused, and stay.
 ghost use mathlib.Core.Path.{_≡_};
 ghost use Prim.Native.Nat.{_≤_, _<_};
@@ -7,7 +7,6 @@ ghost use Rattle.arith.specs.Pick.{pick};
 ghost use Rattle.text_print.specs.Printed.{printed};
 ghost use Rattle.play_text.specs.Notes.{refusalText};
 ghost use Rattle.c_player.specs.Player.{playerEncoded};
-ghost use Rattle.c_log.specs.Logs.{logPacked};
 ghost use Rattle.c_play.specs.Players.{beginPacked, beginBytes, piecePacked, PlayedFrom, Continued, refusalPacked};
 use play::Played;
 use play_model::Player;
@@ -21,27 +20,19 @@ fn store_player(number: u8, p: Player, b: &mut [u8])
     }
 }
 
-// A beginning's answer in one number: that of a log, with value 0.
-fn pack_begun(number: u8, place: usize) -> u64
-    requires { ⌜ place ≤ 60000 ⌝ }
-    ensures { λ r. ⌜ r ≡ logPacked number place 0 ⌝ }
-{
-    number as u64 + 256 * place as u64
-}
-
 // Makes the bytes a player at the log's beginning, whatever they held. Refused: 1; 2, for another length; as the log.
 pub fn begin(player: &mut [u8], log: &[u8], memory: &[u8]) -> u64
     ensures { λ r. ⌜ r ≡ beginPacked (now (log .entry)) (now (memory .entry)) (now (player .entry)) ⌝ }
     ensures { λ r. ⌜ now (player .exit) ≡ beginBytes (now (log .entry)) (now (memory .entry)) (now (player .entry)) ⌝ }
 {
-    if player.len() != 190 {
+    if player.len() != c_player::SIZE {
         let number = c_chip::no_state(memory);
-        return pack_begun(number, 0);
+        return c_log::pack(number, 0, 0);
     }
     let g = play::begin(log, memory);
     let p = g.player;
     store_player(g.number, p, player);
-    pack_begun(g.number, g.place)
+    c_log::pack(g.number, g.place, 0)
 }
 
 // As many bytes of a text as the answer can count.
@@ -82,7 +73,7 @@ fn pack_piece(r: Played) -> u64
         let over = arith::pick_u16(r.over, 1, 0);
         return 256 * over as u64 + 4294967296 * r.length as u64;
     }
-    r.number as u64 + 256 * (r.place % 16777216) as u64
+    c_log::pack(r.number, r.place, 0)
 }
 
 // Writes the player's next lines to the text, whole lines only and to its first 4,294,967,295 bytes at most, and moves the player

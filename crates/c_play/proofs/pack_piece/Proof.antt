@@ -21,17 +21,8 @@ returns c =
     let r = c .before .before .before .args .r in
     rw (eq-eqb (r .number) 0 (c .before .if1 .taken), c .pick-u16 .ensures) refl
 
-cast-result-2 : tie.Need-cast-result-2
-cast-result-2 c = search needs
-
-mul-result-3 : tie.Need-mul-result-3
-mul-result-3 c = search needs
-
-add-result-2 : tie.Need-add-result-2
-add-result-2 c = search needs
-
 returns-2 : tie.Need-returns-2
-returns-2 c = rw (ne-eqb (c .before .before .before .before .args .r .number) 0 (c .before .before .if1 .left)) refl
+returns-2 c = rw (ne-eqb (c .before .before .before .args .r .number) 0 (c .before .if1 .left)) (c .pack .ensures)
 
 pub pack-piece-spec : {M : Type 1} → statement M
 pack-piece-spec =
@@ -43,7 +34,5 @@ pack-piece-spec =
     mul-result-2
     add-result
     returns
-    cast-result-2
-    mul-result-3
-    add-result-2
+    (λ c κs. tt)
     returns-2)

@@ -2,6 +2,7 @@ use borrow.Author.Needs.{needs, length-unmapped, elem-fits-field}
 use mathlib.Core.Path.{_∙_}
 use Prim.Native.Nat.{ℕ}
 use mir.Syntax.{w8, w64}
+use Rattle.c_cursor.specs.Cursors.{CursorFits}
 use Rattle.c_player.specs.Player.{PlayerFits}
 use Rattle.c_play.proofs.PlayerLaws.{piece-stored}
 use Rattle.c_play.proofs.play_on.Statement.{statement}
@@ -24,10 +25,13 @@ player-fits c =
       wait = player .1 .0 .1;
       time = player .1 .1 .0 .1;
       last = player .1 .1 .1 .0 .1;
-      at = cursor .0 .1;
-      depth = cursor .1 .0 .1;
-      starts = (length-unmapped ℕ (at .starts) 8 (starts .1 .0 .1), λ i. elem-fits-field w64 w64 (at .starts) (starts .0) i (starts .1 .1) tt .fits);
-      left = (length-unmapped ℕ (at .left) 8 (left .1 .0 .1), λ i. elem-fits-field w8 w8 (at .left) (left .0) i (left .1 .1) tt .fits);
+      cursor =
+          record {
+            at = cursor .0 .1;
+            depth = cursor .1 .0 .1;
+            starts = (length-unmapped ℕ (at .starts) 8 (starts .1 .0 .1), λ i. elem-fits-field w64 w64 (at .starts) (starts .0) i (starts .1 .1) tt .fits);
+            left = (length-unmapped ℕ (at .left) 8 (left .1 .0 .1), λ i. elem-fits-field w8 w8 (at .left) (left .0) i (left .1 .1) tt .fits);
+          };
     }
 
 returns : tie.Need-returns
