@@ -1,29 +1,39 @@
-// What C and Rust call: the operations of the crates `c_..` under C names. A state is 91 bytes lent in place (crate `c_state`), a slice is a
+// What C and Rust call: the operations of the crates `c_..` under C names. A state is bytes lent in place (crate `c_state`), a slice is a
 // pointer and a length, and an answer is one 64-bit number: its number, and above its low byte its value. Bytes that are no state in range are
 // refused, and stay.
 ghost use mathlib.Core.Path.{_≡_};
-ghost use Rattle.c_state.specs.Bytes.{flagByte};
-ghost use Rattle.c_chip.specs.Boundary.{packed, bytesAfter, powerNumber, powerBytes, bytesIn, writeFrom, statusFrom, lineFrom, levelFrom, clockFrom};
+ghost use Rattle.c_state.specs.Bytes.{stateSize};
+ghost use Rattle.c_chip.specs.Boundary.{powerPacked, powerBytes, inRangePacked, writePacked, writeBytes, statusPacked, statusBytes, linePacked, levelPacked, clockPacked, clockBytes};
+ghost use Rattle.perchpulley.specs.Version.{version};
 
 pub mod asked;
+pub mod cursors;
 pub mod imports;
 pub mod logs;
 pub mod meters;
 pub mod pieces;
 pub mod runs;
 
+// Which boundary this is: a caller that knows another one is told so.
+#[no_mangle]
+pub extern "C" fn perch_version() -> u32
+    ensures { λ r. ⌜ r ≡ version ⌝ }
+{
+    2
+}
+
 // How many bytes a state is.
 #[no_mangle]
 pub extern "C" fn perch_state_size() -> usize
-    ensures { λ r. ⌜ r ≡ 91 ⌝ }
+    ensures { λ r. ⌜ r ≡ stateSize ⌝ }
 {
-    91
+    c_state::size()
 }
 
 // Makes the bytes the state at power-on, whatever they held. Refused: 2, for another length.
 #[no_mangle]
 pub extern "C" fn perch_power_on(state: &mut [u8]) -> u64
-    ensures { λ r. ⌜ r ≡ packed (powerNumber (now (state .entry))) 0 ⌝ }
+    ensures { λ r. ⌜ r ≡ powerPacked (now (state .entry)) ⌝ }
     ensures { λ r. ⌜ now (state .exit) ≡ powerBytes (now (state .entry)) ⌝ }
 {
     c_chip::power_on(state)
@@ -32,7 +42,7 @@ pub extern "C" fn perch_power_on(state: &mut [u8]) -> u64
 // Value 1 where the bytes are a state in range, else 0. Nothing is refused.
 #[no_mangle]
 pub extern "C" fn perch_in_range(state: &[u8]) -> u64
-    ensures { λ r. ⌜ r ≡ packed 0 (flagByte (bytesIn (now (state .entry)))) ⌝ }
+    ensures { λ r. ⌜ r ≡ inRangePacked (now (state .entry)) ⌝ }
 {
     c_chip::in_range(state)
 }
@@ -40,8 +50,8 @@ pub extern "C" fn perch_in_range(state: &[u8]) -> u64
 // Writes a value to a register. Refused: 2, 4.
 #[no_mangle]
 pub extern "C" fn perch_write(state: &mut [u8], register: u16, value: u8) -> u64
-    ensures { λ r. ⌜ r ≡ packed (writeFrom register value (now (state .entry)) .number) 0 ⌝ }
-    ensures { λ r. ⌜ now (state .exit) ≡ bytesAfter (writeFrom register value (now (state .entry)) .number) (writeFrom register value (now (state .entry)) .state) (now (state .entry)) ⌝ }
+    ensures { λ r. ⌜ r ≡ writePacked register value (now (state .entry)) ⌝ }
+    ensures { λ r. ⌜ now (state .exit) ≡ writeBytes register value (now (state .entry)) ⌝ }
 {
     c_chip::write(state, register, value)
 }
@@ -49,8 +59,8 @@ pub extern "C" fn perch_write(state: &mut [u8], register: u16, value: u8) -> u64
 // Reads $4015, which clears the frame flag; the value is the byte read. Refused: 2.
 #[no_mangle]
 pub extern "C" fn perch_read_status(state: &mut [u8]) -> u64
-    ensures { λ r. ⌜ r ≡ packed (statusFrom (now (state .entry)) .number) (statusFrom (now (state .entry)) .byte) ⌝ }
-    ensures { λ r. ⌜ now (state .exit) ≡ bytesAfter (statusFrom (now (state .entry)) .number) (statusFrom (now (state .entry)) .state) (now (state .entry)) ⌝ }
+    ensures { λ r. ⌜ r ≡ statusPacked (now (state .entry)) ⌝ }
+    ensures { λ r. ⌜ now (state .exit) ≡ statusBytes (now (state .entry)) ⌝ }
 {
     c_chip::read_status(state)
 }
@@ -58,7 +68,7 @@ pub extern "C" fn perch_read_status(state: &mut [u8]) -> u64
 // Value 1 where the interrupt line is asserted. Refused: 2.
 #[no_mangle]
 pub extern "C" fn perch_interrupt_line(state: &[u8]) -> u64
-    ensures { λ r. ⌜ r ≡ packed (lineFrom (now (state .entry)) .number) (flagByte (lineFrom (now (state .entry)) .asserted)) ⌝ }
+    ensures { λ r. ⌜ r ≡ linePacked (now (state .entry)) ⌝ }
 {
     c_chip::interrupt_line(state)
 }
@@ -66,7 +76,7 @@ pub extern "C" fn perch_interrupt_line(state: &[u8]) -> u64
 // The mixed level. Refused: 2.
 #[no_mangle]
 pub extern "C" fn perch_level(state: &[u8]) -> u64
-    ensures { λ r. ⌜ r ≡ packed (levelFrom (now (state .entry)) .number) (levelFrom (now (state .entry)) .level) ⌝ }
+    ensures { λ r. ⌜ r ≡ levelPacked (now (state .entry)) ⌝ }
 {
     c_chip::level(state)
 }
@@ -74,8 +84,8 @@ pub extern "C" fn perch_level(state: &[u8]) -> u64
 // Works one clock. Refused: 1, 2.
 #[no_mangle]
 pub extern "C" fn perch_clock(state: &mut [u8], memory: &[u8]) -> u64
-    ensures { λ r. ⌜ r ≡ packed (clockFrom (now (memory .entry)) (now (state .entry)) .number) 0 ⌝ }
-    ensures { λ r. ⌜ now (state .exit) ≡ bytesAfter (clockFrom (now (memory .entry)) (now (state .entry)) .number) (clockFrom (now (memory .entry)) (now (state .entry)) .state) (now (state .entry)) ⌝ }
+    ensures { λ r. ⌜ r ≡ clockPacked (now (memory .entry)) (now (state .entry)) ⌝ }
+    ensures { λ r. ⌜ now (state .exit) ≡ clockBytes (now (memory .entry)) (now (state .entry)) ⌝ }
 {
     c_chip::clock(state, memory)
 }

@@ -1,6 +1,6 @@
-// What C and Rust ask of a log: whether it passes, its items, and the bodies of its loops.
+// What C and Rust ask of a log: whether it passes, its totals, its items, and the bodies of its loops.
 ghost use mathlib.Core.Path.{_≡_};
-ghost use Rattle.c_log.specs.Logs.{checkPacked, itemPacked, bodyPacked};
+ghost use Rattle.c_log.specs.Logs.{checkPacked, turnsPacked, itemsPacked, itemPacked, bodyPacked};
 
 // Checks a log; the value is its clocks in all. Refused: 4 to 10.
 #[no_mangle]
@@ -8,6 +8,22 @@ pub extern "C" fn perch_check(log: &[u8]) -> u64
     ensures { λ r. ⌜ r ≡ checkPacked (now (log .entry)) ⌝ }
 {
     c_log::check(log)
+}
+
+// The same; the value is its turns in all.
+#[no_mangle]
+pub extern "C" fn perch_turns(log: &[u8]) -> u64
+    ensures { λ r. ⌜ r ≡ turnsPacked (now (log .entry)) ⌝ }
+{
+    c_log::turns(log)
+}
+
+// The same; the value is its items in all.
+#[no_mangle]
+pub extern "C" fn perch_items(log: &[u8]) -> u64
+    ensures { λ r. ⌜ r ≡ itemsPacked (now (log .entry)) ⌝ }
+{
+    c_log::items(log)
 }
 
 // Item k, counted from 0; the value is the act. Refused: as the log, then 11.

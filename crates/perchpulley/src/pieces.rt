@@ -1,16 +1,17 @@
-// The player in pieces for C and Rust. A player is 190 bytes lent in place (crate `c_player`), which the caller keeps between two
+// The player in pieces for C and Rust. A player is bytes lent in place (crate `c_player`), which the caller keeps between two
 // pieces. Bytes that are no player's are refused, and stay.
 ghost use mathlib.Core.Path.{_≡_};
 ghost use Rattle.text_print.specs.Printed.{printed};
 ghost use Rattle.play_text.specs.Notes.{refusalText};
+ghost use Rattle.c_player.specs.Player.{playerSize};
 ghost use Rattle.c_play.specs.Players.{beginPacked, beginBytes, Continued, refusalPacked};
 
 // How many bytes a player is.
 #[no_mangle]
 pub extern "C" fn perch_player_size() -> usize
-    ensures { λ r. ⌜ r ≡ 190 ⌝ }
+    ensures { λ r. ⌜ r ≡ playerSize ⌝ }
 {
-    190
+    c_player::size()
 }
 
 // Makes the bytes a player at the log's beginning, whatever they held. Refused: 1; 2, for another length; as the log.
