@@ -43,7 +43,7 @@ fn both(
 
 // A run with what its line lends, and copies of state and words for the plain run.
 fn run(line: &[u8], memory: &[u8], state: &mut [u8], words: &mut [u32]) -> u64 {
-    let n = lent::least(state.len(), 92);
+    let n = lent::least(state.len(), lent::STATE);
     let m = lent::least(words.len(), 1024);
     let mut twin = lent::copy_of_state(state);
     let mut other = lent::copy_of_words(words);

@@ -1,10 +1,14 @@
 // What a case lends: a state, sample memory, words.
 ghost use mathlib.Core.Path.{_≡_};
-ghost use Prim.Native.Nat.{_≤_};
+ghost use Prim.Native.Nat.{_+_, _≤_};
 ghost use lib.ListN.{length};
+ghost use Rattle.c_state.specs.Bytes.{stateSize};
 use super::stored::number;
 use super::stored::short;
 use super::stored::value;
+
+// As many bytes as a case can lend for a state: one more than a state is.
+pub(crate) const STATE: usize = c_state::SIZE + 1;
 
 // x for the next byte of sample memory.
 fn moved(x: u16, times: u16, plus: u16) -> u16 {
@@ -27,11 +31,11 @@ pub(crate) fn memory(line: &[u8]) -> [u8; 32769]
 }
 
 // The state by the first line of a case.
-pub(crate) fn state(line: &[u8]) -> [u8; 92]
-    ensures { λ r. ⌜ 92 ≡ length r ⌝ }
+pub(crate) fn state(line: &[u8]) -> [u8; STATE]
+    ensures { λ r. ⌜ stateSize + 1 ≡ length r ⌝ }
 {
-    let mut state = [0u8; 92];
-    for i in 0..92 {
+    let mut state = [0u8; STATE];
+    for i in 0..STATE {
         state[i] = value(line, 27 + 2 * i);
     }
     state
@@ -58,10 +62,10 @@ pub(crate) fn front<'a>(line: &[u8], memory: &'a [u8]) -> &'a [u8] {
 }
 
 // A state copied, with zeros behind.
-pub(crate) fn copy_of_state(state: &[u8]) -> [u8; 92]
-    ensures { λ r. ⌜ 92 ≡ length r ⌝ }
+pub(crate) fn copy_of_state(state: &[u8]) -> [u8; STATE]
+    ensures { λ r. ⌜ stateSize + 1 ≡ length r ⌝ }
 {
-    let mut copy = [0u8; 92];
+    let mut copy = [0u8; STATE];
     text_print::fixed(&mut copy, 0, state);
     copy
 }

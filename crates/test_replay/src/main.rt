@@ -71,7 +71,7 @@ fn rest(file: i32, at: u32, memory: &[u8], state: &mut [u8], words: &mut [u32]) 
 // The same, with what the case's first line lends: no more than there is.
 fn begun(file: i32, at: u32, line: &[u8]) -> u32 {
     let room = lent::least(stored::number(line, 17, 3) as usize, 1024);
-    let length = lent::least(stored::number(line, 24, 1) as usize, 92);
+    let length = lent::least(stored::number(line, 24, 1) as usize, lent::STATE);
     let memory = lent::memory(line);
     let mut state = lent::state(line);
     let mut words = lent::words();

@@ -1,14 +1,19 @@
 // A line's text, read from the file, and the numbers in it.
 ghost use mathlib.Core.Path.{_≡_};
-ghost use Prim.Native.Nat.{_≤_};
+ghost use Prim.Native.Nat.{_+_, _*_, _≤_};
 ghost use lib.ListN.{length};
+ghost use Rattle.c_state.specs.Bytes.{stateSize};
+use super::lent;
 use text::Number;
 
+// The longest line is the first of a case: 26 bytes, a blank, the digits of the state, and the line feed.
+const LONGEST: usize = 28 + 2 * lent::STATE;
+
 // Room for the longest line.
-pub(crate) fn empty() -> [u8; 212]
-    ensures { λ r. ⌜ 212 ≡ length r ⌝ }
+pub(crate) fn empty() -> [u8; LONGEST]
+    ensures { λ r. ⌜ 30 + 2 * stateSize ≡ length r ⌝ }
 {
-    [0; 212]
+    [0; LONGEST]
 }
 
 // The byte at a place, and 0 behind the last.
@@ -60,14 +65,14 @@ pub(crate) fn short(line: &[u8], at: usize) -> u16
 // How many bytes each field of a letter's line has, in two digits each, the last field first; 0 where no line has the letter.
 fn widths(letter: u8) -> u64 {
     match letter {
-        b'B' => 92_01_03_02_02_02,
+        b'B' => lent::STATE as u64 * 100_00_00_00_00 + 01_03_02_02_02,
         b'W' => 01_01_02,
         b'R' => 01_01,
         b'I' => 01_01,
         b'V' => 02_01,
         b'C' => 01_02,
         b'N' => 03_03_01_08_02,
-        b'E' => 92_04,
+        b'E' => lent::STATE as u64 * 100 + 04,
         _ => 0,
     }
 }
@@ -110,10 +115,10 @@ fn size(text: &[u8]) -> usize {
 
 // Where the answers of a letter's line begin.
 pub(crate) fn answers(letter: u8) -> usize
-    ensures { λ r. ⌜ r ≤ 212 ⌝ }
+    ensures { λ r. ⌜ r ≤ 30 + 2 * stateSize ⌝ }
 {
     match letter {
-        b'B' => 212,
+        b'B' => LONGEST,
         b'N' => 24,
         b'W' => 10,
         b'C' => 7,
