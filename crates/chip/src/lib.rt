@@ -131,12 +131,14 @@ impl State {
         s
     }
 
-    // The DMC reader.
+    // The DMC reader, by itself: a DMC taken whole through `Dmc::fed` would be copied.
     fn fed(self, memory: &[u8]) -> State
         ensures { λ r. ⌜ r ≡ readerClocked (now (memory .entry)) self ⌝ }
     {
+        let mut dmc = self.dmc;
+        dmc.reader = self.dmc.reader.clocked(memory, self.dmc.registers);
         let mut s = self;
-        s.dmc = self.dmc.fed(memory);
+        s.dmc = dmc;
         s
     }
 
