@@ -1,3 +1,5 @@
+pub mod LagLaws
 pub mod LeapLaws
 pub mod PackedLaws
+pub mod RoundLaws
 pub mod TurnLaws

@@ -5,7 +5,7 @@ ghost use Prim.Native.Nat.{_+_, _/_, _%_};
 ghost use Rattle.chip_square.specs.Sequencer.{dutyBit};
 ghost use Rattle.leap_square.specs.Leap.{stepsOf, beatOf, withBeat, dutyRow, beatGives, dutyTurns, squareStill, beatAdvanced, beatTurned};
 ghost use Rattle.leap_square.specs.Packed.{turnsWord};
-ghost use Rattle.leap_square.specs.Lag.{squareLag, squareRenewed, squareBeatAt};
+ghost use Rattle.leap_square.specs.Lag.{squareSpan, squareLag, squareRenewed};
 use chip_square::Sequencer;
 
 // A sequencer in whole numbers: its divider's period, its timer's count, and half flag and position as one count of sixteen.
@@ -15,14 +15,14 @@ pub struct Beat {
     pub steps: u32,
 }
 
-// A square brought up to clock `at`; `next` is the clock of its next possible change, `out` what it gives up to then.
+// A square in a stretch: `next` is the clock of its next possible change, `out` what it gives up to then and `other` what it gives behind it, for
+// `span` clocks; then it gives `out` again, for `after` clocks. A change only swaps these, so that it costs no look-up.
 pub struct SquareLag {
-    pub beat: Beat,
-    pub row: u32,
-    pub amount: u32,
-    pub at: u32,
     pub next: u64,
     pub out: u32,
+    pub other: u32,
+    pub span: u32,
+    pub after: u32,
 }
 
 // Rows by shifts, since a table would be copied at each look-up.
@@ -124,6 +124,14 @@ impl Beat {
         }
     }
 
+    // The clocks up to its next change.
+    fn span(self, row: u32, amount: u32) -> u32
+        ensures { λ r. ⌜ r ≡ squareSpan row amount self ⌝ }
+    {
+        let still = self.still_for(row, amount);
+        ((still + 1) % 4294967296) as u32
+    }
+
     // g clocks on.
     pub fn advance(self, g: u32) -> Beat
         ensures { λ r. ⌜ r ≡ beatAdvanced g self ⌝ }
@@ -153,19 +161,23 @@ impl Beat {
 }
 
 impl SquareLag {
-    // Kept from clock at on.
-    pub fn new(row: u32, amount: u32, beat: Beat, at: u32) -> SquareLag
-        ensures { λ r. ⌜ r ≡ squareLag row amount beat at ⌝ }
+    // Kept from the stretch's start on.
+    pub fn new(row: u32, amount: u32, beat: Beat) -> SquareLag
+        ensures { λ r. ⌜ r ≡ squareLag row amount beat 0 ⌝ }
     {
         let still = beat.still_for(row, amount);
         let out = beat.gives(row, amount);
+        let turned = beat.turn(row);
+        let other = turned.gives(row, amount);
+        let span = turned.span(row, amount);
+        let again = turned.turn(row);
+        let after = again.span(row, amount);
         SquareLag {
-            beat: beat,
-            row: row,
-            amount: amount,
-            at: at,
-            next: at as u64 + still + 1,
+            next: still + 1,
             out: out,
+            other: other,
+            span: span,
+            after: after,
         }
     }
 
@@ -174,17 +186,14 @@ impl SquareLag {
         ensures { λ r. ⌜ r ≡ squareRenewed self e ⌝ }
     {
         if self.next == e as u64 {
-            let beat = self.beat.turn(self.row);
-            return SquareLag::new(self.row, self.amount, beat, e);
+            return SquareLag {
+                next: e as u64 + self.span as u64,
+                out: self.other,
+                other: self.out,
+                span: self.after,
+                after: self.span,
+            };
         }
         self
-    }
-
-    // What its timer moves, at clock k.
-    pub fn beat_at(self, k: u32) -> Beat
-        ensures { λ r. ⌜ r ≡ squareBeatAt self k ⌝ }
-    {
-        let g = arith::minus_u32(k, self.at);
-        self.beat.advance(g)
     }
 }
