@@ -9,26 +9,28 @@ use Rattle.arith.specs.Iterate.{iterate}
 use Rattle.arith.specs.Pick.{pick}
 use Rattle.divider.specs.Divider.{forever}
 use Rattle.leap_stretch.specs.Lag.{Follows}
-use Rattle.leap_stretch.proofs.LagLaws.{lag-start, lag-to, lag-wait}
+use Rattle.leap_stretch.proofs.LagLaws.{lag-start, lag-wait}
 use Rattle.chip_square.specs.Sequencer.{sequencerClock}
 use Rattle.chip_square.specs.Square.{withSequencer, squareAmount, squareOutput}
 use Rattle.leap_square.specs.Leap.{beatOf, withBeat, beatClock, dutyRow, beatGives, squareStill, beatAdvanced, beatTurned}
-use Rattle.leap_square.specs.Lag.{squareLag, squareRenewed, squareBeatAt}
+use Rattle.leap_square.specs.Lag.{squareLag, squareRenewed}
 use Rattle.chip_square.specs.declared.Sequencer.{Sequencer}
 use Rattle.chip_square.specs.declared.Square.{Square}
 use Rattle.leap_square.specs.declared.Beat.{Beat}
 use Rattle.leap_square.specs.declared.SquareLag.{SquareLag}
 use Rattle.chip_square.proofs.RangeLaws.{SquareRanged}
 use Rattle.leap_square.proofs.LeapLaws.{BeatRanged, beat-clocked, beat-ranged, beat-closed, sequencer-beats, square-still, square-turned, square-gives-at}
+use Rattle.leap_square.proofs.LagLaws.{swapped}
 use Rattle.leap_stretch.proofs.TurnLaws.{Leaps, held-fine, turned-follows, held-gives}
 
--- kept at clock `now` of a stretch that began with the square q
+-- kept at clock `now` of a stretch that began with the square q: there is a beat, reached at clock `at`, of which it is what is kept
 pub record SquareKept (second : Bool) (q : Square) (now : ℕ) (l : SquareLag) : Type 0 where
-  pub row : l .row ≡ dutyRow (q .duty)
-  pub amount : l .amount ≡ squareAmount second q
+  pub beat : Beat
+  pub at : ℕ
+  pub kept : l ≡ squareLag (dutyRow (q .duty)) (squareAmount second q) beat at
   pub follows :
       Follows beatClock (beatGives (dutyRow (q .duty)) (squareAmount second q)) (squareStill (dutyRow (q .duty)) (squareAmount second q))
-      (beatOf (q .sequencer)) now (l .beat) (l .at) (l .next) (l .out)
+      (beatOf (q .sequencer)) now beat at (l .next) (l .out)
 
 leaps : (row amount : ℕ) → Leaps beatClock (beatGives row amount) (squareStill row amount) (beatTurned row) BeatRanged
 leaps row amount =
@@ -41,7 +43,7 @@ leaps row amount =
 pub square-start : (second : Bool) (q : Square)
     → SquareKept second q 0 (squareLag (dutyRow (q .duty)) (squareAmount second q) (beatOf (q .sequencer)) 0)
 unfolding squareLag
-square-start second q = record { row = refl; amount = refl; follows = lag-start (beatOf (q .sequencer)) }
+square-start second q = record { beat = beatOf (q .sequencer); at = 0; kept = refl; follows = lag-start (beatOf (q .sequencer)) }
 
 module _ (second : Bool) (q : Square) (r : SquareRanged q) (now : ℕ) (l : SquareLag) (g : SquareKept second q now l) where
   abbrev row : ℕ
@@ -57,14 +59,22 @@ module _ (second : Bool) (q : Square) (r : SquareRanged q) (now : ℕ) (l : Squa
   unfolding squareRenewed squareLag
   square-renewed e h n m = go (eqb (l .next) e) refl
     where
+      b : Beat
+      b = g .beat
+
       go : (t : Bool) → eqb (l .next) e ≡ t
-          → SquareKept second q e (pick t (squareLag (l .row) (l .amount) (beatTurned (l .row) (l .beat)) e) l)
+          → SquareKept second q e
+          (pick t (record { next = e + l .span; out = l .other; other = l .out; span = l .after; after = l .span }) l)
       go true d =
-          rw (g .row, g .amount)
-          (record { row = refl; amount = refl; follows = turned-follows (leaps row amount) fine (g .follows) e (eqb-true _ _ d) m })
+          record {
+            beat = beatTurned row (g .beat);
+            at = e;
+            kept = ?;
+            follows = ?;
+          }
       go false d =
           let ne : l .next ≡ e → ⊥ = eqb-false (l .next) e d in
-          record { row = g .row; amount = g .amount; follows = lag-wait (g .follows) e h (omega arith) }
+          record { beat = g .beat; at = g .at; kept = g .kept; follows = lag-wait (g .follows) e h (omega arith) }
 
   pub square-out : (k : ℕ) → now ≤ k → k < l .next
       → squareOutput second (withSequencer q (iterate sequencerClock k (q .sequencer))) ≡ l .out
@@ -73,10 +83,10 @@ module _ (second : Bool) (q : Square) (r : SquareRanged q) (now : ℕ) (l : Squa
       ∙ square-gives-at second q (iterate beatClock k (beatOf (q .sequencer)))
       ∙ held-gives (leaps row amount) fine (g .follows) k h n
 
-  pub square-at : (k : ℕ) → now ≤ k → withBeat (q .sequencer) (squareBeatAt l k) ≡ iterate sequencerClock k (q .sequencer)
-  unfolding squareBeatAt
-  square-at k h =
-      let b = held-fine (leaps row amount) fine (g .follows) in
-      ap (withBeat (q .sequencer))
-      (sym (beat-closed (k - l .at) (l .beat) (b .n-from) (b .count-from) (b .steps)) ∙ lag-to (g .follows) k (omega (arith, g .follows .begun)))
-      ∙ sym (sequencer-beats (q .sequencer) (r .sequencer) k)
+-- the closed form of its beat is its sequencer's clocks
+pub square-at : (q : Square) → SquareRanged q → (k : ℕ)
+    → withBeat (q .sequencer) (beatAdvanced k (beatOf (q .sequencer))) ≡ iterate sequencerClock k (q .sequencer)
+square-at q r k =
+    let b = beat-ranged (q .sequencer) (r .sequencer) in
+    ap (withBeat (q .sequencer)) (sym (beat-closed k (beatOf (q .sequencer)) (b .n-from) (b .count-from) (b .steps)))
+    ∙ sym (sequencer-beats (q .sequencer) (r .sequencer) k)

@@ -3,13 +3,14 @@
 use Prim.Native.Nat.{ℕ}
 use mathlib.Core.Bool.{true, false}
 use mathlib.Core.List.{List}
-use lib.Dec.{ltb}
+use lib.Dec.{ltb, eqb}
 use Rattle.arith.specs.Pick.{pick}
 use Rattle.chip_square.specs.Square.{squareAmount}
-use Rattle.leap_square.specs.Leap.{beatOf, withBeat, dutyRow}
-use Rattle.leap_square.specs.Lag.{squareLag, squareRenewed, squareBeatAt}
-use Rattle.leap_triangle.specs.Leap.{triangleGate, triangleBeatOf, triangleWithBeat}
-use Rattle.leap_triangle.specs.Lag.{triangleLag, triangleRenewed, triangleBeatAt}
+use Rattle.leap_square.specs.Leap.{beatOf, withBeat, dutyRow, beatAdvanced}
+use Rattle.leap_square.specs.Lag.{squareLag, squareRenewed}
+use Rattle.leap_triangle.specs.Leap.{triangleGate, triangleBeatOf, triangleWithBeat, triangleBeatAdvanced}
+use Rattle.leap_triangle.specs.Lag.{triangleLag, triangleRenewed}
+use Rattle.chip_triangle.specs.Triangle.{triangleAt}
 use Rattle.chip_noise.specs.Noise.{noiseAmount}
 use Rattle.leap_noise.specs.Lag.{noiseLag, noiseRenewed, noiseShifterAt}
 use Rattle.leap_dmc.specs.Lag.{dmcLag, dmcRenewed, dmcAt}
@@ -27,7 +28,8 @@ use Rattle.leap_stretch.specs.declared.Lags.{Lags}
 unfoldable pub sooner : ℕ → ℕ → ℕ
 sooner x y = pick (ltb x y) x y
 
--- the five channels as they are kept at clock `now`: the next event is the soonest change, the level is made from what they give
+-- the five channels as they are kept at clock `now`: the next event is the soonest change, `soon` that of squares and triangle alone; the level is
+-- made from what they give
 unfoldable pub lagsAt : SquareLag → SquareLag → TriangleLag → NoiseLag → DmcLag → ℕ → Lags
 lagsAt a b t n d now =
     record {
@@ -37,8 +39,9 @@ lagsAt a b t n d now =
       noise = n;
       dmc = d;
       now = now;
-      next = sooner (sooner (a .next) (b .next)) (sooner (sooner (t .next) (n .next)) (d .next));
-      level = mixed (a .out) (b .out) (t .out) (n .out) (d .out);
+      soon = sooner (sooner (a .next) (b .next)) (t .next);
+      next = sooner (sooner (sooner (a .next) (b .next)) (t .next)) (sooner (n .next) (d .next));
+      level = mixed (a .out) (b .out) (triangleAt (t .position)) (n .out) (d .out);
     }
 
 -- at the start of a stretch
@@ -51,16 +54,20 @@ lagsOf s =
     (dmcLag (dmcPeriod (s .dmc .registers .index)) (s .dmc) 0)
     0
 
--- the event at clock e: whoever is due is brought up to it
+-- the event at clock e: squares and triangle where one of them is due, the others as they are given
+unfoldable pub renewedWith : Lags → NoiseLag → DmcLag → ℕ → Lags
+renewedWith l n d e =
+    pick (eqb (l .soon) e)
+    (lagsAt (squareRenewed (l .square1) e) (squareRenewed (l .square2) e) (triangleRenewed (l .triangle) e) n d e)
+    (lagsAt (l .square1) (l .square2) (l .triangle) n d e)
+
+-- whoever is due is brought up to it
 unfoldable pub renewed : List ℕ → Lags → ℕ → Lags
-renewed memory l e =
-    lagsAt (squareRenewed (l .square1) e) (squareRenewed (l .square2) e) (triangleRenewed (l .triangle) e) (noiseRenewed (l .noise) e)
-    (dmcRenewed memory (l .dmc) e) e
+renewed memory l e = renewedWith l (noiseRenewed (l .noise) e) (dmcRenewed memory (l .dmc) e) e
 
 -- Helper: the same event with the DMC left as it is, which is right where it isn't due
 unfoldable pub soundsRenewed : Lags → ℕ → Lags
-soundsRenewed l e =
-    lagsAt (squareRenewed (l .square1) e) (squareRenewed (l .square2) e) (triangleRenewed (l .triangle) e) (noiseRenewed (l .noise) e) (l .dmc) e
+soundsRenewed l e = renewedWith l (noiseRenewed (l .noise) e) (l .dmc) e
 
 -- Helper: the same event with noise and DMC left as they are
 unfoldable pub voicesRenewed : Lags → ℕ → Lags
@@ -70,6 +77,7 @@ voicesRenewed l e =
 -- the whole state at clock k of a stretch that began in s
 unfoldable pub stateAt : State → Lags → ℕ → State
 stateAt s l k =
-    stateWith (withBeat (s .square1 .sequencer) (squareBeatAt (l .square1) k)) (withBeat (s .square2 .sequencer) (squareBeatAt (l .square2) k))
-    (triangleWithBeat (s .triangle .sequencer) (triangleBeatAt (l .triangle) k)) (noiseShifterAt (l .noise) k) (dmcAt (l .dmc) k)
-    (framePassed k (s .frame)) s
+    stateWith (withBeat (s .square1 .sequencer) (beatAdvanced k (beatOf (s .square1 .sequencer))))
+    (withBeat (s .square2 .sequencer) (beatAdvanced k (beatOf (s .square2 .sequencer))))
+    (triangleWithBeat (s .triangle .sequencer) (triangleBeatAdvanced (triangleGate (s .triangle)) k (triangleBeatOf (s .triangle .sequencer))))
+    (noiseShifterAt (l .noise) k) (dmcAt (l .dmc) k) (framePassed k (s .frame)) s

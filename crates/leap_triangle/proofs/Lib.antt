@@ -1,1 +1,2 @@
+pub mod LagLaws
 pub mod LeapLaws

@@ -4,7 +4,7 @@ ghost use mathlib.Core.Path.{_≡_};
 ghost use Prim.Native.Nat.{_+_, _%_};
 ghost use Rattle.chip_triangle.specs.Triangle.{triangleAt};
 ghost use Rattle.leap_triangle.specs.Leap.{triangleGate, triangleBeatOf, triangleWithBeat, positionAfter, triangleGives, triangleStill, triangleBeatAdvanced, triangleBeatTurned};
-ghost use Rattle.leap_triangle.specs.Lag.{triangleLag, triangleRenewed, triangleBeatAt};
+ghost use Rattle.leap_triangle.specs.Lag.{triangleLag, triangleRenewed};
 use chip_triangle::Sequencer;
 use chip_triangle::Triangle;
 
@@ -15,14 +15,12 @@ pub struct Beat {
     pub position: u32,
 }
 
-// The triangle brought up to clock `at`; `next` is the clock of its next possible change, `out` what it gives up to then. `on` is 1 where its
-// counters let it advance, else 0.
+// The triangle in a stretch: `next` is the clock of its next possible change, `position` where it stands up to then, and `still` for how many
+// clocks it surely gives the same behind each change.
 pub struct TriangleLag {
-    pub beat: Beat,
-    pub on: u32,
-    pub at: u32,
     pub next: u64,
-    pub out: u32,
+    pub position: u32,
+    pub still: u32,
 }
 
 // 1 where its two counters let it advance, else 0.
@@ -122,18 +120,17 @@ impl Beat {
 }
 
 impl TriangleLag {
-    // Kept from clock at on.
-    pub fn new(on: u32, beat: Beat, at: u32) -> TriangleLag
-        ensures { λ r. ⌜ r ≡ triangleLag on beat at ⌝ }
+    // Kept from the stretch's start on; `on` is 1 where its counters let it advance, else 0.
+    pub fn new(on: u32, beat: Beat) -> TriangleLag
+        ensures { λ r. ⌜ r ≡ triangleLag on beat 0 ⌝ }
     {
         let still = beat.still_for(on);
-        let out = beat.gives();
+        let turned = beat.turn();
+        let after = turned.still_for(on);
         TriangleLag {
-            beat: beat,
-            on: on,
-            at: at,
-            next: at as u64 + still as u64 + 1,
-            out: out,
+            next: still as u64 + 1,
+            position: beat.position,
+            still: after,
         }
     }
 
@@ -141,18 +138,21 @@ impl TriangleLag {
     pub fn renewed(self, e: u32) -> TriangleLag
         ensures { λ r. ⌜ r ≡ triangleRenewed self e ⌝ }
     {
+        let position = position_on(self.position, 1);
         if self.next == e as u64 {
-            let beat = self.beat.turn();
-            return TriangleLag::new(self.on, beat, e);
+            return TriangleLag {
+                next: e as u64 + self.still as u64 + 1,
+                position: position,
+                still: self.still,
+            };
         }
         self
     }
 
-    // What its timer moves, at clock k.
-    pub fn beat_at(self, k: u32) -> Beat
-        ensures { λ r. ⌜ r ≡ triangleBeatAt self k ⌝ }
+    // What it gives up to its next change.
+    pub fn gives(self) -> u32
+        ensures { λ r. ⌜ r ≡ triangleAt (self .position) ⌝ }
     {
-        let g = arith::minus_u32(k, self.at);
-        self.beat.advance(self.on, g)
+        value_after(self.position)
     }
 }

@@ -1,3 +1,4 @@
+use borrow.Author.Needs.{needs}
 use borrow.Author.Tests.{eq-eqb, ne-eqb}
 use Rattle.leap_triangle.specs.Lag.{triangleRenewed}
 use Rattle.leap_triangle.proofs.TriangleLag.renewed.Statement.{statement}
@@ -5,11 +6,11 @@ use Rattle.leap_triangle.proofs.TriangleLag.renewed.Tie as tie
 
 returns : tie.Need-returns
 unfolding triangleRenewed
-returns c = simp (c .new .ensures, c .before .turn .ensures, eq-eqb _ _ (c .before .before .if1 .taken))
+returns c = simp (c .before .before .before .position-on .ensures, eq-eqb _ _ (c .before .if1 .taken))
 
 returns-2 : tie.Need-returns-2
 unfolding triangleRenewed
 returns-2 c = simp (ne-eqb _ _ (c .if1 .left))
 
 pub renewed-spec : {M : Type 1} → statement M
-renewed-spec = tie.close (tie.spec (λ c κs. tt) (λ c κs. tt) returns returns-2)
+renewed-spec = tie.close (tie.spec (λ c κs. tt) (λ c. search needs) (λ c. search needs) (λ c. search needs) returns returns-2)
