@@ -23,17 +23,10 @@ turned-ranged row b r =
     record { n-from = r .n-from; n-to = r .n-to; count-from = r .n-from; count-to = r .n-to; steps = omega arith }
 
 -- AT ITS NEXT CHANGE
-pub swapped : (row amount : ℕ) (b : Beat) → BeatRanged b → (at e : ℕ)
-    → record {
-      next = e + squareLag row amount b at .span;
-      out = squareLag row amount b at .other;
-      other = squareLag row amount b at .out;
-      span = squareLag row amount b at .after;
-      after = squareLag row amount b at .span;
-    }
-    ≡ squareLag row amount (beatTurned row b) e
+pub swapped : (row amount : ℕ) (b : Beat) → BeatRanged b → (at e : ℕ) (l : SquareLag) → l ≡ squareLag row amount b at
+    → record { next = e + l .span; out = l .other; other = l .out; span = l .after; after = l .span } ≡ squareLag row amount (beatTurned row b) e
 unfolding squareLag
-swapped row amount b r at e =
+swapped row amount b r at e l q =
     let s = squareStill row amount (beatTurned row b) in
     let z : e + (s + 1) ≡ e + s + 1 = omega arith in
-    rw (gives-again row b (r .steps) amount, turned-again row b (r .steps), span-is row amount (beatTurned row b) (turned-ranged row b r), z) refl
+    rw (q, gives-again row b (r .steps) amount, turned-again row b (r .steps), span-is row amount (beatTurned row b) (turned-ranged row b r), z) refl

@@ -4,12 +4,13 @@ use mathlib.Core.Path.{_≡_, refl, sym, ap, _∙_}
 use mathlib.Core.Bool.{Bool, true, false}
 use mathlib.Core.List.{List}
 use native.Mathlib.Omega.{arith}
-use lib.Dec.{ltb}
-use borrow.Author.Tests.{ltb-true, ltb-false}
+use lib.Dec.{eqb, ltb}
+use borrow.Author.Tests.{eqb-false, lt-ltb, ltb-true, ltb-false}
 use Rattle.arith.specs.Iterate.{iterate}
 use Rattle.arith.specs.Pick.{pick}
 use Rattle.divider.specs.Divider.{forever}
 use Rattle.chip_mixer.specs.Mixer.{mixed}
+use Rattle.chip_triangle.specs.Triangle.{triangleAt}
 use Rattle.chip_frame.specs.Leap.{frameBefore}
 use Rattle.chip_frame.proofs.LeapLaws.{before-most}
 use Rattle.chip.specs.Clock.{chipClock}
@@ -24,10 +25,10 @@ use Rattle.leap_square.specs.declared.SquareLag.{SquareLag}
 use Rattle.leap_triangle.specs.declared.TriangleLag.{TriangleLag}
 use Rattle.leap_noise.specs.declared.lag.NoiseLag.{NoiseLag}
 use Rattle.leap_dmc.specs.declared.lag.DmcLag.{DmcLag}
-use Rattle.leap_stretch.specs.Lagged.{sooner, lagsAt, lagsOf, renewed, stateAt}
+use Rattle.leap_stretch.specs.Lagged.{sooner, lagsAt, lagsOf, renewedWith, renewed, stateAt}
 use Rattle.leap_stretch.specs.declared.Lags.{Lags}
-use Rattle.leap_stretch.proofs.SquareLaws.{SquareKept, square-start, square-renewed, square-out, square-at}
-use Rattle.leap_stretch.proofs.TriangleLaws.{TriangleKept, triangle-start, triangle-renewed, triangle-out, triangle-at}
+use Rattle.leap_stretch.proofs.SquareLaws.{SquareKept, square-start, square-kept, square-out, square-at}
+use Rattle.leap_stretch.proofs.TriangleLaws.{TriangleKept, triangle-start, triangle-kept, triangle-out, triangle-at}
 use Rattle.leap_stretch.proofs.NoiseLaws.{NoiseKept, noise-start, noise-renewed, noise-out, noise-at}
 use Rattle.leap_stretch.proofs.DmcLaws.{DmcKept, dmc-start, dmc-renewed, dmc-out, dmc-at}
 
@@ -55,9 +56,9 @@ pub record Lagging (memory : List ℕ) (s : State) (l : Lags) : Type 0 where
   pub triangle : TriangleKept (s .triangle) (l .now) (l .triangle)
   pub noise : NoiseKept (noisePeriod (s .noise .index)) (s .noise) (l .now) (l .noise)
   pub dmc : DmcKept memory (dmcPeriod (s .dmc .registers .index)) (s .dmc) (l .now) (l .dmc)
-  pub next :
-      l .next ≡ sooner (sooner (l .square1 .next) (l .square2 .next)) (sooner (sooner (l .triangle .next) (l .noise .next)) (l .dmc .next))
-  pub level : l .level ≡ mixed (l .square1 .out) (l .square2 .out) (l .triangle .out) (l .noise .out) (l .dmc .out)
+  pub soon : l .soon ≡ sooner (sooner (l .square1 .next) (l .square2 .next)) (l .triangle .next)
+  pub next : l .next ≡ sooner (l .soon) (sooner (l .noise .next) (l .dmc .next))
+  pub level : l .level ≡ mixed (l .square1 .out) (l .square2 .out) (triangleAt (l .triangle .position)) (l .noise .out) (l .dmc .out)
 
 -- the start of a stretch
 pub lagging-start : (memory : List ℕ) (s : State) → Lagging memory s (lagsOf s)
@@ -69,23 +70,40 @@ lagging-start memory s =
       triangle = triangle-start (s .triangle);
       noise = noise-start (noisePeriod (s .noise .index)) (s .noise);
       dmc = dmc-start memory (dmcPeriod (s .dmc .registers .index)) (s .dmc);
+      soon = refl;
       next = refl;
       level = refl;
     }
 
 module _ (memory : List ℕ) (s : State) (l : Lags) (g : Lagging memory s l) where
   -- the next event is past now, and no channel's own is before it
+  soon-past : l .now < l .soon
+  soon-past =
+      rw (g .soon)
+      (sooner-past (l .now) (sooner (l .square1 .next) (l .square2 .next)) (l .triangle .next)
+      (sooner-past (l .now) (l .square1 .next) (l .square2 .next) (g .square1 .follows .ahead) (g .square2 .follows .ahead))
+      (g .triangle .follows .ahead))
+
   pub next-past : l .now < l .next
   next-past =
       rw (g .next)
-      (sooner-past (l .now) (sooner (l .square1 .next) (l .square2 .next)) (sooner (sooner (l .triangle .next) (l .noise .next)) (l .dmc .next))
-      (sooner-past (l .now) (l .square1 .next) (l .square2 .next) (g .square1 .follows .ahead) (g .square2 .follows .ahead))
-      (sooner-past (l .now) (sooner (l .triangle .next) (l .noise .next)) (l .dmc .next)
-      (sooner-past (l .now) (l .triangle .next) (l .noise .next) (g .triangle .follows .ahead) (g .noise .follows .ahead))
-      (g .dmc .follows .ahead)))
+      (sooner-past (l .now) (l .soon) (sooner (l .noise .next) (l .dmc .next)) soon-past
+      (sooner-past (l .now) (l .noise .next) (l .dmc .next) (g .noise .follows .ahead) (g .dmc .follows .ahead)))
+
+  -- where neither noise nor DMC is due, the next event is one of squares and triangle
+  pub next-soon : l .soon < l .noise .next → l .soon < l .dmc .next → l .next ≡ l .soon
+  unfolding sooner
+  next-soon n d =
+      g .next
+      ∙ ap (λ (t : Bool). pick t (l .soon) (sooner (l .noise .next) (l .dmc .next)))
+      (lt-ltb (l .soon) (sooner (l .noise .next) (l .dmc .next)) (sooner-past (l .soon) (l .noise .next) (l .dmc .next) n d))
 
   -- what each channel's next change is at least
   pub record Soonest (a b t n d : ℕ) : Type 0 where
+    pub voices : l .next ≤ l .soon
+    pub soon1 : l .soon ≤ a
+    pub soon2 : l .soon ≤ b
+    pub soon3 : l .soon ≤ t
     pub square1 : l .next ≤ a
     pub square2 : l .next ≤ b
     pub triangle : l .next ≤ t
@@ -95,16 +113,21 @@ module _ (memory : List ℕ) (s : State) (l : Lags) (g : Lagging memory s l) whe
   pub next-most : Soonest (l .square1 .next) (l .square2 .next) (l .triangle .next) (l .noise .next) (l .dmc .next)
   next-most =
       let ab = sooner-most (l .square1 .next) (l .square2 .next) in
-      let tn = sooner-most (l .triangle .next) (l .noise .next) in
-      let tnd = sooner-most (sooner (l .triangle .next) (l .noise .next)) (l .dmc .next) in
-      let all = sooner-most (sooner (l .square1 .next) (l .square2 .next)) (sooner (sooner (l .triangle .next) (l .noise .next)) (l .dmc .next)) in
+      let abt = sooner-most (sooner (l .square1 .next) (l .square2 .next)) (l .triangle .next) in
+      let nd = sooner-most (l .noise .next) (l .dmc .next) in
+      let all = sooner-most (l .soon) (sooner (l .noise .next) (l .dmc .next)) in
+      let s = g .soon in
       let e = g .next in
       record {
-        square1 = omega (arith, ab .0, all .0);
-        square2 = omega (arith, ab .1, all .0);
-        triangle = omega (arith, tn .0, tnd .0, all .1);
-        noise = omega (arith, tn .1, tnd .0, all .1);
-        dmc = omega (arith, tnd .1, all .1);
+        voices = omega (arith, all .0);
+        soon1 = omega (arith, ab .0, abt .0);
+        soon2 = omega (arith, ab .1, abt .0);
+        soon3 = omega (arith, abt .1);
+        square1 = omega (arith, ab .0, abt .0, all .0);
+        square2 = omega (arith, ab .1, abt .0, all .0);
+        triangle = omega (arith, abt .1, all .0);
+        noise = omega (arith, nd .0, all .1);
+        dmc = omega (arith, nd .1, all .1);
       }
 
 module _ (memory : List ℕ) (bytes : Bytes memory) (s : State) (r : StateRanged s) (l : Lags) (g : Lagging memory s l) where
@@ -116,18 +139,23 @@ module _ (memory : List ℕ) (bytes : Bytes memory) (s : State) (r : StateRanged
 
   -- ONE EVENT
   pub lagging-renewed : l .next ≤ forever → Lagging memory s (renewed memory l (l .next))
-  unfolding renewed lagsAt
+  unfolding renewed renewedWith lagsAt
   lagging-renewed f =
       let p = next-past memory s l g in
       let m = next-most memory s l g in
+      let due : Bool = eqb (l .soon) (l .next) in
+      let late : (x : ℕ) → l .soon ≤ x → due ≡ false → l .next < x =
+      λ x h z. let ne : l .soon ≡ l .next → ⊥ = eqb-false (l .soon) (l .next) z in omega (arith, m .voices)
+      in
       let pn = noise-period-range (s .noise .index) in
       let pd = dmc-period-range (s .dmc .registers .index) in
       record {
-        square1 = square-renewed false (s .square1) (r .square1) (l .now) (l .square1) (g .square1) (l .next) (omega arith) (m .square1) f;
-        square2 = square-renewed true (s .square2) (r .square2) (l .now) (l .square2) (g .square2) (l .next) (omega arith) (m .square2) f;
-        triangle = triangle-renewed (s .triangle) (r .triangle) (l .now) (l .triangle) (g .triangle) (l .next) (omega arith) (m .triangle) f;
+        square1 = square-kept false (s .square1) (r .square1) (l .now) (l .square1) (g .square1) (l .next) (omega arith) (m .square1) f due (late _ (m .soon1));
+        square2 = square-kept true (s .square2) (r .square2) (l .now) (l .square2) (g .square2) (l .next) (omega arith) (m .square2) f due (late _ (m .soon2));
+        triangle = triangle-kept (s .triangle) (r .triangle) (l .now) (l .triangle) (g .triangle) (l .next) (omega arith) (m .triangle) f due (late _ (m .soon3));
         noise = noise-renewed noise-n (pn .0) (pn .1) (s .noise) (r .noise) (l .now) (l .noise) (g .noise) (l .next) (omega arith) (m .noise) f;
         dmc = dmc-renewed memory bytes dmc-n (pd .0) (pd .1) (s .dmc) (r .dmc) (l .now) (l .dmc) (g .dmc) (l .next) (omega arith) (m .dmc) f;
+        soon = refl;
         next = refl;
         level = refl;
       }
@@ -154,9 +182,9 @@ module _ (memory : List ℕ) (bytes : Bytes memory) (s : State) (r : StateRanged
         let m = next-most memory s l g in
         let pn = noise-period-range (s .noise .index) in
         let pd = dmc-period-range (s .dmc .registers .index) in
-        let a = square-at false (s .square1) (r .square1) (l .now) (l .square1) (g .square1) k from in
-        let b = square-at true (s .square2) (r .square2) (l .now) (l .square2) (g .square2) k from in
-        let t = triangle-at (s .triangle) (r .triangle) (l .now) (l .triangle) (g .triangle) k from in
+        let a = square-at (s .square1) (r .square1) k in
+        let b = square-at (s .square2) (r .square2) k in
+        let t = triangle-at (s .triangle) (r .triangle) k in
         let n = noise-at noise-n (pn .0) (pn .1) (s .noise) (r .noise) (l .now) (l .noise) (g .noise) k from in
         let d = dmc-at memory bytes dmc-n (pd .0) (pd .1) (s .dmc) (r .dmc) (l .now) (l .dmc) (g .dmc) k from (omega (arith, m .dmc)) in
         rw (a, b, t, n, d) (sym (between memory s (r .frame) k few))
@@ -164,7 +192,7 @@ module _ (memory : List ℕ) (bytes : Bytes memory) (s : State) (r : StateRanged
 -- at the event the kept level is the machine's
 pub event-level : (memory : List ℕ) (bytes : Bytes memory) (s : State) (r : StateRanged s) (l : Lags) (g : Lagging memory s l)
     → l .next ≤ frameBefore (s .frame) → stateLevel (iterate (chipClock memory) (l .next) s) ≡ renewed memory l (l .next) .level
-unfolding renewed lagsAt
+unfolding renewed renewedWith lagsAt
 event-level memory bytes s r l g few =
     let f : l .next ≤ forever = omega (arith, before-most (s .frame)) in
     let e = lagging-renewed memory bytes s r l g f in

@@ -8,12 +8,12 @@ use borrow.Author.Tests.{eq-eqb}
 use Rattle.divider.specs.Divider.{forever}
 use Rattle.chip_square.specs.Square.{squareAmount}
 use Rattle.leap_square.specs.Leap.{squareStill}
-use Rattle.leap_square.specs.Lag.{squareLag, squareBeatAt}
+use Rattle.leap_square.specs.Lag.{squareLag}
 use Rattle.chip_square.specs.declared.Square.{Square}
 use Rattle.leap_square.specs.declared.Beat as square1
 use Rattle.chip_triangle.specs.Triangle.{runs}
 use Rattle.leap_triangle.specs.Leap.{triangleGate, triangleStill}
-use Rattle.leap_triangle.specs.Lag.{triangleLag, triangleBeatAt}
+use Rattle.leap_triangle.specs.Lag.{triangleLag}
 use Rattle.chip_triangle.specs.declared.Triangle.{Triangle}
 use Rattle.leap_triangle.specs.declared.Beat as triangle1
 use Rattle.chip_noise.specs.Noise.{noiseAmount}
@@ -58,7 +58,7 @@ quiet-leaps s q =
     let t = far _ (triangle-still (s .triangle) (q .triangle) _) in
     let n = far _ (noise-still (s .noise) (q .noise) _ _) in
     let d = far _ (idle-forever (dmcPeriod (s .dmc .registers .index)) (s .dmc) i) in
-    sooner-past _ _ _ (sooner-past _ _ _ a b) (sooner-past _ _ _ (sooner-past _ _ _ t n) d)
+    sooner-past _ _ _ (sooner-past _ _ _ (sooner-past _ _ _ a b) t) (sooner-past _ _ _ n d)
 
 gate-shut : (t : Triangle) → t .length .count ≡ 0 → triangleGate t ≡ 0
 unfolding triangleGate runs
@@ -66,7 +66,7 @@ gate-shut t z = rw z
 
 -- and the state that it makes of k clocks of it is the law's
 pub quiet-passed : (s : State) → StateRanged s → Quiet s → (k : ℕ) → k ≤ frameBefore (s .frame) → stateAt s (lagsOf s) k ≡ quietAfter k s
-unfolding stateAt lagsOf lagsAt squareLag triangleLag noiseLag dmcLag squareBeatAt triangleBeatAt noiseShifterAt dmcAt quietAfter
+unfolding stateAt lagsOf lagsAt squareLag triangleLag noiseLag dmcLag noiseShifterAt dmcAt quietAfter
 quiet-passed s r q k few =
     rw (sub-zero k, gate-shut (s .triangle) (q .triangle))
     (rw (square-plain (s .square1 .sequencer) (r .square1 .sequencer) k, square-plain (s .square2 .sequencer) (r .square2 .sequencer) k, triangle-plain (s .triangle .sequencer) (r .triangle .sequencer) k, frame-plain (s .frame) (r .frame) k few) refl)

@@ -1,6 +1,6 @@
 -- A square as a stretch keeps it. Assumes nothing.
 use Prim.Native.Nat.{ℕ, _+_, _-_, _≤_, _<_}
-use mathlib.Core.Path.{_≡_, refl, sym, ap, _∙_}
+use mathlib.Core.Path.{_≡_, refl, sym, ap, _∙_, subst}
 use mathlib.Core.Bool.{Bool, true, false}
 use native.Mathlib.Omega.{arith}
 use lib.Dec.{eqb}
@@ -55,26 +55,35 @@ module _ (second : Bool) (q : Square) (r : SquareRanged q) (now : ℕ) (l : Squa
   fine : BeatRanged (beatOf (q .sequencer))
   fine = beat-ranged (q .sequencer) (r .sequencer)
 
-  pub square-renewed : (e : ℕ) → now ≤ e → e ≤ l .next → e ≤ forever → SquareKept second q e (squareRenewed l e)
+  -- it waits up to its next change
+  square-waits : (e : ℕ) → now ≤ e → e < l .next → SquareKept second q e l
+  square-waits e h n = record { beat = g .beat; at = g .at; kept = g .kept; follows = lag-wait (g .follows) e h n }
+
+  square-renewed : (e : ℕ) → now ≤ e → e ≤ l .next → e ≤ forever → SquareKept second q e (squareRenewed l e)
   unfolding squareRenewed squareLag
   square-renewed e h n m = go (eqb (l .next) e) refl
     where
-      b : Beat
-      b = g .beat
-
       go : (t : Bool) → eqb (l .next) e ≡ t
           → SquareKept second q e
           (pick t (record { next = e + l .span; out = l .other; other = l .out; span = l .after; after = l .span }) l)
       go true d =
-          record {
+          subst (SquareKept second q e)
+          (sym (swapped row amount (g .beat) (held-fine (leaps row amount) fine (g .follows)) (g .at) e l (g .kept)))
+          (record {
             beat = beatTurned row (g .beat);
             at = e;
-            kept = ?;
-            follows = ?;
-          }
+            kept = refl;
+            follows = turned-follows (leaps row amount) fine (g .follows) e (eqb-true _ _ d) m;
+          })
       go false d =
           let ne : l .next ≡ e → ⊥ = eqb-false (l .next) e d in
-          record { beat = g .beat; at = g .at; kept = g .kept; follows = lag-wait (g .follows) e h (omega arith) }
+          square-waits e h (omega arith)
+
+  -- at an event at which it is looked at, or isn't due
+  pub square-kept : (e : ℕ) → now ≤ e → e ≤ l .next → e ≤ forever → (t : Bool) → (t ≡ false → e < l .next)
+      → SquareKept second q e (pick t (squareRenewed l e) l)
+  square-kept e h n m true w = square-renewed e h n m
+  square-kept e h n m false w = square-waits e h (w refl)
 
   pub square-out : (k : ℕ) → now ≤ k → k < l .next
       → squareOutput second (withSequencer q (iterate sequencerClock k (q .sequencer))) ≡ l .out

@@ -3,10 +3,10 @@ use Prim.Native.Nat.{ℕ, _<_}
 use mathlib.Core.Path.{_≡_, refl}
 use mathlib.Core.List.{List}
 use native.Mathlib.Omega.{arith}
-use borrow.Author.Tests.{ne-eqb}
+use borrow.Author.Tests.{eq-eqb, ne-eqb}
 use Rattle.leap_noise.specs.Lag.{noiseRenewed}
 use Rattle.leap_dmc.specs.Lag.{dmcRenewed}
-use Rattle.leap_stretch.specs.Lagged.{renewed, soundsRenewed, voicesRenewed}
+use Rattle.leap_stretch.specs.Lagged.{renewedWith, renewed, soundsRenewed, voicesRenewed}
 use Rattle.leap_stretch.specs.declared.Lags.{Lags}
 use Rattle.leap_noise.specs.declared.lag.NoiseLag.{NoiseLag}
 use Rattle.leap_dmc.specs.declared.lag.DmcLag.{DmcLag}
@@ -24,7 +24,8 @@ pub sounds-renewed : (memory : List ℕ) (l : Lags) (e : ℕ) → e < l .dmc .ne
 unfolding soundsRenewed renewed
 sounds-renewed memory l e h = rw (dmc-waits memory (l .dmc) e h) refl
 
--- an event at which neither noise nor DMC is due
-pub voices-renewed : (memory : List ℕ) (l : Lags) (e : ℕ) → e < l .noise .next → e < l .dmc .next → voicesRenewed l e ≡ renewed memory l e
-unfolding voicesRenewed renewed
-voices-renewed memory l e g h = rw (noise-waits (l .noise) e g, dmc-waits memory (l .dmc) e h) refl
+-- an event of squares and triangle at which neither noise nor DMC is due
+pub voices-renewed : (memory : List ℕ) (l : Lags) (e : ℕ) → l .soon ≡ e → e < l .noise .next → e < l .dmc .next
+    → voicesRenewed l e ≡ renewed memory l e
+unfolding voicesRenewed renewed renewedWith
+voices-renewed memory l e z g h = rw (eq-eqb (l .soon) e z, noise-waits (l .noise) e g, dmc-waits memory (l .dmc) e h) refl

@@ -54,14 +54,13 @@ lagsOf s =
     (dmcLag (dmcPeriod (s .dmc .registers .index)) (s .dmc) 0)
     0
 
--- the event at clock e: squares and triangle where one of them is due, the others as they are given
+-- an event at clock e: squares and triangle are brought up to it where one of them is due, the others are as they are given
 unfoldable pub renewedWith : Lags → NoiseLag → DmcLag → ℕ → Lags
 renewedWith l n d e =
-    pick (eqb (l .soon) e)
-    (lagsAt (squareRenewed (l .square1) e) (squareRenewed (l .square2) e) (triangleRenewed (l .triangle) e) n d e)
-    (lagsAt (l .square1) (l .square2) (l .triangle) n d e)
+    lagsAt (pick (eqb (l .soon) e) (squareRenewed (l .square1) e) (l .square1)) (pick (eqb (l .soon) e) (squareRenewed (l .square2) e) (l .square2))
+    (pick (eqb (l .soon) e) (triangleRenewed (l .triangle) e) (l .triangle)) n d e
 
--- whoever is due is brought up to it
+-- the event at clock e: whoever is due is brought up to it
 unfoldable pub renewed : List ℕ → Lags → ℕ → Lags
 renewed memory l e = renewedWith l (noiseRenewed (l .noise) e) (dmcRenewed memory (l .dmc) e) e
 

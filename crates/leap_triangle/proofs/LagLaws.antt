@@ -6,12 +6,7 @@ use Rattle.leap_triangle.specs.Lag.{triangleLag}
 use Rattle.leap_triangle.specs.declared.Beat.{Beat}
 use Rattle.leap_triangle.specs.declared.TriangleLag.{TriangleLag}
 
-pub moved : (on : ℕ) (b : Beat) (at e : ℕ)
-    → record {
-      next = e + triangleLag on b at .still + 1;
-      position = (triangleLag on b at .position + 1) % 32;
-      still = triangleLag on b at .still;
-    }
-    ≡ triangleLag on (triangleBeatTurned b) e
+pub moved : (on : ℕ) (b : Beat) (at e : ℕ) (l : TriangleLag) → l ≡ triangleLag on b at
+    → record { next = e + l .still + 1; position = (l .position + 1) % 32; still = l .still } ≡ triangleLag on (triangleBeatTurned b) e
 unfolding triangleLag triangleStill triangleBeatTurned
-moved on b at e = refl
+moved on b at e l q = rw q refl
