@@ -19,9 +19,10 @@ use Rattle.chip.specs.Level.{stateLevel}
 use Rattle.chip.specs.Range.{inRange, Bytes}
 use Rattle.chip.specs.declared.State.{State}
 use Rattle.chip.proofs.RangeLaws.{StateRanged, state-in, state-back, clock-kept}
-use Rattle.leap_stretch.specs.Lagged.{sooner, lagsAt, lagsOf, renewed, stateAt}
+use Rattle.leap_stretch.specs.Lagged.{sooner, lagsAt, lagsOf, renewedWith, renewed, voicesRenewed, stateAt}
 use Rattle.leap_stretch.specs.declared.Lags.{Lags}
-use Rattle.leap_stretch.proofs.LaggedLaws.{sooner-most, Lagging, lagging-start, next-past, lagging-renewed, lagging-level, lagging-state, event-level}
+use Rattle.leap_stretch.proofs.LaggedLaws.{sooner-most, Lagging, lagging-start, next-past, next-soon, lagging-renewed, lagging-level, lagging-state, event-level}
+use Rattle.leap_stretch.proofs.WaitLaws.{voices-renewed}
 use Rattle.run_answer.specs.Run.{roomOf, stored}
 use Rattle.run_answer.specs.Held.{Held}
 use Rattle.run_answer.proofs.WordLaws.{stored-in}
@@ -202,7 +203,7 @@ module _ (memory : List ℕ) (bytes : Bytes memory) (s : State) (end base from r
     -- an event that leaves the level
     worked-same : renewed memory l (l .next) .level ≡ l .level
         → Worked memory s end base from records before words (renewed memory l (l .next)) n
-    unfolding renewed lagsAt
+    unfolding renewed renewedWith lagsAt
     worked-same q =
         let p = past in
         record {
@@ -231,7 +232,7 @@ module _ (memory : List ℕ) (bytes : Bytes memory) (s : State) (end base from r
     worked-mark : (renewed memory l (l .next) .level ≡ l .level → ⊥) → n < roomOf words
         → Worked memory s end base from records before (stored words n (base + l .next) (renewed memory l (l .next) .level))
         (renewed memory l (l .next)) (n + 1)
-    unfolding renewed lagsAt
+    unfolding renewed renewedWith lagsAt
     worked-mark q m =
         let p = past in
         let same : length (stored words n (base + l .next) (renewed memory l (l .next) .level)) ≡ length words =
@@ -274,5 +275,26 @@ module _ (memory : List ℕ) (bytes : Bytes memory) (s : State) (end base from r
 
 -- an event is at the clock that was its next
 pub event-now : (memory : List ℕ) (l : Lags) (e : ℕ) → renewed memory l e .now ≡ e
-unfolding renewed lagsAt
+unfolding renewed renewedWith lagsAt
 event-now memory l e = refl
+
+-- an event of squares and triangle, at which neither noise nor DMC is due, is the next one
+pub voices-next : (memory : List ℕ) (s : State) (end base from records : ℕ) (before words : List ℕ) (l : Lags) (n : ℕ)
+    → Worked memory s end base from records before words l n → l .soon < l .noise .next → l .soon < l .dmc .next → l .next ≡ l .soon
+voices-next memory s end base from records before words l n w p q = next-soon memory s l (w .standing .lagging) p q
+
+pub voices-event : (memory : List ℕ) (bytes : Bytes memory) (s : State) (end base from records : ℕ) (before words : List ℕ) (l : Lags) (n : ℕ)
+    → Worked memory s end base from records before words l n → l .soon ≤ end → l .soon < l .noise .next → l .soon < l .dmc .next
+    → n < roomOf words → (after : Lags) → after ≡ voicesRenewed l (l .soon) → (now : List ℕ) (m : ℕ)
+    → m ≡ pick (eqb (after .level) (l .level)) n (n + 1)
+    → now ≡ pick (eqb (after .level) (l .level)) words (stored words n (base + l .soon) (after .level))
+    → Worked memory s end base from records before now after m
+voices-event memory bytes s end base from records before words l n w h p q room after y now m c d =
+    let z = voices-next memory s end base from records before words l n w p q in
+    worked-event memory bytes s end base from records before words l n w (omega arith) room after
+    (y ∙ voices-renewed memory l (l .soon) refl p q ∙ ap (renewed memory l) (sym z)) now m c
+    (d ∙ ap (λ (k : ℕ). pick (eqb (after .level) (l .level)) words (stored words n (base + k) (after .level))) (sym z))
+
+pub voices-now : (l : Lags) (e : ℕ) → voicesRenewed l e .now ≡ e
+unfolding voicesRenewed lagsAt
+voices-now l e = refl

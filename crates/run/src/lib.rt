@@ -89,8 +89,8 @@ fn voices_on(
     let room = words.len() / 2;
     let mut l = first;
     let mut n = records;
-    while goes(l.next, voices_until(l, end), n, room) {
-        let e = l.next as u32;
+    while goes(l.soon, voices_until(l, end), n, room) {
+        let e = l.soon as u32;
         let r = leap_stretch::renew_voices(l, e);
         n = mark(words, n, base + e, r.level, l.level);
         l = r;

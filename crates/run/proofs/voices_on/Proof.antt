@@ -4,10 +4,9 @@ use native.Mathlib.Omega.{arith}
 use Rattle.chip.specs.Range.{Bytes}
 use Rattle.chip.specs.declared.State.{State}
 use Rattle.leap_stretch.specs.declared.Lags.{Lags}
-use Rattle.leap_stretch.proofs.WaitLaws.{voices-renewed}
 use Rattle.run_answer.specs.Run.{roomOf}
 use Rattle.run.specs.Stretch.{Standing, Worked}
-use Rattle.run.proofs.StretchLaws.{worked-none, worked-event, past, event-now}
+use Rattle.run.proofs.StretchLaws.{worked-none, voices-next, voices-event, voices-now, past}
 use Rattle.run.proofs.voices_on.Statement.{statement}
 use Rattle.run.proofs.voices_on.Tie as tie
 
@@ -72,12 +71,13 @@ loop-less c =
     let w = i .inv .0 (a .s) p in
     let t = c .before .before .before .before .before .before .before .goes .ensures .1 (c .before .before .before .before .before .before .if1 .taken) in
     let u = c .before .before .before .before .before .before .before .before .voices-until .ensures .1 in
-    let v = worked-event (a .memory .now) bytes (a .s) (a .end) (a .base) (a .first .now) (a .records) (a .words .now) (i .words) (i .l) (i .n) w (omega (arith, t .0, u .2)) (omega (arith, t .1, i .inv .1, w .same-length)) _ (c .before .before .before .before .renew-voices .ensures ∙ voices-renewed (a .memory .now) (i .l) (i .l .next) (omega (arith, t .0, u .0)) (omega (arith, t .0, u .1))) _ _ (c .before .before .mark .ensures .0) (c .before .before .mark .ensures .1) in
+    let y = voices-next (a .memory .now) (a .s) (a .end) (a .base) (a .first .now) (a .records) (a .words .now) (i .words) (i .l) (i .n) w (omega (arith, t .0, u .0)) (omega (arith, t .0, u .1)) in
+    let v = voices-event (a .memory .now) bytes (a .s) (a .end) (a .base) (a .first .now) (a .records) (a .words .now) (i .words) (i .l) (i .n) w (omega (arith, t .0, u .2)) (omega (arith, t .0, u .0)) (omega (arith, t .0, u .1)) (omega (arith, t .1, i .inv .1, w .same-length)) _ (c .before .before .before .before .renew-voices .ensures) _ _ (c .before .before .mark .ensures .0) (c .before .before .mark .ensures .1) in
     let q = past (a .memory .now) bytes (a .s) (a .end) (a .base) (a .first .now) (a .records) (a .words .now) _ _ _ v in
-    let z : c .before .before .before .before .renew-voices .result .now ≡ i .l .next =
-    ap (λ (x : Lags). x .now) (c .before .before .before .before .renew-voices .ensures ∙ voices-renewed (a .memory .now) (i .l) (i .l .next) (omega (arith, t .0, u .0)) (omega (arith, t .0, u .1))) ∙ event-now (a .memory .now) (i .l) (i .l .next)
+    let z : c .before .before .before .before .renew-voices .result .now ≡ i .l .soon =
+    ap (λ (x : Lags). x .now) (c .before .before .before .before .renew-voices .ensures) ∙ voices-now (i .l) (i .l .soon)
     in
-    omega (arith, t .0, u .2, z, q)
+    omega (arith, t .0, u .2, y, z, q)
 
 loop-again : tie.Need-loop-again Inv-loop μ-loop
 loop-again c =
@@ -88,7 +88,7 @@ loop-again c =
     let w = i .inv .0 (a .s) p in
     let t = c .before .before .before .before .before .before .before .goes .ensures .1 (c .before .before .before .before .before .before .if1 .taken) in
     let u = c .before .before .before .before .before .before .before .before .voices-until .ensures .1 in
-    (λ s g. worked-event (a .memory .now) bytes s (a .end) (a .base) (a .first .now) (a .records) (a .words .now) (i .words) (i .l) (i .n) (i .inv .0 s g) (omega (arith, t .0, u .2)) (omega (arith, t .1, i .inv .1, w .same-length)) _ (c .before .before .before .before .renew-voices .ensures ∙ voices-renewed (a .memory .now) (i .l) (i .l .next) (omega (arith, t .0, u .0)) (omega (arith, t .0, u .1))) _ _ (c .before .before .mark .ensures .0) (c .before .before .mark .ensures .1), i .inv .1)
+    (λ s g. voices-event (a .memory .now) bytes s (a .end) (a .base) (a .first .now) (a .records) (a .words .now) (i .words) (i .l) (i .n) (i .inv .0 s g) (omega (arith, t .0, u .2)) (omega (arith, t .0, u .0)) (omega (arith, t .0, u .1)) (omega (arith, t .1, i .inv .1, w .same-length)) _ (c .before .before .before .before .renew-voices .ensures) _ _ (c .before .before .mark .ensures .0) (c .before .before .mark .ensures .1), i .inv .1)
 
 same-length : tie.Need-same-length Inv-loop μ-loop
 same-length c =
