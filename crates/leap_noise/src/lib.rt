@@ -33,8 +33,8 @@ fn singles(mode: bool, register: u16, k: u64) -> u16
     x
 }
 
-// The register 8 q outputs on.
-fn blocks(mode: bool, register: u16, q: u64) -> u16
+// The register 8 q outputs on, block by block.
+fn block_by_block(mode: bool, register: u16, q: u64) -> u16
     requires { ⌜ register ≤ 32767 ⌝ }
     ensures { λ r. ⌜ r ≡ iterate (shiftedOf mode) (8 * q) register ⌝ }
 {
@@ -45,6 +45,17 @@ fn blocks(mode: bool, register: u16, q: u64) -> u16
         i += 1;
     }
     x
+}
+
+// The register 8 q outputs on. Each mode has a loop of its own, in which its tap is a constant.
+fn blocks(mode: bool, register: u16, q: u64) -> u16
+    requires { ⌜ register ≤ 32767 ⌝ }
+    ensures { λ r. ⌜ r ≡ iterate (shiftedOf mode) (8 * q) register ⌝ }
+{
+    if mode {
+        return block_by_block(true, register, q);
+    }
+    block_by_block(false, register, q)
 }
 
 // The register k outputs on.
