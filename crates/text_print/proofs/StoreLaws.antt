@@ -1,8 +1,8 @@
 -- Laws of a text stored from a place on. Assumes nothing.
-use Prim.Native.Nat.{ℕ, suc, _+_, _/_, _%_, _≤_, _<_}
+use Prim.Native.Nat.{ℕ, suc, _+_, _*_, _/_, _%_, _≤_, _<_}
 use mathlib.Core.Path.{_≡_, refl, sym, ap, _∙_}
 use mathlib.Core.List.{List, [], _∷_, _++_}
-use native.Mathlib.Nat.{add-zero}
+use native.Mathlib.Nat.{add-zero, mul-add-mod-self-right}
 use native.Mathlib.Omega.{arith}
 use borrow.Author.Tests.{le-leb, lt-leb}
 use lib.ListN.{length, set, getD, drop, drop-of-length-le}
@@ -67,6 +67,26 @@ fill-step out at i j n d e f =
 pub fill-end : (out : List ℕ) (at i n : ℕ) → i ≡ 0 → sets out at (digitsIn i n) ≡ out
 unfolding digitsIn
 fill-end out at i n e = rw e
+
+-- two digits at once, and one or none
+pub fill-pair : (out : List ℕ) (at i j n : ℕ) → i ≡ suc (suc j)
+    → sets (set (set out (at + j + 1) (48 + n % 100 % 10)) (at + j) (48 + n % 100 / 10 % 10)) at (digitsIn j (n / 100)) ≡ sets out at (digitsIn i n)
+fill-pair out at i j n e =
+    let low : n % 100 % 10 ≡ n % 10 = omega arith in
+    let tens : n / 10 ≡ n / 100 * 10 + n % 100 / 10 = omega arith in
+    let high : n % 100 / 10 % 10 ≡ n / 10 % 10 =
+    sym (ap (λ (k : ℕ). k % 10) tens ∙ mul-add-mod-self-right (n / 100) 10 (n % 100 / 10))
+    in
+    let rest : n / 100 ≡ n / 10 / 10 = omega arith in
+    let place : at + j + 1 ≡ at + suc j = omega arith in
+    rw (low, high, rest, place)
+    (fill-step (set out (at + suc j) (48 + n % 10)) at (suc j) j (n / 10) (48 + n / 10 % 10) refl refl
+    ∙ fill-step out at i (suc j) n (48 + n % 10) e refl)
+
+pub fill-single : (out : List ℕ) (at i n d : ℕ) → i ≡ 1 → d ≡ 48 + n % 10 → set out at d ≡ sets out at (digitsIn i n)
+fill-single out at i n d e f =
+    let place : at + 0 ≡ at = omega arith in
+    sym (fill-end (set out at d) at 0 (n / 10) refl) ∙ (rw place at (fill-step out at i 0 n d e f))
 
 pub length-hex : (v : ℕ) → length (hexText 2 v) ≡ 2
 unfolding hexText

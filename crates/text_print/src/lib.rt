@@ -1,7 +1,7 @@
 // Text in bytes, written over lent bytes: a fixed text, decimals, two or four hex digits.
 ghost use mathlib.Core.Path.{_≡_};
 ghost use Prim.Native.Nat.{_+_, _/_, _%_, _≤_, _<_};
-ghost use lib.ListN.{length};
+ghost use lib.ListN.{length, set};
 ghost use lib.Seq.{sets};
 ghost use Rattle.text.specs.Decimal.{decimalText};
 ghost use Rattle.text.specs.Hex.{hexByte, hexText};
@@ -36,39 +36,57 @@ pub fn fixed(out: &mut [u8], at: usize, text: &[u8]) -> usize
     at + text.len()
 }
 
+// The digits of a number below 100,000, the longest first.
+fn short_width(n: u64) -> usize
+    requires { ⌜ n < 100000 ⌝ }
+    ensures { λ r. ⌜ r ≡ length (decimalText n) ⌝ }
+    ensures { λ r. ⌜ (r ≤ 10) × (decimalText n ≡ digitsIn r n) ⌝ }
+{
+    if 10000 <= n {
+        return 5;
+    }
+    if 1000 <= n {
+        return 4;
+    }
+    if 100 <= n {
+        return 3;
+    }
+    if 10 <= n {
+        return 2;
+    }
+    1
+}
+
+// The digits of a number from 100,000 on, at most ten.
+fn long_width(n: u64) -> usize
+    requires { ⌜ 100000 ≤ n ⌝ }
+    ensures { λ r. ⌜ r ≡ length (decimalText n) ⌝ }
+    ensures { λ r. ⌜ (r ≤ 10) × (decimalText n ≡ digitsIn r n) ⌝ }
+{
+    if 1000000000 <= n {
+        return 10;
+    }
+    if 100000000 <= n {
+        return 9;
+    }
+    if 10000000 <= n {
+        return 8;
+    }
+    if 1000000 <= n {
+        return 7;
+    }
+    6
+}
+
 // How many digits a number has in decimal, at most ten.
 pub fn width(n: u64) -> usize
     ensures { λ r. ⌜ r ≡ length (decimalText n) ⌝ }
     ensures { λ r. ⌜ (r ≤ 10) × (decimalText n ≡ digitsIn r n) ⌝ }
 {
-    if n < 10 {
-        return 1;
-    }
-    if n < 100 {
-        return 2;
-    }
-    if n < 1000 {
-        return 3;
-    }
-    if n < 10000 {
-        return 4;
-    }
     if n < 100000 {
-        return 5;
+        return short_width(n);
     }
-    if n < 1000000 {
-        return 6;
-    }
-    if n < 10000000 {
-        return 7;
-    }
-    if n < 100000000 {
-        return 8;
-    }
-    if n < 1000000000 {
-        return 9;
-    }
-    10
+    long_width(n)
 }
 
 // The last digit of a number.
@@ -78,18 +96,38 @@ fn last_digit(n: u64) -> u8
     48 + (n % 10) as u8
 }
 
-// The last k digits of a number from a place on, the last one first.
+// The last two digits of a number from a place on, the last one first.
+fn pair(out: &mut [u8], at: usize, n: u64)
+    requires { ⌜ at + 2 ≤ length (now out) ⌝ }
+    ensures { λ r. ⌜ now (out .exit) ≡ set (set (now (out .entry)) (at + 1) (48 + n % 10)) at (48 + n / 10 % 10) ⌝ }
+{
+    out[at + 1] = last_digit(n);
+    out[at] = last_digit(n / 10);
+}
+
+// The last digit of a number from a place on, or none.
+fn single(out: &mut [u8], at: usize, k: usize, n: u64)
+    requires { ⌜ (at + k ≤ length (now out)) × (k ≤ 1) ⌝ }
+    ensures { λ r. ⌜ now (out .exit) ≡ sets (now (out .entry)) at (digitsIn k n) ⌝ }
+{
+    if 0 < k {
+        out[at] = last_digit(n);
+    }
+}
+
+// The last k digits of a number from a place on, the last two first.
 fn digits(out: &mut [u8], at: usize, k: usize, n: u64)
     requires { ⌜ at + k ≤ length (now out) ⌝ }
     ensures { λ r. ⌜ now (out .exit) ≡ sets (now (out .entry)) at (digitsIn k n) ⌝ }
 {
     let mut i = k;
     let mut left = n;
-    while 0 < i {
-        i -= 1;
-        out[at + i] = last_digit(left);
-        left = left / 10;
+    while 1 < i {
+        i -= 2;
+        pair(out, at + i, left % 100);
+        left = left / 100;
     }
+    single(out, at, i, left);
 }
 
 // A number below 10,000,000,000 in decimal where it fits, and the place behind it.
