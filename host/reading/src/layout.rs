@@ -87,10 +87,10 @@ pub mod player {
     pub const TIME: Part = WAIT.then(4);
     /// The level last written.
     pub const LAST: Part = TIME.then(2);
-    /// The chip's state.
-    pub const STATE: Part = LAST.then(bytes::SIZE);
     /// The cursor.
-    pub const CURSOR: Part = STATE.then(cursor::SIZE);
+    pub const CURSOR: Part = LAST.then(cursor::SIZE);
+    /// The chip's state, last, so that a state of another size moves nothing else.
+    pub const STATE: Part = CURSOR.then(bytes::SIZE);
     /// How many they are.
-    pub const SIZE: usize = CURSOR.end();
+    pub const SIZE: usize = STATE.end();
 }
