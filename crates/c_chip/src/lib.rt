@@ -117,7 +117,7 @@ fn line_from(b: &[u8]) -> Asserted
 {
     let s = c_state::decode(b);
     if c_state::is_state(b) {
-        return chip_api::line(s);
+        return chip_api::interrupt_line(s);
     }
     Asserted {
         number: 2,

@@ -94,7 +94,7 @@ pub fn read_status(s: State) -> Status
 }
 
 // Whether the interrupt line is asserted.
-pub fn line(s: State) -> Asserted
+pub fn interrupt_line(s: State) -> Asserted
     ensures { λ r. ⌜ r ≡ lineAnswer s ⌝ }
 {
     if s.in_range() {

@@ -168,7 +168,7 @@ fn seen(s: State, kind: u8) -> u16 {
             m.byte as u16
         }
         b'i' => {
-            let m = chip_api::line(s);
+            let m = chip_api::interrupt_line(s);
             if m.asserted { 1 } else { 0 }
         }
         _ => 0,

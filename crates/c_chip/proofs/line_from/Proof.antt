@@ -4,7 +4,7 @@ use Rattle.c_chip.proofs.line_from.Tie as tie
 
 returns : tie.Need-returns
 unfolding lineFrom
-returns c = simp (c .line .ensures, c .before .if1 .taken, ← c .before .before .is-state .ensures, c .before .before .before .decode .ensures)
+returns c = simp (c .interrupt-line .ensures, c .before .if1 .taken, ← c .before .before .is-state .ensures, c .before .before .before .decode .ensures)
 
 returns-2 : tie.Need-returns-2
 unfolding lineFrom

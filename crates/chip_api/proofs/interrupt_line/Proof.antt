@@ -1,6 +1,6 @@
 use Rattle.chip_api.specs.Answer.{lineAnswer}
-use Rattle.chip_api.proofs.line.Statement.{statement}
-use Rattle.chip_api.proofs.line.Tie as tie
+use Rattle.chip_api.proofs.interrupt_line.Statement.{statement}
+use Rattle.chip_api.proofs.interrupt_line.Tie as tie
 
 returns : tie.Need-returns
 unfolding lineAnswer
@@ -10,5 +10,5 @@ returns-2 : tie.Need-returns-2
 unfolding lineAnswer
 returns-2 c = simp (c .if1 .left, ← c .before .in-range .ensures)
 
-pub line-spec : {M : Type 1} → statement M
-line-spec = tie.close (tie.spec (λ c κs. tt) (λ c κs. tt) returns returns-2)
+pub interrupt-line-spec : {M : Type 1} → statement M
+interrupt-line-spec = tie.close (tie.spec (λ c κs. tt) (λ c κs. tt) returns returns-2)
