@@ -1,4 +1,5 @@
--- Helper: what the code keeps of levels, the lowest and the highest, and what it tells from these.
+-- What is kept of levels, the lowest and the highest, and what can be told from these: of the span of levels that are there it is their
+-- meter (proofs/Answers: told-is).
 use Prim.Native.Nat.{ℕ}
 use mathlib.Core.List.{List}
 use lib.Dec.{eqb, ltb}
@@ -8,9 +9,19 @@ use Rattle.run_meter.specs.declared.Measured.the-variants.{Refused, Sile
 use Rattle.run_meter.specs.declared.Span as declared
 use Rattle.run_meter.specs.Levels.{lowest, highest}
 
-abbrev pub spanFrom : ℕ → List ℕ → declared.Span
-spanFrom x l = record { low = lowest x l; high = highest x l }
+-- the span of one level
+abbrev pub spanAt : ℕ → declared.Span
+spanAt x = record { low = x; high = x }
 
+-- of some levels and a list
+abbrev pub spanOver : declared.Span → List ℕ → declared.Span
+spanOver s l = record { low = lowest (s .low) l; high = highest (s .high) l }
+
+-- of a level and a list
+abbrev pub spanFrom : ℕ → List ℕ → declared.Span
+spanFrom x l = spanOver (spanAt x) l
+
+-- silent, steady or moving, by the span
 unfoldable pub toldOf : ℕ → ℕ → Measured
 toldOf low high =
     pick (ltb 32767 high) (Refused 29)

@@ -1,10 +1,11 @@
 // A meter for a stretch: whether a list of levels is silent, steady or moving, and between which levels. Here over a lent list; over the
 // records of a run in `records`.
 ghost use mathlib.Core.Path.{_≡_};
+ghost use mathlib.Core.List.{[], _∷_};
 ghost use Prim.Native.Nat.{min, max};
 ghost use Rattle.run_meter.specs.Measure.{measureOf};
 ghost use Rattle.run_meter.specs.Meter.{numberOf, inFractions, meterOf};
-ghost use Rattle.run_meter.specs.Spans.{spanFrom, toldOf};
+ghost use Rattle.run_meter.specs.Spans.{spanAt, spanOver, spanFrom, toldOf};
 
 pub mod records;
 
@@ -28,9 +29,9 @@ pub enum Metered {
 }
 
 // The lowest and the highest of some levels.
-struct Span {
-    low: u32,
-    high: u32,
+pub struct Span {
+    pub low: u32,
+    pub high: u32,
 }
 
 fn lower(x: u32, y: u32) -> u32
@@ -43,6 +44,23 @@ fn higher(x: u32, y: u32) -> u32
     ensures { λ r. ⌜ r ≡ max x y ⌝ }
 {
     if x < y { y } else { x }
+}
+
+// The lowest and the highest of one level.
+pub fn at_level(x: u32) -> Span
+    ensures { λ r. ⌜ r ≡ spanAt x ⌝ }
+{
+    Span { low: x, high: x }
+}
+
+// Those of some levels and one more.
+pub fn with_level(s: Span, x: u32) -> Span
+    ensures { λ r. ⌜ r ≡ spanOver s (x ∷ []) ⌝ }
+{
+    Span {
+        low: lower(s.low, x),
+        high: higher(s.high, x),
+    }
 }
 
 // The lowest and the highest of x and the levels. The loop tests nothing, so that it runs in wide steps.
@@ -62,7 +80,7 @@ fn span_of(levels: &[u32], x: u32) -> Span
 }
 
 // What levels are, by the lowest and the highest of them. A level is above 32,767 exactly where the highest is.
-fn told(s: Span) -> Measured
+pub fn told(s: Span) -> Measured
     ensures { λ r. ⌜ r ≡ toldOf (s .low) (s .high) ⌝ }
 {
     if 32767 < s.high {

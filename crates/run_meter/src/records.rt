@@ -4,7 +4,7 @@ ghost use Prim.Native.Nat.{_+_, min};
 ghost use Rattle.run_meter.specs.Measure.{measureOf};
 ghost use Rattle.run_meter.specs.Meter.{meterOf};
 ghost use Rattle.run_meter.specs.Records.{recordLevels, heard};
-ghost use Rattle.run_meter.specs.Spans.{spanFrom};
+ghost use Rattle.run_meter.specs.Spans.{spanOver, spanFrom};
 use super::Measured;
 use super::Metered;
 use super::Span;
@@ -29,13 +29,13 @@ fn end_of(start: usize, count: usize, all: usize) -> usize
     }
 }
 
-// The lowest and the highest of x and the records' levels.
-fn span_of(words: &[u32], start: usize, count: usize, x: u32) -> Span
-    ensures { λ r. ⌜ r ≡ spanFrom x (recordLevels start count (now (words .entry))) ⌝ }
+// The lowest and the highest of some levels and the records' levels.
+pub fn with_records(s: Span, words: &[u32], start: usize, count: usize) -> Span
+    ensures { λ r. ⌜ r ≡ spanOver s (recordLevels start count (now (words .entry))) ⌝ }
 {
     let end = end_of(start, count, words.len() / 2);
-    let mut low = x;
-    let mut high = x;
+    let mut low = s.low;
+    let mut high = s.high;
     let mut i = start;
     while i < end {
         let y = words[2 * i + 1];
@@ -44,6 +44,13 @@ fn span_of(words: &[u32], start: usize, count: usize, x: u32) -> Span
         i += 1;
     }
     Span { low, high }
+}
+
+// The lowest and the highest of x and the records' levels.
+fn span_of(words: &[u32], start: usize, count: usize, x: u32) -> Span
+    ensures { λ r. ⌜ r ≡ spanFrom x (recordLevels start count (now (words .entry))) ⌝ }
+{
+    with_records(super::at_level(x), words, start, count)
 }
 
 // What the records' levels are by themselves.
