@@ -1,0 +1,3 @@
+pub mod HeardLaws
+pub mod RunLaws
+pub mod WalkLaws

@@ -1,0 +1,188 @@
+-- The walk of a log that passes: act by act to the lowest and the highest level of all its lines. Assumes nothing.
+use Prim.Native.Nat.{ℕ, _+_, _-_, _≤_, _<_}
+use mathlib.Core.Path.{_≡_, refl, sym, ap, _∙_}
+use mathlib.Core.Bool.{Bool, true, false}
+use mathlib.Core.List.{List, [], _∷_, _++_}
+use native.Mathlib.Nat.{add-zero}
+use native.Mathlib.Omega.{arith}
+use lib.Dec.{eqb}
+use lib.ListN.{length}
+use borrow.Author.Tests.{eq-eqb, ne-eqb}
+use Rattle.arith.specs.Iterate.{iterate}
+use Rattle.arith.specs.Pick.{pick}
+use Rattle.bus.specs.declared.Access as busAccess
+use Rattle.bus.specs.declared.Access.the-variants as bus
+use Rattle.log_line.specs.declared.Act.{Act}
+use Rattle.log_line.specs.declared.Act.the-variants.{Wait, Access}
+use Rattle.log_judge.specs.Tree.{acts, actClocks}
+use Rattle.log_judge.specs.Whole.{treeOf, checkOf}
+use Rattle.log_judge.specs.declared.Checked.{Checked}
+use Rattle.log_cursor.specs.declared.Cursor.{Cursor}
+use Rattle.log_cursor.specs.Stepping.{beginning, stepOf, told}
+use Rattle.log_cursor.specs.declared.Found.{Found}
+use Rattle.log_cursor.proofs.Whole.{cursor-gives}
+use Rattle.machine.specs.Saying.{over, on, Gives, ends, goes, gives}
+use Rattle.machine.proofs.SayingLaws.{within}
+use Rattle.chip.specs.Clock.{chipClock}
+use Rattle.chip.specs.Level.{stateLevel}
+use Rattle.chip.specs.Range.{inRange, powerOn}
+use Rattle.chip.specs.Status.{statusByte, statusRead}
+use Rattle.chip.specs.Write.{registerWritten}
+use Rattle.chip.specs.declared.State.{State}
+use Rattle.chip.proofs.RangeLaws.{state-in, state-back, power-on-in, write-kept, read-kept}
+use Rattle.play_text.specs.declared.Note.{Note}
+use Rattle.play_text.specs.declared.Note.the-variants.{Read}
+use Rattle.play_model.specs.Sound.{heard, notesFrom, notesOf}
+use Rattle.run_meter.specs.declared.Measured.{Measured}
+use Rattle.run_meter.specs.declared.Span.{Span}
+use Rattle.run_meter.specs.Levels.{lowest, highest}
+use Rattle.run_meter.specs.Spans.{spanAt, spanOver, toldOf}
+use Rattle.run_meter.proofs.Answers.{told-is}
+use Rattle.play_meter.specs.declared.Answer.{Answer}
+use Rattle.play_meter.specs.declared.Moment.{Moment}
+use Rattle.play_meter.specs.Meters.{levelsOf, actsMeter, refusedAnswer, logMeter, accessedBy}
+use Rattle.play_meter.specs.Walking.{changed, momentOf, clocksOn, heardBy, accessOn, actOn, foundOn, spanFor, spanOf, Walking}
+use Rattle.play_meter.proofs.HeardLaws.{span-append, levels-heard, levels-waited}
+
+-- an access keeps the state in range
+pub write-fine : (r v : ℕ) (s next : State) → v ≤ 255 → inRange s ≡ true → next ≡ registerWritten r v s → (next ≡ accessedBy (bus.Write r v) s) × (inRange next ≡ true)
+unfolding accessedBy
+write-fine r v s next low f e = (e, rw e (state-back _ (write-kept v low s (state-in s f) r)))
+
+pub read-fine : (s next : State) → inRange s ≡ true → next ≡ statusRead s → (next ≡ accessedBy bus.Read s) × (inRange next ≡ true)
+unfolding accessedBy
+read-fine s next f e = (e, rw e (state-back _ (read-kept s (state-in s f))))
+
+-- the lowest and the highest behind a level that is heard where it differs
+heard-span : (b : Bool) (s : Span) (x : ℕ) (l : List ℕ) → spanOver s (pick b l (x ∷ l)) ≡ spanOver (pick b s (spanOver s (x ∷ []))) l
+unfolding lowest highest
+heard-span true s x l = refl
+heard-span false s x l = refl
+
+-- an act first, and then the others
+module _ (memory : List ℕ) where
+  access-span : (t : ℕ) (s s′ : State) (span : Span) (l : List Act)
+      → spanOver span (levelsOf (heard t (stateLevel s) s′ ++ notesFrom memory t (stateLevel s′) s′ l))
+      ≡ spanFor memory l t s′ (heardBy span (stateLevel s) (stateLevel s′))
+  unfolding spanFor heardBy
+  access-span t s s′ span l =
+      ap (spanOver span) (levels-heard t (stateLevel s) s′ (notesFrom memory t (stateLevel s′) s′ l))
+      ∙ heard-span (eqb (stateLevel s′) (stateLevel s)) span (stateLevel s′) (levelsOf (notesFrom memory t (stateLevel s′) s′ l))
+
+  wait-first : (n : ℕ) (l : List Act) (t : ℕ) (s : State) (span : Span)
+      → spanFor memory (Wait n ∷ l) t s span ≡ spanFor memory l (t + n) (iterate (chipClock memory) n s) (spanOver span (changed memory n s))
+  unfolding spanFor notesFrom
+  wait-first n l t s span =
+      ap (spanOver span) (levels-waited memory n t s (λ t last s. notesFrom memory t last s l))
+      ∙ sym (span-append span (changed memory n s) _)
+
+  write-first : (r v : ℕ) (l : List Act) (t : ℕ) (s : State) (span : Span)
+      → spanFor memory (Access (bus.Write r v) ∷ l) t s span
+      ≡ spanFor memory l t (registerWritten r v s) (heardBy span (stateLevel s) (stateLevel (registerWritten r v s)))
+  unfolding spanFor notesFrom
+  write-first r v l t s span = access-span t s (registerWritten r v s) span l
+
+  read-first : (l : List Act) (t : ℕ) (s : State) (span : Span)
+      → spanFor memory (Access bus.Read ∷ l) t s span ≡ spanFor memory l t (statusRead s) (heardBy span (stateLevel s) (stateLevel (statusRead s)))
+  unfolding spanFor notesFrom levelsOf
+  read-first l t s span = access-span t s (statusRead s) span l
+
+  first-act : (a : Act) (l : List Act) (t : ℕ) (m : Moment)
+      → spanFor memory (a ∷ l) t (m .state) (m .span) ≡ spanFor memory l (t + actClocks a) (actOn memory a m .state) (actOn memory a m .span)
+  unfolding actOn clocksOn accessOn accessedBy actClocks
+  first-act (Wait n) l t m = wait-first n l t (m .state) (m .span)
+  first-act (Access (bus.Write r v)) l t m = rw add-zero (write-first r v l t (m .state) (m .span))
+  first-act (Access bus.Read) l t m = rw add-zero (read-first l t (m .state) (m .span))
+
+-- one step of the walk: it is over with the answer, or the walk goes on
+pub record Onward (log memory : List ℕ) (cursor : Cursor) (m : Moment) (left : ℕ) : Type 0 where
+  pub over : m .over ≡ true → m .span ≡ spanOf log memory
+  pub on : m .over ≡ false → Walking log memory cursor m (left - 1)
+
+less : (k f : ℕ) → k < f → k ≤ f - 1
+less k f h = omega arith
+
+false-true : {A : Type 0} → _≡_ {A = Bool} false true → A
+false-true e = let x : _≡_ {A = ℕ} 0 1 = cc in absurd (omega arith)
+
+-- at the end no level follows
+ended : (memory : List ℕ) (t : ℕ) (s : State) (span : Span) → spanFor memory [] t s span ≡ span
+unfolding spanFor notesFrom levelsOf lowest highest
+ended memory t s span = refl
+
+clocks-over : (memory : List ℕ) (a : Act) (m : Moment) → actOn memory a m .over ≡ false
+unfolding actOn clocksOn accessOn
+clocks-over memory (Wait n) m = refl
+clocks-over memory (Access x) m = refl
+
+module _ (log memory : List ℕ) where
+  -- by what the cursor's step says
+  step-on : {cursor : Cursor} {rest : List Act} {left : ℕ} → Gives (stepOf log) cursor rest left → (t : ℕ) (m : Moment)
+      → spanFor memory rest t (m .state) (m .span) ≡ spanOf log memory
+      → (x : Found) → x ≡ told (stepOf log cursor .said) → (next : Moment) → next ≡ foundOn memory x m → inRange (next .state) ≡ true
+      → Onward log memory (stepOf log cursor .state) next left
+  unfolding foundOn
+  step-on (ends f e p) t m same x fx next en fine =
+      let is : next ≡ momentOf true (m .state) (m .span) = en ∙ rw (fx, e) refl in
+      record {
+        over = λ o. rw is (sym (ended memory t (m .state) (m .span)) ∙ same);
+        on = λ o. false-true (sym o ∙ ap (λ (k : Moment). k .over) is);
+      }
+  step-on {rest = rest} {left = left} (goes {k = k} f e g p) t m same x fx next en fine =
+      let is : next ≡ momentOf false (m .state) (m .span) = en ∙ rw (fx, e) refl in
+      record {
+        over = λ o. false-true (sym (ap (λ (k : Moment). k .over) is) ∙ o);
+        on = λ o. record { ranged = fine; time = t; rest = rest; gives = within (stepOf log) (left - 1) (less k left p) g; same = rw is same };
+      }
+  step-on {left = left} (gives {a = a} {l = l} {k = k} f e g p) t m same x fx next en fine =
+      let is : next ≡ actOn memory a m = en ∙ rw (fx, e) refl in
+      record {
+        over = λ o. false-true (sym (ap (λ (k : Moment). k .over) is ∙ clocks-over memory a m) ∙ o);
+        on = λ o. record { ranged = fine; time = t + actClocks a; rest = l; gives = within (stepOf log) (left - 1) (less k left p) g; same = rw is (sym (first-act memory a l t m) ∙ same) };
+      }
+
+  pub walk-on : (cursor : Cursor) (m : Moment) (left : ℕ) → Walking log memory cursor m left
+      → (x : Found) → x ≡ told (stepOf log cursor .said) → (next : Moment) → next ≡ foundOn memory x m → inRange (next .state) ≡ true
+      → Onward log memory (stepOf log cursor .state) next left
+  walk-on cursor m left w = step-on (w .gives) (w .time) m (w .same)
+
+  -- the steps are enough
+  none-left : {cursor : Cursor} {rest : List Act} {left : ℕ} → Gives (stepOf log) cursor rest left → left ≡ 0 → ⊥
+  none-left (ends f e p) z = omega arith
+  none-left (goes f e g p) z = omega arith
+  none-left (gives f e g p) z = omega arith
+
+  pub walk-left : {A : Type 0} (cursor : Cursor) (m : Moment) (left : ℕ) → Walking log memory cursor m left → left ≡ 0 → A
+  walk-left cursor m left w z = absurd (none-left (w .gives) z)
+
+  pub walk-start : checkOf log .number ≡ 0 → Walking log memory beginning (momentOf false powerOn (spanAt (stateLevel powerOn))) 2000002
+  unfolding spanOf
+  walk-start h =
+      record {
+        ranged = power-on-in;
+        time = 0;
+        rest = acts (treeOf log);
+        gives = cursor-gives log h;
+        same = refl;
+      }
+
+  -- what is told from the lowest and the highest of all is the meter of the log's lines
+  pub told-whole : (span : Span) → span ≡ spanOf log memory → toldOf (span .low) (span .high) ≡ actsMeter memory (acts (treeOf log))
+  unfolding spanOf spanFor actsMeter notesOf levelsOf
+  told-whole span e =
+      ap (λ (s : Span). toldOf (s .low) (s .high)) e
+      ∙ told-is (stateLevel powerOn) (levelsOf (notesFrom memory 0 (stateLevel powerOn) powerOn (acts (treeOf log))))
+
+  -- the answer, by its tests
+  pub refused-one : (length memory ≡ 32768 → ⊥) → refusedAnswer 1 0 ≡ logMeter log memory
+  unfolding logMeter
+  refused-one h = rw (ne-eqb (length memory) 32768 h)
+
+  module _ (long : length memory ≡ 32768) where
+    pub refused-log : (k : Checked) → k ≡ checkOf log → (k .number ≡ 0 → ⊥) → refusedAnswer (k .number) (k .place) ≡ logMeter log memory
+    unfolding logMeter
+    refused-log k e h = rw (eq-eqb (length memory) 32768 long, ← e, ne-eqb (k .number) 0 h)
+
+    pub meter-is : checkOf log .number ≡ 0 → logMeter log memory ≡ record { number = 0; place = 0; meter = actsMeter memory (acts (treeOf log)) }
+    unfolding logMeter
+    meter-is fine = rw (eq-eqb (length memory) 32768 long, eq-eqb (checkOf log .number) 0 fine)

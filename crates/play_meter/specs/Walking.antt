@@ -1,0 +1,76 @@
+-- Helper: nobody has to believe this; the walk of a log with the lowest and the highest level so far.
+use Prim.Native.Nat.{ℕ, zero, suc, _+_}
+use mathlib.Core.Path.{_≡_}
+use mathlib.Core.Bool.{Bool, true, false}
+use mathlib.Core.List.{List, [], _∷_}
+use lib.Dec.{eqb}
+use Rattle.arith.specs.Iterate.{iterate}
+use Rattle.arith.specs.Pick.{pick}
+use Rattle.bus.specs.declared.Access as busAccess
+use Rattle.log_line.specs.declared.Act.{Act}
+use Rattle.log_line.specs.declared.Act.the-variants.{Wait, Access}
+use Rattle.log_judge.specs.Tree.{acts}
+use Rattle.log_judge.specs.Whole.{treeOf}
+use Rattle.log_cursor.specs.declared.Cursor.{Cursor}
+use Rattle.log_cursor.specs.declared.Found.{Found}
+use Rattle.log_cursor.specs.Stepping.{stepOf}
+use Rattle.machine.specs.Saying.{Gives}
+use Rattle.chip.specs.Clock.{chipClock}
+use Rattle.chip.specs.Level.{stateLevel}
+use Rattle.chip.specs.Range.{inRange, powerOn}
+use Rattle.chip.specs.declared.State.{State}
+use Rattle.play_model.specs.Sound.{notesFrom}
+use Rattle.run_meter.specs.declared.Span.{Span}
+use Rattle.run_meter.specs.Spans.{spanAt, spanOver}
+use Rattle.play_meter.specs.declared.Moment.{Moment}
+use Rattle.play_meter.specs.Meters.{levelsOf, accessedBy}
+
+-- the levels after those of n clocks that change it
+unfoldable pub changed : List ℕ → ℕ → State → List ℕ
+changed memory zero s = []
+changed memory (suc n) s =
+    pick (eqb (stateLevel (chipClock memory s)) (stateLevel s)) (changed memory n (chipClock memory s))
+    (stateLevel (chipClock memory s) ∷ changed memory n (chipClock memory s))
+
+abbrev pub momentOf : Bool → State → Span → Moment
+momentOf over s span = record { over = over; state = s; span = span }
+
+-- n clocks
+unfoldable pub clocksOn : List ℕ → ℕ → State → Span → Moment
+clocksOn memory n s span = momentOf false (iterate (chipClock memory) n s) (spanOver span (changed memory n s))
+
+-- with the level after an access, where it differs from that before
+unfoldable pub heardBy : Span → ℕ → ℕ → Span
+heardBy span before after = pick (eqb after before) span (spanOver span (after ∷ []))
+
+-- an access
+unfoldable pub accessOn : busAccess.Access → Moment → Moment
+accessOn x m = momentOf false (accessedBy x (m .state)) (heardBy (m .span) (stateLevel (m .state)) (stateLevel (accessedBy x (m .state))))
+
+-- an act
+unfoldable pub actOn : List ℕ → Act → Moment → Moment
+actOn memory (Wait n) m = clocksOn memory n (m .state) (m .span)
+actOn memory (Access x) m = accessOn x m
+
+-- what a step of the cursor found: at the log's end all is over
+unfoldable pub foundOn : List ℕ → Found → Moment → Moment
+foundOn memory (Found.Act a) m = actOn memory a m
+foundOn memory Found.Moved m = momentOf false (m .state) (m .span)
+foundOn memory Found.End m = momentOf true (m .state) (m .span)
+foundOn memory (Found.Refused k p) m = momentOf true (m .state) (m .span)
+
+-- the lowest and the highest of what was heard and of the lines that the acts still bring
+unfoldable pub spanFor : List ℕ → List Act → ℕ → State → Span → Span
+spanFor memory l t s span = spanOver span (levelsOf (notesFrom memory t (stateLevel s) s l))
+
+-- those of a whole log
+unfoldable pub spanOf : List ℕ → List ℕ → Span
+spanOf log memory = spanFor memory (acts (treeOf log)) 0 powerOn (spanAt (stateLevel powerOn))
+
+-- on the way: the acts that the cursor still gives, within `left` steps, lead to what the whole log leads to
+pub record Walking (log memory : List ℕ) (cursor : Cursor) (m : Moment) (left : ℕ) : Type 0 where
+  pub ranged : inRange (m .state) ≡ true
+  pub time : ℕ
+  pub rest : List Act
+  pub gives : Gives (stepOf log) cursor rest left
+  pub same : spanFor memory rest time (m .state) (m .span) ≡ spanOf log memory
