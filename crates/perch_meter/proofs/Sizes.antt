@@ -1,0 +1,73 @@
+-- How long the texts are: small buffers always hold them. Assumes nothing.
+use Prim.Native.Nat.{ℕ, _+_, _≤_}
+use mathlib.Core.Path.{_≡_, ap, _∙_}
+use mathlib.Core.List.{List, _++_}
+use native.Mathlib.Omega.{arith}
+use borrow.Author.Tests.{eq-eqb, ne-eqb}
+use lib.Dec.{eqb}
+use lib.ListN.{length, take, length-append}
+use lib.Seq.{sets, length-sets}
+use Rattle.arith.proofs.PickLaws.{pick-both}
+use Rattle.text_print.specs.Printed.{printed, placed}
+use Rattle.text_print.proofs.StoreLaws.{placed-in, printed-in}
+use Rattle.play_text.proofs.TextLaws.{decimal-ten}
+use Rattle.perch_place.proofs.Sizes.{UpTo, text-taken}
+use Rattle.run_meter.specs.declared.Measured.{Measured}
+use Rattle.run_meter.specs.declared.Measured.the-variants.{Refused, NoLevels, Silent, Steady, Moving}
+use Rattle.play_meter.specs.declared.Answer.{Answer}
+use Rattle.play_meter.specs.Meters.{logMeter}
+use Rattle.perch_meter.specs.Text.{numbered, movingWord, meterWord, allLine, refusedLine, outcomeText, meterText, waitLine}
+
+word-size : (m : Measured) → UpTo 28 (meterWord m)
+unfolding meterWord numbered movingWord
+word-size (Refused k) = rw length-append (omega (arith, decimal-ten k))
+word-size NoLevels = omega arith
+word-size Silent = omega arith
+word-size (Steady v) = rw length-append (omega (arith, decimal-ten v))
+word-size (Moving low high) = simp length-append (omega (arith, decimal-ten low, decimal-ten high))
+
+all-size : (m : Measured) → UpTo 33 (allLine m)
+unfolding allLine
+all-size m = simp length-append (omega (arith, word-size m))
+
+refused-size : (number place : ℕ) → UpTo 30 (refusedLine number place)
+unfolding refusedLine
+refused-size number place = simp length-append (omega (arith, decimal-ten number, decimal-ten place))
+
+outcome-size : (a : Answer) → UpTo 33 (outcomeText a)
+unfolding outcomeText
+outcome-size a = pick-both (UpTo 33) (eqb (a .number) 0) (all-size (a .meter)) (omega (arith, refused-size (a .number) (a .place)))
+
+-- 64 bytes hold the text, whatever the bytes
+pub meter-size : (log memory : List ℕ) → length (meterText log memory) ≤ 64
+unfolding meterText
+meter-size log memory = rw length-append (omega (arith, outcome-size (logMeter log memory)))
+
+-- and a wait's line
+pub wait-size : (time clocks : ℕ) (m : Measured) → length (waitLine time clocks m) ≤ 64
+unfolding waitLine
+wait-size time clocks m = simp length-append (omega (arith, decimal-ten time, decimal-ten clocks, word-size m))
+
+-- the two outcomes
+module _ (a : Answer) where
+  pub out-all : a .number ≡ 0 → outcomeText a ≡ allLine (a .meter)
+  unfolding outcomeText
+  out-all h = rw (eq-eqb (a .number) 0 h)
+
+  pub out-refused : (a .number ≡ 0 → ⊥) → outcomeText a ≡ refusedLine (a .number) (a .place)
+  unfolding outcomeText
+  out-refused h = rw (ne-eqb (a .number) 0 h)
+
+-- what a caller with 64 bytes gets
+module _ (log memory : List ℕ) (out : List ℕ) (h : 64 ≤ length out) where
+  pub whole-room : 0 + length (meterText log memory) ≤ length out
+  whole-room = let s = meter-size log memory in omega arith
+
+  pub whole-text : (r : ℕ) (out′ : List ℕ) → r ≡ placed out 0 (meterText log memory) → out′ ≡ printed out 0 (meterText log memory)
+      → (r ≤ length out′) × (take r out′ ≡ meterText log memory)
+  whole-text r out′ p b =
+      let t = meterText log memory in
+      let e : r ≡ length t = p ∙ (placed-in out 0 t whole-room ∙ omega arith) in
+      let f : out′ ≡ sets out 0 t = b ∙ printed-in out 0 t whole-room in
+      let l : length out′ ≡ length out = ap length f ∙ length-sets out 0 t in
+      (omega (arith, whole-room), ap (take r) f ∙ text-taken out t r e (omega (arith, whole-room)))
