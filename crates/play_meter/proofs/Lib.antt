@@ -1,3 +1,5 @@
 pub mod HeardLaws
+pub mod PassLaws
 pub mod RunLaws
+pub mod WaitLaws
 pub mod WalkLaws

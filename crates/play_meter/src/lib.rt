@@ -1,4 +1,4 @@
-// The meter of what a log sounds like, and of each of its waits.
+// The meter of what a log sounds like, as a whole; of each of its waits in `waits`.
 ghost use mathlib.Core.Path.{_≡_};
 ghost use mathlib.Core.Bool.{true, false};
 ghost use Prim.Native.Nat.{_≤_};
@@ -15,6 +15,8 @@ use log_cursor::Found;
 use log_line::Act;
 use run_meter::Measured;
 use run_meter::Span;
+
+pub mod waits;
 
 // The answer: the meter; refused, a number and its place, and no levels.
 pub struct Answer {

@@ -1,0 +1,84 @@
+-- THE STEPS FROM A LOG'S BEGINNING SAY ITS WAITS, one after the other, and then the end. Assumes nothing.
+use Prim.Native.Nat.{ℕ, _+_, _≤_, _<_}
+use mathlib.Core.Path.{_≡_, refl, sym, ap, _∙_}
+use mathlib.Core.Bool.{true}
+use mathlib.Core.List.{List, [], _∷_}
+use native.Mathlib.Omega.{arith}
+use lib.ListN.{length}
+use Rattle.arith.specs.Iterate.{iterate}
+use Rattle.arith.proofs.IterateLaws.{iterate-keeps}
+use Rattle.bus.specs.declared.Access as busAccess
+use Rattle.bus.specs.declared.Access.the-variants as bus
+use Rattle.log_line.specs.declared.Act.{Act}
+use Rattle.log_line.specs.declared.Act.the-variants.{Wait, Access}
+use Rattle.log_line.specs.Printed.{Allowed}
+use Rattle.log_judge.specs.Tree.{acts, actClocks}
+use Rattle.log_judge.specs.Whole.{treeOf, checkOf}
+use Rattle.log_passing.proofs.ActLaws.{Every, every-acts, clocksIn, clocks-listed}
+use Rattle.log_passing.proofs.Passing.{clear, stands}
+use Rattle.log_cursor.specs.declared.Cursor.{Cursor}
+use Rattle.log_cursor.specs.Stepping.{beginning, stepOf, told}
+use Rattle.log_cursor.proofs.Whole.{cursor-gives}
+use Rattle.machine.specs.Saying.{over, on, says, Gives, ends, goes, gives}
+use Rattle.machine.proofs.SayingLaws.{by-says, by-on, by-over}
+use Rattle.chip.specs.Clock.{chipClock}
+use Rattle.chip.specs.Range.{inRange, powerOn, Bytes}
+use Rattle.chip.specs.declared.State.{State}
+use Rattle.chip.proofs.RangeLaws.{StateRanged, state-in, state-back, clock-kept, power-on-in}
+use Rattle.play_meter.specs.declared.waits.Gauge.{Gauge}
+use Rattle.play_meter.specs.Meters.{Stretch, stretchOf, accessedBy, waitsFrom}
+use Rattle.play_meter.specs.Passing.{Go, go, gaugeOf, gaugeStart, actPass, foundPass, passOf}
+use Rattle.play_meter.proofs.PassLaws.{Ready, ready-is, pass-some}
+use Rattle.play_meter.proofs.WalkLaws.{write-fine, read-fine}
+
+access-ranged : (x : busAccess.Access) (s : State) → Allowed (Access x) → inRange s ≡ true → inRange (accessedBy x s) ≡ true
+unfolding accessedBy
+access-ranged (bus.Write r v) s w h = write-fine r v s _ (w .1) h refl .1
+access-ranged bus.Read s w h = read-fine s _ h refl .1
+
+clocks-ranged : (memory : List ℕ) → Bytes memory → (n : ℕ) (s : State) → inRange s ≡ true → inRange (iterate (chipClock memory) n s) ≡ true
+clocks-ranged memory bytes n s h = state-back _ (iterate-keeps StateRanged (chipClock memory) (clock-kept memory bytes) n s (state-in s h))
+
+module _ (log memory : List ℕ) (long : length memory ≡ 32768) (bytes : Bytes memory) where
+  -- a step by what the cursor says
+  module _ (t : ℕ) (s : State) (c : Cursor) (ranged : inRange s ≡ true) (early : t ≤ 2000000000) where
+    here-pass : passOf log memory (gaugeOf t s c) ≡ foundPass memory (gaugeOf t s c) (stepOf log c .state) (told (stepOf log c .said))
+    here-pass = sym (pass-some log memory (gaugeOf t s c) (ready-is memory (gaugeOf t s c) (record { long = long; ranged = ranged; early = early })))
+
+    pass-over : stepOf log c .said ≡ over → passOf log memory (gaugeOf t s c) ≡ go over (gaugeOf t s (stepOf log c .state))
+    unfolding foundPass
+    pass-over e = here-pass ∙ rw e refl
+
+    pass-on : stepOf log c .said ≡ on → passOf log memory (gaugeOf t s c) ≡ go on (gaugeOf t s (stepOf log c .state))
+    unfolding foundPass
+    pass-on e = here-pass ∙ rw e refl
+
+    pass-wait : (n : ℕ) → stepOf log c .said ≡ says (Wait n)
+        → passOf log memory (gaugeOf t s c) ≡ go (says (stretchOf memory n t s)) (gaugeOf (t + n) (iterate (chipClock memory) n s) (stepOf log c .state))
+    unfolding foundPass actPass
+    pass-wait n e = here-pass ∙ rw e refl
+
+    pass-access : (x : busAccess.Access) → stepOf log c .said ≡ says (Access x)
+        → passOf log memory (gaugeOf t s c) ≡ go on (gaugeOf t (accessedBy x s) (stepOf log c .state))
+    unfolding foundPass actPass
+    pass-access x e = here-pass ∙ rw e refl
+
+  acts-said : {c : Cursor} {l : List Act} {f : ℕ} → Gives (stepOf log) c l f → (t : ℕ) (s : State) → Every l → inRange s ≡ true → t + clocksIn l ≤ 2000000000
+      → Gives (passOf log memory) (gaugeOf t s c) (waitsFrom memory l t s) f
+  unfolding waitsFrom clocksIn actClocks
+  acts-said {c = c} (ends f e p) t s w h b = by-over (passOf log memory) f (pass-over t s c h (omega arith) e) p
+  acts-said {c = c} (goes f e g p) t s w h b =
+      by-on (passOf log memory) f (pass-on t s c h (omega arith) e) (acts-said g t s w h b) p
+  acts-said {c = c} (gives {a = Wait n} {l = l} f e g p) t s w h b =
+      by-says (passOf log memory) f (pass-wait t s c h (omega arith) n e)
+      (acts-said g (t + n) (iterate (chipClock memory) n s) (w .1) (clocks-ranged memory bytes n s h) (omega arith)) p
+  acts-said {c = c} (gives {a = Access x} {l = l} f e g p) t s w h b =
+      by-on (passOf log memory) f (pass-access t s c h (omega arith) x e)
+      (acts-said g t (accessedBy x s) (w .1) (access-ranged x s (w .0) h) (omega arith)) p
+
+  -- in 2,000,002 steps at most
+  pub waits-said : checkOf log .number ≡ 0 → Gives (passOf log memory) gaugeStart (waitsFrom memory (acts (treeOf log)) 0 powerOn) 2000002
+  waits-said h =
+      let c = clear log h .in-clocks in
+      let d = clocks-listed (treeOf log) in
+      acts-said (cursor-gives log h) 0 powerOn (every-acts (treeOf log) 0 (stands log h .within)) power-on-in (omega arith)

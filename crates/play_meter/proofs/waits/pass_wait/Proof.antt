@@ -1,0 +1,39 @@
+use borrow.Author.Needs.{needs}
+use mathlib.Core.Path.{refl, _∙_}
+use native.Mathlib.Omega.{arith}
+use Rattle.play_meter.proofs.PassLaws.{wait-passed}
+use Rattle.play_meter.proofs.waits.pass_wait.Statement.{statement}
+use Rattle.play_meter.proofs.waits.pass_wait.Tie as tie
+
+clocks-on-requires : tie.Need-clocks-on-requires
+clocks-on-requires c κs =
+    let s = c .before .before .before .before .before .before .before in
+    ((s .pre .0 .0, s .pre .0 .1), s .pre .1)
+
+add-gauge-of : tie.Need-add-gauge-of
+add-gauge-of c = omega (arith, c .before .wide2 .ensures, c .before .before .before .before .before .before .before .before .before .before .before .before .before .before .before .pre .0 .2, c .before .before .before .before .before .before .before .before .before .before .before .before .before .before .before .good)
+
+returns : tie.Need-returns
+returns c =
+    let a = c .before .before .before .before .before .before .before .before .before .before .before .before .before .before .before .before .args in
+    let m = c .before .before .before .before .before .before .before .before .clocks-on in
+    wait-passed (a .memory .now) (a .n) (a .g) (a .c) (m .result) (c .gauge-of .result) (c .before .before .before .told .result)
+    (m .ensures .0 ∙ rw (c .before .before .before .before .before .before .before .before .before .before .wide .ensures, c .before .before .before .before .before .before .before .before .before .before .before .at-level .ensures, c .before .before .before .before .before .before .before .before .before .before .before .before .level .ensures) refl)
+    (c .before .before .before .told .ensures)
+    (c .gauge-of .ensures ∙ rw (c .before .before .wide2 .ensures) refl)
+
+pub pass-wait-spec : {M : Type 1} → statement M
+pass-wait-spec =
+    tie.close
+    (tie.spec
+    (λ c κs. tt)
+    (λ c. search needs)
+    (λ c κs. tt)
+    (λ c κs. tt)
+    clocks-on-requires
+    (λ c κs. tt)
+    (λ c κs. tt)
+    add-gauge-of
+    (λ c κs. tt)
+    (λ c. search needs)
+    returns)
