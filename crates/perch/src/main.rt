@@ -1,6 +1,7 @@
 // The program for daily work: `perch VERB`, and what the verb asks for.
 mod check;
 mod import;
+mod meter;
 mod sheet;
 mod why;
 
@@ -14,6 +15,10 @@ fn usage() {
     perch_io::say(
         b"  why CLOCK   a log on standard input: why the squares and the noise are silent there\n",
     );
+    perch_io::say(
+        b"  meter       a log on standard input: whether it is silent, steady or moving, and between which levels\n",
+    );
+    perch_io::say(b"  meter waits the same, and that of each of its waits\n");
     perch_io::say(
         b"  sheet LEVEL ADDRESS LENGTH\n              the level after each byte of a sample in sample.bin\n",
     );
@@ -31,6 +36,14 @@ fn run(verb: &[u8], words: usize) {
     }
     if arith::both_of(words == 3, text::exact(verb, b"why")) {
         why::why();
+        return;
+    }
+    if arith::both_of(words == 2, text::exact(verb, b"meter")) {
+        meter::meter(false);
+        return;
+    }
+    if arith::both_of(words == 3, text::exact(verb, b"meter")) {
+        meter::asked();
         return;
     }
     if text::exact(verb, b"sheet") {

@@ -1,12 +1,14 @@
 -- How long the texts are: small buffers always hold them. Assumes nothing.
 use Prim.Native.Nat.{ℕ, _+_, _≤_}
-use mathlib.Core.Path.{_≡_, ap, _∙_}
-use mathlib.Core.List.{List, _++_}
+use mathlib.Core.Path.{_≡_, refl, ap, _∙_}
+use mathlib.Core.Bool.{Bool, true, false}
+use mathlib.Core.List.{List, [], _++_}
 use native.Mathlib.Omega.{arith}
 use borrow.Author.Tests.{eq-eqb, ne-eqb}
-use lib.Dec.{eqb}
+use lib.Dec.{eqb, leb}
 use lib.ListN.{length, take, length-append}
 use lib.Seq.{sets, length-sets}
+use Rattle.arith.specs.Pick.{pick}
 use Rattle.arith.proofs.PickLaws.{pick-both}
 use Rattle.text_print.specs.Printed.{printed, placed}
 use Rattle.text_print.proofs.StoreLaws.{placed-in, printed-in}
@@ -15,8 +17,9 @@ use Rattle.perch_place.proofs.Sizes.{UpTo, text-taken}
 use Rattle.run_meter.specs.declared.Measured.{Measured}
 use Rattle.run_meter.specs.declared.Measured.the-variants.{Refused, NoLevels, Silent, Steady, Moving}
 use Rattle.play_meter.specs.declared.Answer.{Answer}
+use Rattle.play_meter.specs.declared.waits.Next.{Next}
 use Rattle.play_meter.specs.Meters.{logMeter}
-use Rattle.perch_meter.specs.Text.{numbered, movingWord, meterWord, allLine, refusedLine, outcomeText, meterText, waitLine}
+use Rattle.perch_meter.specs.Text.{numbered, movingWord, meterWord, allLine, refusedLine, outcomeText, meterText, waitLine, nextText}
 
 word-size : (m : Measured) → UpTo 28 (meterWord m)
 unfolding meterWord numbered movingWord
@@ -47,6 +50,33 @@ meter-size log memory = rw length-append (omega (arith, outcome-size (logMeter l
 pub wait-size : (time clocks : ℕ) (m : Measured) → length (waitLine time clocks m) ≤ 64
 unfolding waitLine
 wait-size time clocks m = simp length-append (omega (arith, decimal-ten time, decimal-ten clocks, word-size m))
+
+pub wait-room : (out : List ℕ) (at time clocks : ℕ) (m : Measured) → at + 64 ≤ length out → at + length (waitLine time clocks m) ≤ length out
+wait-room out at time clocks m h = omega (arith, wait-size time clocks m)
+
+-- so does what is written of a step
+pub next-size : (n : Next) → length (nextText n) ≤ 64
+unfolding nextText
+next-size Next.Over = omega arith
+next-size Next.Moved = omega arith
+next-size (Next.Wait time clocks m) = wait-size time clocks m
+
+-- no text
+pub placed-none : (out : List ℕ) (at : ℕ) → at ≡ placed out at []
+unfolding placed
+placed-none out at = by (leb (at + 0) (length out))
+  where
+    by : (b : Bool) → at ≡ pick b (at + 0) at
+    by true = omega arith
+    by false = refl
+
+pub printed-none : (out : List ℕ) (at : ℕ) → out ≡ printed out at []
+unfolding printed
+printed-none out at = by (leb (at + 0) (length out))
+  where
+    by : (b : Bool) → out ≡ pick b (sets out at []) out
+    by true = refl
+    by false = refl
 
 -- the two outcomes
 module _ (a : Answer) where

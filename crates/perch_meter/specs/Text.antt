@@ -1,14 +1,21 @@
 -- What `perch meter` writes about a log.
-use Prim.Native.Nat.{ℕ}
-use mathlib.Core.List.{List, _++_}
+use Prim.Native.Nat.{ℕ, zero, suc}
+use mathlib.Core.Bool.{Bool, true, false}
+use mathlib.Core.List.{List, [], _∷_, _++_}
 use lib.Dec.{eqb}
 use Rattle.arith.specs.Pick.{pick}
 use Rattle.text.specs.Ascii.{bytes}
 use Rattle.text.specs.Decimal.{decimalText}
+use Rattle.log_judge.specs.Tree.{acts}
+use Rattle.log_judge.specs.Whole.{treeOf}
+use Rattle.chip.specs.Range.{powerOn}
 use Rattle.run_meter.specs.declared.Measured.{Measured}
 use Rattle.run_meter.specs.declared.Measured.the-variants.{Refused, NoLevels, Silent, Steady, Moving}
 use Rattle.play_meter.specs.declared.Answer.{Answer}
-use Rattle.play_meter.specs.Meters.{logMeter}
+use Rattle.play_meter.specs.declared.waits.Gauge.{Gauge}
+use Rattle.play_meter.specs.declared.waits.Next.{Next}
+use Rattle.play_meter.specs.Meters.{Stretch, waitsFrom, logMeter}
+use Rattle.play_meter.specs.Passing.{nextOf, passOf}
 
 -- a key and a number
 unfoldable pub numbered : List ℕ → ℕ → List ℕ
@@ -46,3 +53,31 @@ meterText log memory = bytes "meter=1\n" ++ outcomeText (logMeter log memory)
 unfoldable pub waitLine : ℕ → ℕ → Measured → List ℕ
 waitLine time clocks m =
     bytes "wait=" ++ (decimalText time ++ (bytes ":" ++ (decimalText clocks ++ (bytes ":" ++ (meterWord m ++ bytes "\n")))))
+
+unfoldable pub waitsText : List Stretch → List ℕ
+waitsText [] = []
+waitsText (x ∷ l) = waitLine (x .time) (x .clocks) (x .meter) ++ waitsText l
+
+-- THE TEXT of `perch meter waits`: the same, and behind it a line for each wait of a log that passes
+unfoldable pub meterWaitsText : List ℕ → List ℕ → List ℕ
+meterWaitsText log memory =
+    meterText log memory
+    ++ pick (eqb (logMeter log memory .number) 0) (waitsText (waitsFrom memory (acts (treeOf log)) 0 powerOn)) []
+
+-- what is written of a step: a wait's line
+unfoldable pub nextText : Next → List ℕ
+nextText Next.Over = []
+nextText Next.Moved = []
+nextText (Next.Wait time clocks m) = waitLine time clocks m
+
+abbrev pub isOver : Next → Bool
+isOver Next.Over = true
+isOver Next.Moved = false
+isOver (Next.Wait time clocks m) = false
+
+-- what is written of n steps, or of those up to the end (from a log's beginning, all its waits: proofs/Joined)
+unfoldable pub stepsText : List ℕ → List ℕ → ℕ → Gauge → List ℕ
+stepsText log memory zero g = []
+stepsText log memory (suc n) g =
+    nextText (nextOf (passOf log memory g .said))
+    ++ pick (isOver (nextOf (passOf log memory g .said))) [] (stepsText log memory n (passOf log memory g .state))

@@ -3,8 +3,9 @@ ghost use mathlib.Core.Path.{_≡_};
 ghost use Prim.Native.Nat.{_+_, _≤_};
 ghost use lib.ListN.{length};
 ghost use Rattle.text_print.specs.Printed.{printed, placed, Put};
-ghost use Rattle.perch_meter.specs.Text.{numbered, movingWord, meterWord, allLine, refusedLine, outcomeText, meterText, waitLine};
+ghost use Rattle.perch_meter.specs.Text.{numbered, movingWord, meterWord, allLine, refusedLine, outcomeText, meterText, waitLine, nextText, isOver};
 use play_meter::Answer;
+use play_meter::waits::Next;
 use run_meter::Measured;
 
 // A key and a number.
@@ -95,9 +96,9 @@ pub fn answer(log: &[u8], memory: &[u8], out: &mut [u8]) -> usize
     text_print::fixed(out, 0, &text[..n])
 }
 
-// `wait=CLOCK:CLOCKS:METER`.
+// `wait=CLOCK:CLOCKS:METER`: 64 bytes always hold it.
 fn wait_line(out: &mut [u8], at: usize, time: u64, clocks: u32, m: Measured) -> usize
-    requires { ⌜ at + length (waitLine time clocks m) ≤ length (now out) ⌝ }
+    requires { ⌜ at + 64 ≤ length (now out) ⌝ }
     ensures { λ r. ⌜ Put (now (out .entry)) at (waitLine time clocks m) (now (out .exit)) r ⌝ }
 {
     let a = text_print::fixed(out, at, b"wait=");
@@ -107,4 +108,37 @@ fn wait_line(out: &mut [u8], at: usize, time: u64, clocks: u32, m: Measured) -> 
     let e = text_print::fixed(out, d, b":");
     let f = word(out, e, m);
     text_print::fixed(out, f, b"\n")
+}
+
+// The same where it fits, and the place behind it.
+fn put_wait(out: &mut [u8], at: usize, time: u64, clocks: u32, m: Measured) -> usize
+    ensures { λ r. ⌜ r ≡ placed (now (out .entry)) at (waitLine time clocks m) ⌝ }
+    ensures { λ r. ⌜ now (out .exit) ≡ printed (now (out .entry)) at (waitLine time clocks m) ⌝ }
+{
+    let mut text = [0u8; 64];
+    let n = wait_line(&mut text, 0, time, clocks, m);
+    text_print::fixed(out, at, &text[..n])
+}
+
+// What there is to write of a step to the next wait, where it fits, and the place behind it.
+pub fn put_next(out: &mut [u8], at: usize, n: Next) -> usize
+    ensures { λ r. ⌜ r ≡ placed (now (out .entry)) at (nextText n) ⌝ }
+    ensures { λ r. ⌜ now (out .exit) ≡ printed (now (out .entry)) at (nextText n) ⌝ }
+{
+    match n {
+        Next::Over => at,
+        Next::Moved => at,
+        Next::Wait(time, clocks, m) => put_wait(out, at, time, clocks, m),
+    }
+}
+
+// Whether a step found the log's end.
+pub fn is_over(n: Next) -> bool
+    ensures { λ r. ⌜ r ≡ isOver n ⌝ }
+{
+    match n {
+        Next::Over => true,
+        Next::Moved => false,
+        Next::Wait(_, _, _) => false,
+    }
 }

@@ -5,6 +5,7 @@ use Rattle.perch_place.proofs.Pieces.{room-first, room-rest, put-then}
 use Rattle.text.specs.Ascii.{bytes}
 use Rattle.text.specs.Decimal.{decimalText}
 use Rattle.perch_meter.specs.Text.{meterWord, waitLine}
+use Rattle.perch_meter.proofs.Sizes.{wait-room}
 use Rattle.perch_meter.proofs.wait_line.Statement.{statement}
 use Rattle.perch_meter.proofs.wait_line.Tie as tie
 
@@ -19,7 +20,7 @@ word-requires c κs =
     let t4 = bytes ":" in
     let t5 = meterWord (a .m) in
     let t6 = bytes "\n" in
-    let h0 = c .before .before .before .before .before .before .before .before .before .before .before .before .before .before .before .before .before .before .before .before .before .before .before .before .before .pre in
+    let h0 = wait-room (a .out .now) (a .at) (a .time) (a .clocks) (a .m) (c .before .before .before .before .before .before .before .before .before .before .before .before .before .before .before .before .before .before .before .before .before .before .before .before .before .pre) in
     let w0 = c .before .before .before .before .before .before .before .before .before .before .before .before .before .before .before .before .before .before .before .before .before .fixed in
     let p0 = put-last (a .out .now) (a .at) t0 (w0 .last .0) (w0 .result) (room-first (a .out .now) (a .at) t0 (t1 ++ (t2 ++ (t3 ++ (t4 ++ (t5 ++ (t6)))))) h0) (w0 .ensures .0) (w0 .ensures .1) in
     let h1 = room-rest (a .out .now) (a .at) t0 (t1 ++ (t2 ++ (t3 ++ (t4 ++ (t5 ++ (t6)))))) h0 _ _ p0 in
@@ -48,7 +49,7 @@ returns c =
     let t4 = bytes ":" in
     let t5 = meterWord (a .m) in
     let t6 = bytes "\n" in
-    let h0 = c .before .before .before .before .before .before .before .before .before .before .before .before .before .before .before .before .before .before .before .before .before .before .before .before .before .before .before .before .before .before .before .before .before .pre in
+    let h0 = wait-room (a .out .now) (a .at) (a .time) (a .clocks) (a .m) (c .before .before .before .before .before .before .before .before .before .before .before .before .before .before .before .before .before .before .before .before .before .before .before .before .before .before .before .before .before .before .before .before .before .pre) in
     let w0 = c .before .before .before .before .before .before .before .before .before .before .before .before .before .before .before .before .before .before .before .before .before .before .before .before .before .before .before .before .before .fixed in
     let p0 = put-last (a .out .now) (a .at) t0 (w0 .last .0) (w0 .result) (room-first (a .out .now) (a .at) t0 (t1 ++ (t2 ++ (t3 ++ (t4 ++ (t5 ++ (t6)))))) h0) (w0 .ensures .0) (w0 .ensures .1) in
     let h1 = room-rest (a .out .now) (a .at) t0 (t1 ++ (t2 ++ (t3 ++ (t4 ++ (t5 ++ (t6)))))) h0 _ _ p0 in
