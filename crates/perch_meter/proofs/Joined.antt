@@ -1,21 +1,20 @@
 -- THE LINES OF THE STEPS FROM A LOG'S BEGINNING, joined, are those of its waits. Assumes nothing.
-use Prim.Native.Nat.{ℕ, zero, suc, _≤_, _<_}
-use mathlib.Core.Path.{_≡_, refl, sym, ap, _∙_}
-use mathlib.Core.List.{List, [], _∷_, _++_}
+use Prim.Native.Nat.{ℕ, zero, suc, _≤_}
+use mathlib.Core.Path.{_≡_, refl, ap}
+use mathlib.Core.List.{List, _++_}
 use native.Mathlib.Omega.{arith}
 use borrow.Author.Tests.{eq-eqb}
 use lib.ListN.{length}
-use Rattle.log_judge.specs.Tree.{acts}
-use Rattle.log_judge.specs.Whole.{treeOf, checkOf}
-use Rattle.machine.specs.Saying.{over, on, says, Gives, ends, goes, gives}
-use Rattle.chip.specs.Range.{powerOn, Bytes}
+use Rattle.log_judge.specs.Whole.{checkOf}
+use Rattle.machine.specs.Saying.{Gives, ends, goes, gives}
+use Rattle.chip.specs.Range.{Bytes}
 use Rattle.play_meter.specs.declared.Answer.{Answer}
 use Rattle.play_meter.specs.declared.waits.Gauge.{Gauge}
-use Rattle.play_meter.specs.Meters.{Stretch, waitsFrom, logMeter}
-use Rattle.play_meter.specs.Passing.{gaugeStart, nextOf, passOf}
+use Rattle.play_meter.specs.Meters.{Stretch, logMeter}
+use Rattle.play_meter.specs.Passing.{gaugeStart, passOf}
 use Rattle.play_meter.proofs.WaitLaws.{waits-said}
 use Rattle.play_meter.proofs.WalkLaws.{meter-is}
-use Rattle.perch_meter.specs.Text.{meterText, waitLine, waitsText, meterWaitsText, nextText, isOver, stepsText}
+use Rattle.perch_meter.specs.Text.{meterText, waitLine, waitsText, meterWaitsText, nextText, stepsText}
 
 module _ (log memory : List ℕ) where
   said-text : {g : Gauge} {l : List Stretch} {k : ℕ} → Gives (passOf log memory) g l k → (f : ℕ) → k ≤ f → stepsText log memory f g ≡ waitsText l

@@ -1,6 +1,6 @@
 -- The levels of a wait's lines, clock by clock. Assumes nothing.
 use Prim.Native.Nat.{ℕ, zero, suc, _+_, min, max}
-use mathlib.Core.Path.{_≡_, refl, sym, ap, _∙_}
+use mathlib.Core.Path.{_≡_, refl, _∙_}
 use mathlib.Core.Bool.{Bool, true, false}
 use mathlib.Core.List.{List, [], _∷_, _++_}
 use native.Mathlib.Nat.{add-zero, zero-add, suc-add}

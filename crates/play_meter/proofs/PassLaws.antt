@@ -1,25 +1,21 @@
 -- One step to the next wait. Assumes nothing.
 use Prim.Native.Nat.{ℕ, _+_, _≤_}
-use mathlib.Core.Path.{_≡_, refl, sym, ap, _∙_}
-use mathlib.Core.Bool.{Bool, true, false}
-use mathlib.Core.List.{List, [], _∷_, append-nil}
-use native.Mathlib.Omega.{arith}
+use mathlib.Core.Path.{_≡_, _∙_}
+use mathlib.Core.Bool.{true, false}
+use mathlib.Core.List.{List, [], append-nil}
 use borrow.Author.Tests.{eq-eqb, eqb-true, le-leb, leb-true}
 use lib.Dec.{leb}
 use lib.ListN.{length}
-use Rattle.arith.specs.Iterate.{iterate}
-use Rattle.arith.specs.Pick.{pick, both}
+use Rattle.arith.specs.Pick.{both}
 use Rattle.arith.proofs.PickLaws.{both-left, both-right}
 use Rattle.chip.specs.Level.{stateLevel}
 use Rattle.chip.specs.Range.{inRange}
 use Rattle.chip.specs.declared.State.{State}
 use Rattle.chip_api.specs.Answer.{isMemory}
 use Rattle.log_cursor.specs.Stepping.{stepOf, told}
-use Rattle.log_cursor.specs.declared.Found.{Found}
 use Rattle.log_cursor.specs.declared.Cursor.{Cursor}
-use Rattle.log_line.specs.declared.Act.{Act}
-use Rattle.log_line.specs.declared.Act.the-variants.{Wait, Access}
-use Rattle.machine.specs.Saying.{over, on}
+use Rattle.log_line.specs.declared.Act.the-variants.{Wait}
+use Rattle.machine.specs.Saying.{over}
 use Rattle.play_model.specs.Sound.{waited}
 use Rattle.run_meter.specs.declared.Measured.{Measured}
 use Rattle.run_meter.specs.Spans.{spanAt, toldOf}
@@ -27,7 +23,6 @@ use Rattle.run_meter.proofs.Answers.{told-is}
 use Rattle.play_meter.specs.declared.Moment.{Moment}
 use Rattle.play_meter.specs.declared.waits.Gauge.{Gauge}
 use Rattle.play_meter.specs.declared.waits.Next.{Next}
-use Rattle.play_meter.specs.declared.waits.Passed.{Passed}
 use Rattle.play_meter.specs.Meters.{levelsOf, stretchOf}
 use Rattle.play_meter.specs.Passing.{go, gaugeOf, actPass, foundPass, ready, passOf, passed}
 use Rattle.play_meter.specs.Walking.{changed, clocksOn}

@@ -1,18 +1,16 @@
 -- A wait by runs: the records of a run hold the levels of the clocks that it did. Assumes nothing.
-use Prim.Native.Nat.{ℕ, zero, suc, _+_, _-_, _*_, _/_, _≤_, _<_}
+use Prim.Native.Nat.{ℕ, zero, suc, _+_, _-_, _/_, _≤_, _<_}
 use mathlib.Core.Path.{_≡_, refl, sym, ap, ap₂, _∙_}
 use mathlib.Core.Bool.{Bool, true, false}
 use mathlib.Core.List.{List, [], _∷_, _++_, map, map-append, append-assoc, append-nil}
 use native.Mathlib.Nat.{zero-add}
 use native.Mathlib.Omega.{arith}
-use lib.Dec.{eqb}
 use lib.ListN.{length, take, drop}
 use lib.Seq.{take-at}
 use Rattle.arith.specs.Iterate.{iterate}
 use Rattle.arith.specs.Pick.{pick}
 use Rattle.machine.specs.Reading.{Mark, Progress, start, same, stopped, unrecorded, recorded, worked, reading, plain}
 use Rattle.chip.specs.Clock.{chipClock}
-use Rattle.chip.specs.Level.{stateLevel}
 use Rattle.chip.specs.Range.{inRange, Bytes}
 use Rattle.chip.specs.declared.State.{State}
 use Rattle.run_answer.specs.Run.{chipMachine, flat, over, readBy, answered, answer, lent}

@@ -1,8 +1,8 @@
 -- THE STEPS FROM A LOG'S BEGINNING SAY ITS WAITS, one after the other, and then the end. Assumes nothing.
-use Prim.Native.Nat.{ℕ, _+_, _≤_, _<_}
-use mathlib.Core.Path.{_≡_, refl, sym, ap, _∙_}
+use Prim.Native.Nat.{ℕ, _+_, _≤_}
+use mathlib.Core.Path.{_≡_, refl, sym, _∙_}
 use mathlib.Core.Bool.{true}
-use mathlib.Core.List.{List, [], _∷_}
+use mathlib.Core.List.{List}
 use native.Mathlib.Omega.{arith}
 use lib.ListN.{length}
 use Rattle.arith.specs.Iterate.{iterate}
@@ -17,7 +17,7 @@ use Rattle.log_judge.specs.Whole.{treeOf, checkOf}
 use Rattle.log_passing.proofs.ActLaws.{Every, every-acts, clocksIn, clocks-listed}
 use Rattle.log_passing.proofs.Passing.{clear, stands}
 use Rattle.log_cursor.specs.declared.Cursor.{Cursor}
-use Rattle.log_cursor.specs.Stepping.{beginning, stepOf, told}
+use Rattle.log_cursor.specs.Stepping.{stepOf, told}
 use Rattle.log_cursor.proofs.Whole.{cursor-gives}
 use Rattle.machine.specs.Saying.{over, on, says, Gives, ends, goes, gives}
 use Rattle.machine.proofs.SayingLaws.{by-says, by-on, by-over}
@@ -25,10 +25,9 @@ use Rattle.chip.specs.Clock.{chipClock}
 use Rattle.chip.specs.Range.{inRange, powerOn, Bytes}
 use Rattle.chip.specs.declared.State.{State}
 use Rattle.chip.proofs.RangeLaws.{StateRanged, state-in, state-back, clock-kept, power-on-in}
-use Rattle.play_meter.specs.declared.waits.Gauge.{Gauge}
-use Rattle.play_meter.specs.Meters.{Stretch, stretchOf, accessedBy, waitsFrom}
-use Rattle.play_meter.specs.Passing.{Go, go, gaugeOf, gaugeStart, actPass, foundPass, passOf}
-use Rattle.play_meter.proofs.PassLaws.{Ready, ready-is, pass-some}
+use Rattle.play_meter.specs.Meters.{stretchOf, accessedBy, waitsFrom}
+use Rattle.play_meter.specs.Passing.{go, gaugeOf, gaugeStart, actPass, foundPass, passOf}
+use Rattle.play_meter.proofs.PassLaws.{ready-is, pass-some}
 use Rattle.play_meter.proofs.WalkLaws.{write-fine, read-fine}
 
 access-ranged : (x : busAccess.Access) (s : State) → Allowed (Access x) → inRange s ≡ true → inRange (accessedBy x s) ≡ true

@@ -10,7 +10,6 @@ use lib.ListN.{length}
 use borrow.Author.Tests.{eq-eqb, ne-eqb}
 use Rattle.arith.specs.Iterate.{iterate}
 use Rattle.arith.specs.Pick.{pick}
-use Rattle.bus.specs.declared.Access as busAccess
 use Rattle.bus.specs.declared.Access.the-variants as bus
 use Rattle.log_line.specs.declared.Act.{Act}
 use Rattle.log_line.specs.declared.Act.the-variants.{Wait, Access}
@@ -26,19 +25,16 @@ use Rattle.machine.proofs.SayingLaws.{within}
 use Rattle.chip.specs.Clock.{chipClock}
 use Rattle.chip.specs.Level.{stateLevel}
 use Rattle.chip.specs.Range.{inRange, powerOn}
-use Rattle.chip.specs.Status.{statusByte, statusRead}
+use Rattle.chip.specs.Status.{statusRead}
 use Rattle.chip.specs.Write.{registerWritten}
 use Rattle.chip.specs.declared.State.{State}
 use Rattle.chip.proofs.RangeLaws.{state-in, state-back, power-on-in, write-kept, read-kept}
-use Rattle.play_text.specs.declared.Note.{Note}
 use Rattle.play_text.specs.declared.Note.the-variants.{Read}
 use Rattle.play_model.specs.Sound.{heard, notesFrom, notesOf}
-use Rattle.run_meter.specs.declared.Measured.{Measured}
 use Rattle.run_meter.specs.declared.Span.{Span}
 use Rattle.run_meter.specs.Levels.{lowest, highest}
 use Rattle.run_meter.specs.Spans.{spanAt, spanOver, toldOf}
 use Rattle.run_meter.proofs.Answers.{told-is}
-use Rattle.play_meter.specs.declared.Answer.{Answer}
 use Rattle.play_meter.specs.declared.Moment.{Moment}
 use Rattle.play_meter.specs.Meters.{levelsOf, actsMeter, refusedAnswer, logMeter, accessedBy}
 use Rattle.play_meter.specs.Walking.{changed, momentOf, clocksOn, heardBy, accessOn, actOn, foundOn, spanFor, spanOf, Walking}

@@ -1,5 +1,5 @@
 -- The waits of a log as a machine that says them, one step of the log's cursor at a time, for any gauge and any bytes.
-use Prim.Native.Nat.{ℕ, _+_, _≤_}
+use Prim.Native.Nat.{ℕ, _+_}
 use mathlib.Core.Bool.{Bool}
 use mathlib.Core.List.{List}
 use lib.Dec.{leb}

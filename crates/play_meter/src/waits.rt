@@ -60,7 +60,13 @@ fn pass_wait(g: Gauge, c: Cursor, memory: &[u8], n: u32, words: &mut [u32]) -> P
     ensures { λ r. ⌜ r ≡ passed (actPass (now (memory .entry)) g c (Act.Wait n)) ⌝ }
 {
     let s = g.state;
-    let m = super::clocks_on(s, run_meter::at_level(s.level() as u32), memory, super::wide(n), words);
+    let m = super::clocks_on(
+        s,
+        run_meter::at_level(s.level() as u32),
+        memory,
+        super::wide(n),
+        words,
+    );
     let far = m.state;
     let span = m.span;
     let meter = run_meter::told(span);
@@ -139,7 +145,10 @@ fn is_ready(g: Gauge, memory: &[u8]) -> bool
     ensures { λ r. ⌜ r ≡ ready (now (memory .entry)) g ⌝ }
 {
     let s = g.state;
-    arith::both_of(memory.len() == 32768, arith::both_of(s.in_range(), g.time <= 2000000000))
+    arith::both_of(
+        memory.len() == 32768,
+        arith::both_of(s.in_range(), g.time <= 2000000000),
+    )
 }
 
 // One step of the log's cursor, and the wait that it brings with its meter; where none can be made the waits are over.

@@ -1,5 +1,4 @@
 use borrow.Author.Needs.{needs}
-use mathlib.Core.List.{_++_}
 use Rattle.text_print.proofs.PieceLaws.{put-last}
 use Rattle.perch_place.proofs.Pieces.{room-first, room-rest, put-then}
 use Rattle.text.specs.Decimal.{decimalText}

@@ -1,5 +1,4 @@
 use borrow.Author.Needs.{needs}
-use mathlib.Core.Path.{_∙_}
 use native.Mathlib.Omega.{arith}
 use Rattle.play_meter.proofs.WalkLaws.{write-fine, read-fine}
 use Rattle.play_meter.proofs.accessed.Statement.{statement}

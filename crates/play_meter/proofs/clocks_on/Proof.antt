@@ -1,11 +1,9 @@
-use Prim.Native.Nat.{ℕ}
-use mathlib.Core.Path.{_≡_, refl, sym, ap, _∙_}
+use mathlib.Core.Path.{_≡_, refl, sym, _∙_}
 use mathlib.Core.Bool.{true}
 use native.Mathlib.Omega.{arith}
 use borrow.Author.Needs.{needs}
 use lib.ListN.{length}
 use Rattle.chip.specs.Range.{inRange}
-use Rattle.run_meter.specs.declared.Span.{Span}
 use Rattle.play_meter.specs.Walking.{clocksOn}
 use Rattle.play_meter.proofs.RunLaws.{onward, clocks-none}
 use Rattle.play_meter.proofs.clocks_on.Statement.{statement}
