@@ -1,2 +1,3 @@
 pub mod Elsewhere
 pub mod RangeLaws
+pub mod StatusLaws

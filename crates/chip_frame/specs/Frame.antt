@@ -1,4 +1,4 @@
--- Document 01, "Dividers and one clock": the frame divider, its steps and the frame interrupt flag.
+-- Document 01, "Dividers and one clock": the frame divider, its steps and the frame interrupt flag, which goes by request 4.
 use Prim.Native.Nat.{ℕ, _+_, _-_}
 use mathlib.Core.Bool.{Bool, true, false, not}
 use lib.Dec.{leb, eqb}
@@ -36,7 +36,8 @@ clocksLengths f =
 abbrev pub lastStep : Bool → ℕ
 lastStep mode = pick mode 5 4
 
--- in mode 0 "interrupt flag set at 4, after which step is 0 again"; in mode 1 "no flag, 0 again after 5"
+-- in mode 0 "interrupt flag set at 4, after which step is 0 again"; in mode 1 "no flag, 0 again after 5". Request 4: "the flag set only while
+-- disable is clear"
 unfoldable pub frameStepped : Frame → Frame
 frameStepped f =
     record {
@@ -44,10 +45,11 @@ frameStepped f =
       disable = f .disable;
       phase = f .phase;
       step = pick (leb (lastStep (f .mode)) (nextStep f)) 0 (nextStep f);
-      interrupt = pick (both (not (f .mode)) (eqb (nextStep f) 4)) true (f .interrupt);
+      interrupt = pick (both (not (f .disable)) (both (not (f .mode)) (eqb (nextStep f) 4))) true (f .interrupt);
     }
 
--- "A $4017 write sets mode (bit 7) and disable (bit 6), phase and step 0" (the step at once in mode 1 is the chip's)
+-- "A $4017 write sets mode (bit 7) and disable (bit 6), phase and step 0" (the step at once in mode 1 is the chip's). Request 4: "a $4017 write
+-- with bit 6 set clears the flag"
 unfoldable pub frameWritten : ℕ → Frame → Frame
 frameWritten value f =
     record {
@@ -55,7 +57,7 @@ frameWritten value f =
       disable = bitSet value 6;
       phase = 0;
       step = 0;
-      interrupt = f .interrupt;
+      interrupt = pick (bitSet value 6) false (f .interrupt);
     }
 
 -- a status read "clears the frame flag"
@@ -66,9 +68,9 @@ frameRead f = record { mode = f .mode; disable = f .disable; phase = f .phase; s
 unfoldable pub frameAsserts : Frame → Bool
 frameAsserts f = both (f .interrupt) (not (f .disable))
 
--- "phase 0..14914, step 0..3 in mode 0 and 0..4 in mode 1"
+-- "phase 0..14914, step 0..3 in mode 0 and 0..4 in mode 1"; request 4: "a state with disable and frame flag both set is out of range"
 unfoldable pub frameIn : Frame → Bool
-frameIn f = both (leb (f .phase) 14914) (leb (f .step) (pick (f .mode) 4 3))
+frameIn f = both (leb (f .phase) 14914) (both (leb (f .step) (pick (f .mode) 4 3)) (not (both (f .disable) (f .interrupt))))
 
 -- "flags clear, numbers 0"
 abbrev pub frameOn : Frame

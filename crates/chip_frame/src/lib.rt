@@ -103,14 +103,15 @@ impl Frame {
     {
         let n = self.next_step();
         let last = arith::pick_u16(self.mode, 5, 4);
-        let flag = arith::both_of(!self.mode, n == 4);
+        let fourth = arith::both_of(!self.mode, n == 4);
+        let flag = arith::both_of(!self.disable, fourth);
         let mut f = self;
         f.step = step_after(last, n);
         f.interrupt = arith::pick_bool(flag, true, self.interrupt);
         f
     }
 
-    // $4017 written: the divider and the sequencer reset.
+    // $4017 written: the divider and the sequencer reset; with bit 6 set the flag is cleared.
     pub fn written(self, value: u8) -> Frame
         ensures { λ r. ⌜ r ≡ frameWritten value self ⌝ }
     {
@@ -119,6 +120,7 @@ impl Frame {
         f.disable = value / 64 % 2 == 1;
         f.phase = 0;
         f.step = 0;
+        f.interrupt = arith::pick_bool(value / 64 % 2 == 1, false, self.interrupt);
         f
     }
 
@@ -142,6 +144,8 @@ impl Frame {
         ensures { λ r. ⌜ r ≡ frameIn self ⌝ }
     {
         let most = arith::pick_u8(self.mode, 4, 3);
-        arith::both_of(self.phase <= 14914, self.step <= most)
+        let barred = arith::both_of(self.disable, self.interrupt);
+        let rest = arith::both_of(self.step <= most, !barred);
+        arith::both_of(self.phase <= 14914, rest)
     }
 }
