@@ -15,8 +15,8 @@
  *
  * A state is PERCH_STATE_SIZE bytes: the fields in the order in which document 01, "State, ranges and power-on", names
  * them. Period, timer, shift register, address, remaining and phase take two bytes, low first, every other field one;
- * a flag is 0 or 1. Bytes of another length, or with a flag above 1, or with a field outside its range, are no state in
- * range (PERCH_REFUSED_STATE).
+ * a flag is 0 or 1. Bytes of another length, or with a flag above 1, or with a field outside its range, or with disable
+ * and the frame's interrupt both set, are no state in range (PERCH_REFUSED_STATE).
  *
  *   byte   0  square 1: duty, loop, constant, n, sweep enable, negate, P, S, sweep-written, sweep divider, period (2),
  *             timer (2), half, position, envelope start, envelope divider, envelope counter, length, enabled

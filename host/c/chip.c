@@ -43,6 +43,15 @@ int main(void)
     expect("float", (uint64_t)(PERCH_LEVEL_FRACTION(perch_level(state, sizeof state)) * 32768.0f),
            PERCH_VALUE(perch_level(state, sizeof state)));
 
+    /* The frame flag after a frame of mode 0, and none while its interrupt is disabled. */
+    perch_power_on(state, sizeof state);
+    perch_run(state, sizeof state, memory, sizeof memory, 30000, words, 0);
+    expect("the frame flag asserts the line", PERCH_VALUE(perch_interrupt_line(state, sizeof state)), 1);
+    perch_write(state, sizeof state, 0x4017, 0x40);
+    expect("cleared by bit 6", PERCH_VALUE(perch_interrupt_line(state, sizeof state)), 0);
+    perch_run(state, sizeof state, memory, sizeof memory, 30000, words, 0);
+    expect("not set while disabled", PERCH_VALUE(perch_read_status(state, sizeof state)), 0x00);
+
     /* Refusals, the lowest number first; the state stays. */
     memcpy(kept, state, sizeof state);
     expect("memory", perch_run(state, sizeof state, memory, 5, 2000000, words, 65), PERCH_REFUSED_MEMORY);

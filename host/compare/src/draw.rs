@@ -125,6 +125,7 @@ pub fn state(random: &mut Random) -> Chip {
     if !chip.frame.mode {
         chip.frame.step %= 4;
     }
+    chip.frame.interrupt &= !chip.frame.disable;
     chip
 }
 
@@ -132,7 +133,7 @@ pub fn state(random: &mut Random) -> Chip {
 pub fn no_state(random: &mut Random) -> Vec<u8> {
     let mut chip = state(random);
     let mut bytes = chip.encode().to_vec();
-    match random.within(0..=5) {
+    match random.within(0..=6) {
         0 => bytes.resize(random.pick(&[0, 1, SIZE - 1, SIZE + 1]).min(MOST_STATE), 0),
         1 => bytes.iter_mut().for_each(|byte| *byte = random.byte()),
         2 => {
@@ -147,6 +148,10 @@ pub fn no_state(random: &mut Random) -> Vec<u8> {
                 }
                 at += 1;
             });
+            bytes = chip.encode().to_vec();
+        }
+        4 => {
+            (chip.frame.disable, chip.frame.interrupt) = (true, true);
             bytes = chip.encode().to_vec();
         }
         _ => {

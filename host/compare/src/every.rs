@@ -34,7 +34,7 @@ pub fn power_on(_: &mut Random) -> Result<u64, String> {
     Ok(300)
 }
 
-/// Every value of every field, in both frame modes and with channels enabled or not.
+/// Every value of every field, in both frame modes, with channels enabled or not, and beside the frame flag or disable set.
 pub fn ranges(random: &mut Random) -> Result<u64, String> {
     let mut checks = 0;
     for enabled in [false, true] {
@@ -46,6 +46,7 @@ pub fn ranges(random: &mut Random) -> Result<u64, String> {
         }
         chip.frame.mode = enabled;
         chip.frame.step = if enabled { 4 } else { 3 };
+        (chip.frame.disable, chip.frame.interrupt) = (enabled, !enabled);
         let mut at = 0;
         let mut failure = Ok(());
         chip.clone().fields(|name, slot| {

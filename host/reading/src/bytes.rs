@@ -174,9 +174,11 @@ impl Chip {
         (flags && chip.in_range()).then_some(chip)
     }
 
-    /// Whether every field is in its range, the step in its mode's, and a channel that isn't enabled has length 0.
+    /// Whether every field is in its range, the step in its mode's, disable and the frame flag aren't both set, and a channel
+    /// that isn't enabled has length 0.
     pub fn in_range(mut self) -> bool {
         let mut good = self.frame.step <= if self.frame.mode { 4 } else { 3 };
+        good &= !(self.frame.disable && self.frame.interrupt);
         let [first, second] = &self.squares;
         for length in [first.length, second.length, self.triangle.length, self.noise.length] {
             good &= length.enabled || length.count == 0;

@@ -503,13 +503,13 @@ impl Dmc {
 pub struct Frame {
     /// Five steps instead of four.
     pub mode: bool,
-    /// The interrupt flag doesn't assert the line.
+    /// The interrupt flag isn't set.
     pub disable: bool,
     /// 0..14914, two for each clock.
     pub phase: u16,
     /// Steps done: 0..3 in mode 0, 0..4 in mode 1.
     pub step: u16,
-    /// The interrupt flag.
+    /// The interrupt flag, set only while disable is clear.
     pub interrupt: bool,
 }
 
@@ -581,7 +581,7 @@ impl Chip {
             self.triangle.length.clock(self.triangle.control);
             self.noise.length.clock(self.noise.envelope.looped);
         }
-        if !self.frame.mode && step == 4 {
+        if !self.frame.mode && step == 4 && !self.frame.disable {
             self.frame.interrupt = true;
         }
         self.frame.step = if step == last { 0 } else { step };
@@ -606,6 +606,9 @@ impl Chip {
             0x4017 => {
                 self.frame.mode = bit(value, 7);
                 self.frame.disable = bit(value, 6);
+                if self.frame.disable {
+                    self.frame.interrupt = false;
+                }
                 self.frame.phase = 0;
                 self.frame.step = 0;
                 if self.frame.mode {

@@ -84,6 +84,10 @@ fn ranges_over_more_than_one_field() {
     assert!(!chip.in_range());
     chip.noise.length.enabled = true;
     assert!(chip.in_range());
+    for (disable, interrupt) in [(false, false), (false, true), (true, false), (true, true)] {
+        (chip.frame.disable, chip.frame.interrupt) = (disable, interrupt);
+        assert_eq!(chip.in_range(), !(disable && interrupt));
+    }
 }
 
 #[test]
@@ -128,7 +132,7 @@ fn five_step_mode() {
     assert_eq!(chip.squares[0].length.count, 2);
     chip.frame.interrupt = true;
     chip.write(0x4017, 0x80);
-    // Step 1 at once; the flag stays.
+    // Step 1 at once; with bit 6 clear the flag stays.
     assert_eq!((chip.frame.phase, chip.frame.step, chip.squares[0].length.count), (0, 1, 1));
     assert!(chip.frame.interrupt && !chip.squares[0].envelope.start);
     assert_eq!(chip.squares[0].envelope.counter, 15);
@@ -143,15 +147,28 @@ fn five_step_mode() {
 }
 
 #[test]
-fn disabled_frame_flag_is_set_but_asserts_nothing() {
-    let mut chip = before_step(4);
-    chip.frame.disable = true;
-    chip.clock(&MEMORY_0);
-    assert!(chip.frame.interrupt && !chip.line());
-    chip.frame.disable = false;
-    assert!(chip.line());
-    chip.write(0x4017, 0x40);
-    assert!(chip.frame.interrupt);
+fn frame_flag_is_set_only_while_disable_is_clear() {
+    // Request 4.
+    for disable in [false, true] {
+        let mut chip = before_step(4);
+        chip.frame.disable = disable;
+        chip.clock(&MEMORY_0);
+        assert_eq!((chip.frame.interrupt, chip.line()), (!disable, !disable));
+        assert_eq!(chip.read_status(), if disable { 0x00 } else { 0x40 });
+    }
+}
+
+#[test]
+fn bit_6_of_4017_clears_the_frame_flag() {
+    for (value, flag) in [(0x00, true), (0x80, true), (0x40, false), (0xc0, false), (0x3f, true), (0x7f, false)] {
+        let mut chip = Chip::POWER_ON;
+        chip.frame.interrupt = true;
+        chip.write(0x4017, value);
+        assert_eq!((chip.frame.interrupt, chip.line()), (flag, flag), "{value:02x}");
+        // Disable being cleared again brings nothing back.
+        chip.write(0x4017, 0x00);
+        assert_eq!(chip.frame.interrupt, flag);
+    }
 }
 
 #[test]
