@@ -16,12 +16,14 @@ use Rattle.chip_square.proofs.RangeLaws.{SquareRanged, square-in, square-back, 
 use Rattle.chip_triangle.proofs.RangeLaws.{TriangleRanged, triangle-in, triangle-back, triangle-on, triangle-timed, triangle-linear, triangle-lengthened, triangle-enabled, triangle-written}
 use Rattle.chip_noise.proofs.RangeLaws.{NoiseRanged, noise-in, noise-back, noise-on, noise-timed-kept, noise-enveloped-kept, noise-lengthened-kept, noise-enabled-kept, noise-write-kept}
 use Rattle.chip_dmc.proofs.RangeLaws.{DmcRanged, dmc-in, dmc-back, dmc-on, dmc-timed-kept, dmc-read-kept, dmc-enabled-kept, dmc-write-kept}
-use Rattle.chip_frame.specs.Frame.{frameDue, frameMoved, clocksEnvelopes, clocksLengths}
+use Rattle.chip_frame.specs.Frame.{nextStep, frameDue, frameMoved, clocksEnvelopes, clocksLengths}
 use Rattle.chip_frame.proofs.RangeLaws.{FrameRanged, frame-in, frame-back, frame-on, frame-moved, frame-stepped, frame-written, frame-read}
+use Rattle.chip_frame.proofs.LeapLaws.{Rising, Gaps, before-most}
 use Rattle.chip_mixer.proofs.LevelLaws.{mixed-most}
-use Rattle.chip.specs.Table.{noisePeriods, dmcPeriods, noisePeriod, dmcPeriod}
+use Rattle.chip.specs.Table.{noisePeriods, dmcPeriods, noisePeriod, dmcPeriod, frameTimes}
 use Rattle.chip.specs.Clock.{withFrame, timersClocked, readerClocked, envelopesClocked, lengthsClocked, envelopesIf, lengthsIf, stepped, framed, chipClock}
 use Rattle.chip.specs.Write.{enablesWritten, sequencerWritten, controlWritten, channelWritten, registerWritten}
+use Rattle.chip.specs.Leap.{beforeStep}
 use Rattle.chip.specs.Status.{statusRead}
 use Rattle.chip.specs.Level.{stateLevel}
 use Rattle.chip.specs.Range.{inRange, powerOn, Bytes}
@@ -33,12 +35,12 @@ pub record StateRanged (s : State) : Type 0 where
   pub triangle : TriangleRanged (s .triangle)
   pub noise : NoiseRanged (s .noise)
   pub dmc : DmcRanged (s .dmc)
-  pub frame : FrameRanged (s .frame)
+  pub frame : FrameRanged frameTimes (s .frame)
 
 -- the facts, from the test
 pub state-in : (s : State) → inRange s ≡ true → StateRanged s
 unfolding inRange
-state-in s e = search (both-left, both-right, square-in, triangle-in, noise-in, dmc-in, frame-in)
+state-in s e = search (both-left, both-right, square-in, triangle-in, noise-in, dmc-in, frame-in frameTimes)
 
 -- and back
 pub state-back : (s : State) → StateRanged s → inRange s ≡ true
@@ -48,13 +50,13 @@ state-back s h =
     (both-true _ _ (square-back (s .square2) (h .square2))
     (both-true _ _ (triangle-back (s .triangle) (h .triangle))
     (both-true _ _ (noise-back (s .noise) (h .noise))
-    (both-true _ _ (dmc-back (s .dmc) (h .dmc)) (frame-back (s .frame) (h .frame))))))
+    (both-true _ _ (dmc-back (s .dmc) (h .dmc)) (frame-back frameTimes (s .frame) (h .frame))))))
 
 -- POWER-ON IS IN RANGE
 pub power-on-in : inRange powerOn ≡ true
 unfolding inRange powerOn
 power-on-in =
-    both-true _ _ square-on (both-true _ _ square-on (both-true _ _ triangle-on (both-true _ _ (noise-back _ noise-on) (both-true _ _ (dmc-back _ dmc-on) frame-on))))
+    both-true _ _ square-on (both-true _ _ square-on (both-true _ _ triangle-on (both-true _ _ (noise-back _ noise-on) (both-true _ _ (dmc-back _ dmc-on) (frame-on frameTimes)))))
 
 -- every entry of a table is a period
 pub noise-period-range : (index : ℕ) → (1 ≤ noisePeriod index) × (noisePeriod index ≤ 4068)
@@ -73,7 +75,20 @@ dmc-period-range index =
       leb→le (getD dmcPeriods (index % 16) 0) 428 (at (λ k x. leb x 428) dmcPeriods tt (index % 16) i),
     )
 
-frame-put : (s : State) (h : StateRanged s) {f : Rattle.chip_frame.specs.declared.Frame.Frame} → FrameRanged f → StateRanged (withFrame s f)
+-- the times of the frame rise, and no gap between two of them is above 7,458 clocks
+pub times-rise : Rising frameTimes
+times-rise =
+    record { first = omega arith; second = omega arith; third = omega arith; fourth = omega arith; fifth = omega arith }
+
+times-gaps : Gaps frameTimes 7458
+times-gaps =
+    record { first = omega arith; second = omega arith; third = omega arith; fourth = omega arith; fifth = omega arith }
+
+-- a stretch between two frame steps is at most this long
+pub before-step-most : (s : State) → beforeStep s ≤ 7458
+before-step-most s = before-most frameTimes 7458 times-gaps (s .frame)
+
+frame-put : (s : State) (h : StateRanged s) {f : Rattle.chip_frame.specs.declared.Frame.Frame} → FrameRanged frameTimes f → StateRanged (withFrame s f)
 frame-put s h r =
     record { square1 = h .square1; square2 = h .square2; triangle = h .triangle; noise = h .noise; dmc = h .dmc; frame = r }
 
@@ -127,19 +142,19 @@ lengths-kept s h =
       frame = h .frame;
     }
 
-step-kept : (s : State) → StateRanged s → StateRanged (stepped s)
+step-kept : (step : ℕ) (s : State) → StateRanged s → StateRanged (stepped step s)
 unfolding stepped
-step-kept s h =
-    let e : StateRanged (envelopesIf (clocksEnvelopes (s .frame)) s) = pick-both StateRanged (clocksEnvelopes (s .frame)) (envelopes-kept s h) h in
-    let l : StateRanged (lengthsIf (clocksLengths (s .frame)) (envelopesIf (clocksEnvelopes (s .frame)) s)) =
-    pick-both StateRanged (clocksLengths (s .frame)) (lengths-kept (envelopesIf (clocksEnvelopes (s .frame)) s) e) e
-    in frame-put _ l (frame-stepped (s .frame) (h .frame))
+step-kept step s h =
+    let e : StateRanged (envelopesIf (clocksEnvelopes step (s .frame)) s) = pick-both StateRanged (clocksEnvelopes step (s .frame)) (envelopes-kept s h) h in
+    let l : StateRanged (lengthsIf (clocksLengths step (s .frame)) (envelopesIf (clocksEnvelopes step (s .frame)) s)) =
+    pick-both StateRanged (clocksLengths step (s .frame)) (lengths-kept (envelopesIf (clocksEnvelopes step (s .frame)) s) e) e
+    in frame-put _ l (frame-stepped frameTimes step (s .frame) (h .frame))
 
 framed-kept : (s : State) → StateRanged s → StateRanged (framed s)
 unfolding framed
 framed-kept s h =
-    let m : StateRanged (withFrame s (frameMoved (s .frame))) = frame-put s h (frame-moved (s .frame) (h .frame)) in
-    pick-both StateRanged (frameDue (s .frame)) (step-kept (withFrame s (frameMoved (s .frame))) m) m
+    let m : StateRanged (withFrame s (frameMoved frameTimes (s .frame))) = frame-put s h (frame-moved frameTimes (s .frame) (h .frame)) in
+    pick-both StateRanged (frameDue frameTimes (s .frame)) (step-kept (nextStep frameTimes (s .frame)) (withFrame s (frameMoved frameTimes (s .frame))) m) m
 
 -- A CLOCK KEEPS THE RANGE
 pub clock-kept : (memory : List ℕ) → Bytes memory → (s : State) → StateRanged s → StateRanged (chipClock memory s)
@@ -162,8 +177,8 @@ module _ (value : ℕ) (byte : value ≤ 255) (s : State) (h : StateRanged s) wh
   sequencer-kept : StateRanged (sequencerWritten value s)
   unfolding sequencerWritten
   sequencer-kept =
-      let m = frame-put s h (frame-written value (s .frame)) in
-      pick-both StateRanged (bitSet value 7) (step-kept _ m) m
+      let m = frame-put s h (frame-written frameTimes value (s .frame)) in
+      pick-both StateRanged (bitSet value 7) (step-kept 1 _ m) m
 
   channel-kept : (channel place : ℕ) → StateRanged (channelWritten channel place value s)
   unfolding channelWritten controlWritten
@@ -188,7 +203,7 @@ module _ (value : ℕ) (byte : value ≤ 255) (s : State) (h : StateRanged s) wh
 -- A STATUS READ KEEPS THE RANGE
 pub read-kept : (s : State) → StateRanged s → StateRanged (statusRead s)
 unfolding statusRead
-read-kept s h = frame-put s h (frame-read (s .frame) (h .frame))
+read-kept s h = frame-put s h (frame-read frameTimes (s .frame) (h .frame))
 
 -- THE LEVEL IS AT MOST 32,767
 pub level-most : (s : State) → stateLevel s ≤ 32767

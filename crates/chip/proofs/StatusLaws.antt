@@ -3,6 +3,7 @@ use mathlib.Core.Path.{_≡_, ap}
 use mathlib.Core.Bool.{Bool}
 use Rattle.arith.specs.Pick.{either}
 use Rattle.chip_frame.proofs.RangeLaws.{asserts-flag}
+use Rattle.chip.specs.Table.{frameTimes}
 use Rattle.chip.specs.Status.{lineAsserted}
 use Rattle.chip.specs.declared.State.{State}
 use Rattle.chip.proofs.RangeLaws.{StateRanged}
@@ -10,4 +11,4 @@ use Rattle.chip.proofs.RangeLaws.{StateRanged}
 -- THE LINE IS ASSERTED EXACTLY WHERE ONE OF THE TWO FLAGS IS SET
 pub line-flags : (s : State) → StateRanged s → lineAsserted s ≡ either (s .frame .interrupt) (s .dmc .reader .interrupt)
 unfolding lineAsserted
-line-flags s h = ap (λ (b : Bool). either b (s .dmc .reader .interrupt)) (asserts-flag (s .frame) (h .frame))
+line-flags s h = ap (λ (b : Bool). either b (s .dmc .reader .interrupt)) (asserts-flag frameTimes (s .frame) (h .frame))

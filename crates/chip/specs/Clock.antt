@@ -7,10 +7,10 @@ use Rattle.chip_square.specs.Square.{squareTimed, squareEnveloped, squareSwept}
 use Rattle.chip_triangle.specs.Triangle.{triangleTimed, triangleLinear, triangleLengthened}
 use Rattle.chip_noise.specs.Noise.{noiseTimed, noiseEnveloped, noiseLengthened}
 use Rattle.chip_dmc.specs.Clock.{dmcTimed, dmcRead}
-use Rattle.chip_frame.specs.Frame.{frameDue, frameMoved, clocksEnvelopes, clocksLengths, frameStepped}
+use Rattle.chip_frame.specs.Frame.{nextStep, frameDue, frameMoved, clocksEnvelopes, clocksLengths, frameStepped}
 use Rattle.chip_dmc.specs.declared.Dmc.{Dmc}
 use Rattle.chip_frame.specs.declared.Frame.{Frame}
-use Rattle.chip.specs.Table.{noisePeriod, dmcPeriod}
+use Rattle.chip.specs.Table.{noisePeriod, dmcPeriod, frameTimes}
 use Rattle.chip.specs.declared.State.{State}
 
 abbrev pub withDmc : State → Dmc → State
@@ -82,15 +82,17 @@ envelopesIf on s = pick on (envelopesClocked s) s
 abbrev pub lengthsIf : Bool → State → State
 lengthsIf on s = pick on (lengthsClocked s) s
 
--- the frame's next step: what it clocks, then the step's own count and flag
-unfoldable pub stepped : State → State
-stepped s =
-    withFrame (lengthsIf (clocksLengths (s .frame)) (envelopesIf (clocksEnvelopes (s .frame)) s)) (frameStepped (s .frame))
+-- a step of the frame: what it clocks, then its flag
+unfoldable pub stepped : ℕ → State → State
+stepped step s =
+    withFrame (lengthsIf (clocksLengths step (s .frame)) (envelopesIf (clocksEnvelopes step (s .frame)) s)) (frameStepped step (s .frame))
 
--- "the frame divider, then its step if due"
+-- the frame's clock number (document 01's "frame divider"), "then its step if due"
 unfoldable pub framed : State → State
 framed s =
-    pick (frameDue (s .frame)) (stepped (withFrame s (frameMoved (s .frame)))) (withFrame s (frameMoved (s .frame)))
+    pick (frameDue frameTimes (s .frame))
+    (stepped (nextStep frameTimes (s .frame)) (withFrame s (frameMoved frameTimes (s .frame))))
+    (withFrame s (frameMoved frameTimes (s .frame)))
 
 -- "One clock, in order: all timers with what they drive ..; the DMC reader; the frame divider, then its step if due."
 unfoldable pub chipClock : List ℕ → State → State

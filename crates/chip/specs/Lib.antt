@@ -1,4 +1,5 @@
 pub mod Clock
+pub mod Leap
 pub mod Level
 pub mod Range
 pub mod Status

@@ -9,6 +9,7 @@ use Rattle.chip_triangle.specs.Triangle.{triangleIn, triangleOn}
 use Rattle.chip_noise.specs.Noise.{noiseIn, noiseOn}
 use Rattle.chip_dmc.specs.Range.{dmcIn, dmcOn}
 use Rattle.chip_frame.specs.Frame.{frameIn, frameOn}
+use Rattle.chip.specs.Table.{frameTimes}
 use Rattle.chip.specs.declared.State.{State}
 
 -- every field within its range
@@ -16,7 +17,7 @@ unfoldable pub inRange : State → Bool
 inRange s =
     both (squareIn (s .square1))
     (both (squareIn (s .square2))
-    (both (triangleIn (s .triangle)) (both (noiseIn (s .noise)) (both (dmcIn (s .dmc)) (frameIn (s .frame))))))
+    (both (triangleIn (s .triangle)) (both (noiseIn (s .noise)) (both (dmcIn (s .dmc)) (frameIn frameTimes (s .frame))))))
 
 -- "Power-on is house: flags clear, numbers 0, except as marked."
 unfoldable pub powerOn : State

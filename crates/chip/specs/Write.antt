@@ -80,10 +80,10 @@ enablesWritten value s =
       frame = s .frame;
     }
 
--- "A $4017 write sets mode (bit 7) and disable (bit 6), phase and step 0; in mode 1 step 1 happens at once and step is 1."
+-- "A $4017 write sets mode (bit 7) and disable (bit 6)", the clock number 0; "in mode 1 step 1 happens at once"
 unfoldable pub sequencerWritten : ℕ → State → State
 sequencerWritten value s =
-    pick (bitSet value 7) (stepped (withFrame s (frameWritten value (s .frame)))) (withFrame s (frameWritten value (s .frame)))
+    pick (bitSet value 7) (stepped 1 (withFrame s (frameWritten value (s .frame)))) (withFrame s (frameWritten value (s .frame)))
 
 -- $4015 and $4017
 unfoldable pub controlWritten : ℕ → ℕ → State → State

@@ -4,10 +4,11 @@ ghost use mathlib.Core.Path.{_≡_};
 ghost use mathlib.Core.Bool.{Bool, not};
 ghost use Prim.Native.Nat.{ℕ, _+_, _-_, _*_, _/_, _%_, _≤_};
 ghost use Rattle.arith.specs.Pick.{pick, both};
-ghost use Rattle.chip.specs.Table.{noisePeriod, dmcPeriod};
+ghost use Rattle.chip.specs.Table.{noisePeriod, dmcPeriod, frameTimes};
 ghost use Rattle.chip.specs.Clock.{withFrame, timersClocked, readerClocked, envelopesClocked, lengthsClocked, envelopesIf, lengthsIf, stepped, framed, chipClock};
 ghost use Rattle.chip.specs.Write.{withSquare1, withSquare2, withTriangle, withNoise, enablesWritten, sequencerWritten, controlWritten, channelWritten, registerWritten};
 ghost use Rattle.chip.specs.Status.{statusByte, statusRead, lineAsserted};
+ghost use Rattle.chip.specs.Leap.{beforeStep, passedFrame};
 ghost use Rattle.chip.specs.Level.{stateLevel};
 ghost use Rattle.chip.specs.Range.{inRange, powerOn};
 ghost use Rattle.chip_square.specs.Write.{squareWrite};
@@ -16,6 +17,7 @@ ghost use Rattle.chip_noise.specs.Noise.{noiseWrite};
 ghost use Rattle.chip_dmc.specs.Write.{dmcWrite};
 use chip_dmc::Dmc;
 use chip_frame::Frame;
+use chip_frame::Times;
 use chip_noise::Noise;
 use chip_square::Square;
 use chip_triangle::Triangle;
@@ -79,6 +81,19 @@ pub fn dmc_period(index: u8) -> u16
     }
 }
 
+// The clock numbers at which the frame's steps come.
+pub fn frame_times() -> Times
+    ensures { λ r. ⌜ r ≡ frameTimes ⌝ }
+{
+    Times {
+        first: 7457,
+        second: 14913,
+        third: 22371,
+        fourth: 29829,
+        fifth: 37281,
+    }
+}
+
 // The state at power-on.
 pub fn power_on() -> State
     ensures { λ r. ⌜ r ≡ powerOn ⌝ }
@@ -108,7 +123,8 @@ impl State {
         let t = self.triangle.in_range();
         let n = self.noise.in_range();
         let d = self.dmc.in_range();
-        let f = self.frame.in_range();
+        let times = frame_times();
+        let f = self.frame.in_range(times);
         let df = arith::both_of(d, f);
         let ndf = arith::both_of(n, df);
         let tndf = arith::both_of(t, ndf);
@@ -176,35 +192,37 @@ impl State {
         if on { self.lengths_clocked() } else { self }
     }
 
-    // The frame's next step.
-    fn step(self) -> State
-        ensures { λ r. ⌜ r ≡ stepped self ⌝ }
+    // A step of the frame.
+    fn step(self, step: u8) -> State
+        ensures { λ r. ⌜ r ≡ stepped step self ⌝ }
     {
-        let quarter = self.frame.is_quarter();
-        let half = self.frame.is_half();
+        let quarter = self.frame.is_quarter(step);
+        let half = self.frame.is_half(step);
         let e = self.envelopes_if(quarter);
         let mut s = e.lengths_if(half);
-        s.frame = self.frame.stepped();
+        s.frame = self.frame.stepped(step);
         s
     }
 
-    fn step_if(self, on: bool) -> State
-        ensures { λ r. ⌜ r ≡ pick on (stepped self) self ⌝ }
+    // The step that a $4017 write with bit 7 set brings at once.
+    fn first_step_if(self, on: bool) -> State
+        ensures { λ r. ⌜ r ≡ pick on (stepped 1 self) self ⌝ }
     {
-        if on { self.step() } else { self }
+        if on { self.step(1) } else { self }
     }
 
-    // The frame divider, and its step if due.
+    // The frame's clock number, and its step if due.
     fn frame_clocked(self) -> State
         ensures { λ r. ⌜ r ≡ framed self ⌝ }
     {
-        let due = self.frame.is_due();
+        let times = frame_times();
+        let step = self.frame.next_step(times);
         let mut s = self;
-        s.frame = self.frame.moved();
-        if due {
-            return s.step();
+        s.frame = self.frame.moved(times);
+        if step == 0 {
+            return s;
         }
-        s
+        s.step(step)
     }
 
     // One clock.
@@ -214,6 +232,22 @@ impl State {
         let t = self.timed();
         let r = t.fed(memory);
         r.frame_clocked()
+    }
+
+    // The clocks before the next frame step.
+    pub fn before_step(self) -> u32
+        ensures { λ r. ⌜ r ≡ beforeStep self ⌝ }
+    {
+        let times = frame_times();
+        self.frame.before(times)
+    }
+
+    // The frame after g clocks that bring none.
+    pub fn passed_frame(self, g: u32) -> Frame
+        ensures { λ r. ⌜ r ≡ passedFrame g self ⌝ }
+    {
+        let times = frame_times();
+        self.frame.passed(times, g)
     }
 
     fn write_enables(self, value: u8) -> State
@@ -234,7 +268,7 @@ impl State {
     {
         let mut s = self;
         s.frame = self.frame.written(value);
-        s.step_if(value / 128 % 2 == 1)
+        s.first_step_if(value / 128 % 2 == 1)
     }
 
     fn write_control(self, place: u16, value: u8) -> State

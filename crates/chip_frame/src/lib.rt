@@ -1,38 +1,59 @@
-// The frame sequencer: its divider, its steps, and its interrupt flag.
+// The frame sequencer: its clock number, its steps, and its interrupt flag. At which clock numbers steps come is an argument.
 ghost use mathlib.Core.Path.{_≡_};
-ghost use mathlib.Core.Bool.{not};
-ghost use Prim.Native.Nat.{_+_, _-_, _≤_};
+ghost use Prim.Native.Nat.{_+_};
 ghost use lib.Dec.{leb};
 ghost use Rattle.arith.specs.Pick.{pick};
-ghost use Rattle.chip_frame.specs.Frame.{frameDue, frameMoved, nextStep, clocksEnvelopes, clocksLengths, lastStep, frameStepped, frameWritten, frameRead, frameAsserts, frameIn, frameOn};
+ghost use Rattle.chip_frame.specs.Frame.{lastNumber, frameMoved, stepAt, nextStep, clocksEnvelopes, clocksLengths, frameStepped, frameWritten, frameRead, frameAsserts, frameIn, frameOn};
 
 mod leap;
 
-// `phase` is the divider's count in half clocks, `step` the steps made in this frame.
+// The clock numbers at which steps come. Mode 0 has the first four, mode 1 all five; behind the last the clock number is 0 again.
+pub struct Times {
+    pub first: u16,
+    pub second: u16,
+    pub third: u16,
+    pub fourth: u16,
+    pub fifth: u16,
+}
+
+// `clock` is the clock number: the clocks since the frame began.
 pub struct Frame {
     pub mode: bool,
     pub disable: bool,
-    pub phase: u16,
-    pub step: u8,
+    pub clock: u16,
     pub interrupt: bool,
 }
 
-fn phase_of(risen: u32) -> u16
-    requires { ⌜ risen ≤ 65537 ⌝ }
-    ensures { λ r. ⌜ r ≡ pick (leb 14915 risen) (risen - 14915) risen ⌝ }
-{
-    if 14915 <= risen {
-        (risen - 14915) as u16
-    } else {
-        risen as u16
+impl Times {
+    // The last clock number of a frame.
+    fn last(self, mode: bool) -> u16
+        ensures { λ r. ⌜ r ≡ lastNumber self mode ⌝ }
+    {
+        arith::pick_u16(mode, self.fifth, self.fourth)
+    }
+
+    // The step that comes at a clock number, and 0 where none comes.
+    fn step_at(self, mode: bool, clock: u16) -> u8
+        ensures { λ r. ⌜ r ≡ stepAt self mode clock ⌝ }
+    {
+        let at_fifth = arith::both_of(mode, clock == self.fifth);
+        let at_fourth = arith::pick_u8(mode, 5, 4);
+        let at_third = arith::pick_u8(mode, 4, 3);
+        let at_second = arith::pick_u8(mode, 3, 2);
+        let at_first = arith::pick_u8(mode, 2, 1);
+        let fifth = arith::pick_u8(at_fifth, 1, 0);
+        let fourth = arith::pick_u8(clock == self.fourth, at_fourth, fifth);
+        let third = arith::pick_u8(clock == self.third, at_third, fourth);
+        let second = arith::pick_u8(clock == self.second, at_second, third);
+        arith::pick_u8(clock == self.first, at_first, second)
     }
 }
 
-fn step_after(last: u16, next: u16) -> u8
-    requires { ⌜ last ≤ 5 ⌝ }
-    ensures { λ r. ⌜ r ≡ pick (leb last next) 0 next ⌝ }
+// The clock number behind one, where `last` is the last of the frame.
+fn number_after(clock: u16, last: u16) -> u16
+    ensures { λ r. ⌜ r ≡ pick (leb last clock) 0 (clock + 1) ⌝ }
 {
-    if last <= next { 0 } else { next as u8 }
+    if last <= clock { 0 } else { clock + 1 }
 }
 
 impl Frame {
@@ -43,83 +64,64 @@ impl Frame {
         Frame {
             mode: false,
             disable: false,
-            phase: 0,
-            step: 0,
+            clock: 0,
             interrupt: false,
         }
     }
 
-    fn risen(self) -> u32
-        ensures { λ r. ⌜ r ≡ self .phase + 2 ⌝ }
+    // One clock of the clock number.
+    pub fn moved(self, t: Times) -> Frame
+        ensures { λ r. ⌜ r ≡ frameMoved t self ⌝ }
     {
-        self.phase as u32 + 2
-    }
-
-    // Whether the next clock brings a step.
-    pub fn is_due(self) -> bool
-        ensures { λ r. ⌜ r ≡ frameDue self ⌝ }
-    {
-        let risen = self.risen();
-        14915 <= risen
-    }
-
-    // One clock of the divider.
-    pub fn moved(self) -> Frame
-        ensures { λ r. ⌜ r ≡ frameMoved self ⌝ }
-    {
-        let risen = self.risen();
+        let last = t.last(self.mode);
         let mut f = self;
-        f.phase = phase_of(risen);
+        f.clock = number_after(self.clock, last);
         f
     }
 
-    fn next_step(self) -> u16
-        ensures { λ r. ⌜ r ≡ nextStep self ⌝ }
+    // The step that the next clock brings, and 0 where it brings none.
+    pub fn next_step(self, t: Times) -> u8
+        ensures { λ r. ⌜ r ≡ nextStep t self ⌝ }
     {
-        self.step as u16 + 1
+        let next = self.moved(t);
+        t.step_at(self.mode, next.clock)
     }
 
-    // Whether the next step clocks envelopes and the linear counter.
-    pub fn is_quarter(self) -> bool
-        ensures { λ r. ⌜ r ≡ clocksEnvelopes self ⌝ }
+    // Whether a step clocks envelopes and the linear counter.
+    pub fn is_quarter(self, step: u8) -> bool
+        ensures { λ r. ⌜ r ≡ clocksEnvelopes step self ⌝ }
     {
-        let n = self.next_step();
-        arith::pick_bool(self.mode, n <= 4, true)
+        arith::pick_bool(self.mode, step <= 4, true)
     }
 
-    // Whether the next step clocks lengths and sweeps.
-    pub fn is_half(self) -> bool
-        ensures { λ r. ⌜ r ≡ clocksLengths self ⌝ }
+    // Whether a step clocks lengths and sweeps.
+    pub fn is_half(self, step: u8) -> bool
+        ensures { λ r. ⌜ r ≡ clocksLengths step self ⌝ }
     {
-        let n = self.next_step();
-        let five = arith::either_of(n == 1, n == 3);
-        let four = arith::either_of(n == 2, n == 4);
+        let five = arith::either_of(step == 1, step == 3);
+        let four = arith::either_of(step == 2, step == 4);
         arith::pick_bool(self.mode, five, four)
     }
 
-    // The next step made.
-    pub fn stepped(self) -> Frame
-        ensures { λ r. ⌜ r ≡ frameStepped self ⌝ }
+    // A step's flag.
+    pub fn stepped(self, step: u8) -> Frame
+        ensures { λ r. ⌜ r ≡ frameStepped step self ⌝ }
     {
-        let n = self.next_step();
-        let last = arith::pick_u16(self.mode, 5, 4);
-        let fourth = arith::both_of(!self.mode, n == 4);
+        let fourth = arith::both_of(!self.mode, step == 4);
         let flag = arith::both_of(!self.disable, fourth);
         let mut f = self;
-        f.step = step_after(last, n);
         f.interrupt = arith::pick_bool(flag, true, self.interrupt);
         f
     }
 
-    // $4017 written: the divider and the sequencer reset; with bit 6 set the flag is cleared.
+    // $4017 written: the frame begins anew; with bit 6 set the flag is cleared.
     pub fn written(self, value: u8) -> Frame
         ensures { λ r. ⌜ r ≡ frameWritten value self ⌝ }
     {
         let mut f = self;
         f.mode = value / 128 % 2 == 1;
         f.disable = value / 64 % 2 == 1;
-        f.phase = 0;
-        f.step = 0;
+        f.clock = 0;
         f.interrupt = arith::pick_bool(value / 64 % 2 == 1, false, self.interrupt);
         f
     }
@@ -140,12 +142,11 @@ impl Frame {
         arith::both_of(self.interrupt, !self.disable)
     }
 
-    pub fn in_range(self) -> bool
-        ensures { λ r. ⌜ r ≡ frameIn self ⌝ }
+    pub fn in_range(self, t: Times) -> bool
+        ensures { λ r. ⌜ r ≡ frameIn t self ⌝ }
     {
-        let most = arith::pick_u8(self.mode, 4, 3);
+        let last = t.last(self.mode);
         let barred = arith::both_of(self.disable, self.interrupt);
-        let rest = arith::both_of(self.step <= most, !barred);
-        arith::both_of(self.phase <= 14914, rest)
+        arith::both_of(self.clock <= last, !barred)
     }
 }

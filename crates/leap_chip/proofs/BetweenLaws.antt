@@ -15,10 +15,11 @@ use Rattle.chip_noise.specs.Shifter.{shifterClock}
 use Rattle.chip_noise.specs.Noise.{noiseTimed}
 use Rattle.chip_dmc.specs.Clock.{dmcTimed, dmcRead, dmcClock}
 use Rattle.chip_frame.specs.Frame.{frameDue, frameMoved}
-use Rattle.chip_frame.specs.Leap.{frameBefore, framePassed}
 use Rattle.chip_frame.proofs.RangeLaws.{FrameRanged}
 use Rattle.chip_frame.proofs.LeapLaws.{passed-none, passed-due, passed-more}
-use Rattle.chip.specs.Table.{noisePeriod, dmcPeriod}
+use Rattle.chip.specs.Table.{noisePeriod, dmcPeriod, frameTimes}
+use Rattle.chip.specs.Leap.{beforeStep, passedFrame}
+use Rattle.chip.proofs.RangeLaws.{times-rise}
 use Rattle.chip.specs.Clock.{timersClocked, readerClocked, framed, chipClock}
 use Rattle.chip_square.specs.declared.Sequencer as square1
 use Rattle.chip_triangle.specs.declared.Sequencer as triangle1
@@ -47,9 +48,9 @@ module _ (memory : List ℕ) (s : State) where
 
   -- one clock that brings no step
   one : (q1 q2 : square1.Sequencer) (tq : triangle1.Sequencer) (h : Shifter) (d : Dmc) (f : Frame)
-      → frameDue f ≡ false → d .registers ≡ s .dmc .registers
+      → frameDue frameTimes f ≡ false → d .registers ≡ s .dmc .registers
       → chipClock memory (stateWith q1 q2 tq h d f s)
-      ≡ stateWith (sequencerClock q1) (sequencerClock q2) (triangleSequenced (runs (s .triangle)) tq) (shifterClock noise-n (s .noise .mode) h) (dmcClock memory dmc-n d) (frameMoved f) s
+      ≡ stateWith (sequencerClock q1) (sequencerClock q2) (triangleSequenced (runs (s .triangle)) tq) (shifterClock noise-n (s .noise .mode) h) (dmcClock memory dmc-n d) (frameMoved frameTimes f) s
   unfolding chipClock framed readerClocked timersClocked stateWith squareTimed triangleTimed noiseTimed dmcClock runs
   one q1 q2 tq h d f e r = rw (e, r)
 
@@ -59,19 +60,19 @@ module _ (memory : List ℕ) (s : State) where
       stateWith (iterate sequencerClock g (s .square1 .sequencer)) (iterate sequencerClock g (s .square2 .sequencer))
       (iterate (triangleSequenced (runs (s .triangle))) g (s .triangle .sequencer))
       (iterate (shifterClock noise-n (s .noise .mode)) g (s .noise .shifter))
-      (iterate (dmcClock memory dmc-n) g (s .dmc)) (framePassed g (s .frame)) s
+      (iterate (dmcClock memory dmc-n) g (s .dmc)) (passedFrame g s) s
 
-  start : FrameRanged (s .frame) → s ≡ parted 0
+  start : FrameRanged frameTimes (s .frame) → s ≡ parted 0
   unfolding iterate stateWith
-  start h = rw (passed-none (s .frame) h)
+  start h = rw (passed-none frameTimes (s .frame) h)
 
-  more : FrameRanged (s .frame) → (g : ℕ) → g < frameBefore (s .frame) → chipClock memory (parted g) ≡ parted (suc g)
+  more : FrameRanged frameTimes (s .frame) → (g : ℕ) → g < beforeStep s → chipClock memory (parted g) ≡ parted (suc g)
   more h g few =
-      one _ _ _ _ (iterate (dmcClock memory dmc-n) g (s .dmc)) (framePassed g (s .frame)) (passed-due (s .frame) h g few) (registers-stay memory dmc-n g (s .dmc))
-      ∙ rw (passed-more (s .frame) h g few, ← add-one g, iterate-more sequencerClock g (s .square1 .sequencer), iterate-more sequencerClock g (s .square2 .sequencer), iterate-more (triangleSequenced (runs (s .triangle))) g (s .triangle .sequencer), iterate-more (shifterClock noise-n (s .noise .mode)) g (s .noise .shifter), iterate-more (dmcClock memory dmc-n) g (s .dmc))
+      one _ _ _ _ (iterate (dmcClock memory dmc-n) g (s .dmc)) (passedFrame g s) (passed-due frameTimes times-rise (s .frame) h g few) (registers-stay memory dmc-n g (s .dmc))
+      ∙ rw (passed-more frameTimes (s .frame) h g, ← add-one g, iterate-more sequencerClock g (s .square1 .sequencer), iterate-more sequencerClock g (s .square2 .sequencer), iterate-more (triangleSequenced (runs (s .triangle))) g (s .triangle .sequencer), iterate-more (shifterClock noise-n (s .noise .mode)) g (s .noise .shifter), iterate-more (dmcClock memory dmc-n) g (s .dmc))
 
   -- CLOCKS THAT BRING NO FRAME STEP ARE EACH CHANNEL'S OWN
-  pub between : FrameRanged (s .frame) → (g : ℕ) → g ≤ frameBefore (s .frame) → iterate (chipClock memory) g s ≡ parted g
+  pub between : FrameRanged frameTimes (s .frame) → (g : ℕ) → g ≤ beforeStep s → iterate (chipClock memory) g s ≡ parted g
   between h zero l = iterate-zero (chipClock memory) s ∙ start h
   between h (suc g) l =
       ap (λ (k : ℕ). iterate (chipClock memory) k s) (sym (add-one g))

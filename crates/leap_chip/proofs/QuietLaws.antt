@@ -1,5 +1,5 @@
 -- THE LAW OF THE LEAP, proved: in the quiet state any clocks that bring no frame step leave the level, and every field has its closed form. Each channel's
--- own law gives its fields; that no clock brings a step is the same as that there are no more of them than the frame's `frameBefore`. Assumes nothing.
+-- own law gives its fields; that no clock brings a step is the same as that there are no more of them than `beforeStep`. Assumes nothing.
 use Prim.Native.Nat.{ℕ, _+_, _*_, _/_, _%_, _≤_, _<_}
 use mathlib.Core.Path.{_≡_, refl, sym, ap, _∙_}
 use mathlib.Core.Bool.{Bool, true, false, true≢false}
@@ -37,18 +37,17 @@ use Rattle.leap_noise.proofs.LeapLaws as noises
 use Rattle.chip_dmc.specs.Clock.{dmcClock, dmcOutput}
 use Rattle.leap_dmc.proofs.LeapLaws.{DmcIdle, idle-closed, idle-still}
 use Rattle.chip_frame.specs.Frame.{frameDue}
-use Rattle.chip_frame.specs.Leap.{frameBefore, framePassed}
 use Rattle.chip_frame.specs.declared.Frame.{Frame}
-use Rattle.chip_frame.proofs.RangeLaws.{FrameRanged}
 use Rattle.chip_frame.proofs.LeapLaws.{passed-due, before-due}
 use Rattle.chip.specs.Clock.{chipClock}
+use Rattle.chip.specs.Leap.{beforeStep, passedFrame}
 use Rattle.chip.specs.Level.{stateLevel}
 use Rattle.chip.specs.Range.{inRange}
-use Rattle.chip.specs.Table.{noisePeriod, dmcPeriod}
+use Rattle.chip.specs.Table.{noisePeriod, dmcPeriod, frameTimes}
 use Rattle.chip.specs.declared.State.{State}
-use Rattle.chip.proofs.RangeLaws.{StateRanged, state-in, noise-period-range, dmc-period-range}
+use Rattle.chip.proofs.RangeLaws.{StateRanged, state-in, noise-period-range, dmc-period-range, times-rise}
 use Rattle.leap_chip.specs.Between.{stateWith}
-use Rattle.leap_chip.specs.Quiet.{Quiet, squareAfter, triangleAfter, frameAfter, quietAfter, NoStep, Leapt, LeapLaw}
+use Rattle.leap_chip.specs.Quiet.{Quiet, squareAfter, triangleAfter, quietAfter, NoStep, Leapt, LeapLaw}
 use Rattle.leap_chip.proofs.BetweenLaws.{between}
 
 -- what the code makes of a square, count and steps by their remainders, is the law's text
@@ -151,35 +150,30 @@ noise-silent n c z h =
 idle : (s : State) → Quiet s → DmcIdle (s .dmc)
 idle s q = record { silence = q .silence; full = q .buffer; remaining = q .remaining }
 
--- the frame's phase, which the code takes by its remainder
-pub frame-plain : (f : Frame) → FrameRanged f → (g : ℕ) → g ≤ frameBefore f → framePassed g f ≡ frameAfter g f
-unfolding framePassed frameAfter frameBefore
-frame-plain f r g few = let e : (f .phase + 2 * g) % 65536 ≡ f .phase + 2 * g = mod-eq-of-lt (omega (arith, r .phase)) in rw e refl
-
 module _ (memory : List ℕ) (s : State) (ranged : inRange s ≡ true) where
   abbrev r : StateRanged s
   r = state-in s ranged
 
   -- the frame at clock k of a stretch
-  frame-at : (k : ℕ) → k ≤ frameBefore (s .frame) → iterate (chipClock memory) k s .frame ≡ framePassed k (s .frame)
+  frame-at : (k : ℕ) → k ≤ beforeStep s → iterate (chipClock memory) k s .frame ≡ passedFrame k s
   unfolding stateWith
   frame-at k few = ap (λ (x : State). x .frame) (between memory s (r .frame) k few)
 
   -- clocks that bring no step are at most those before the next one,
-  pub no-step-few : (g : ℕ) → NoStep memory s g → g ≤ frameBefore (s .frame)
-  no-step-few g none = go (ltb (frameBefore (s .frame)) g) refl
+  pub no-step-few : (g : ℕ) → NoStep memory s g → g ≤ beforeStep s
+  no-step-few g none = go (ltb (beforeStep s) g) refl
     where
-      go : (t : Bool) → ltb (frameBefore (s .frame)) g ≡ t → g ≤ frameBefore (s .frame)
+      go : (t : Bool) → ltb (beforeStep s) g ≡ t → g ≤ beforeStep s
       go true e =
-          let b : ℕ = frameBefore (s .frame) in
-          absurd (true≢false (sym (before-due (s .frame) (r .frame)) ∙ sym (ap frameDue (frame-at b (omega arith))) ∙ none b (ltb-true b g e)))
-      go false e = ltb-false (frameBefore (s .frame)) g e
+          let b : ℕ = beforeStep s in
+          absurd (true≢false (sym (before-due frameTimes times-rise (s .frame) (r .frame)) ∙ sym (ap (frameDue frameTimes) (frame-at b (omega arith))) ∙ none b (ltb-true b g e)))
+      go false e = ltb-false (beforeStep s) g e
 
   -- and the other way round
-  pub few-no-step : (g : ℕ) → g ≤ frameBefore (s .frame) → NoStep memory s g
-  few-no-step g few k h = ap frameDue (frame-at k (omega arith)) ∙ passed-due (s .frame) (r .frame) k (omega arith)
+  pub few-no-step : (g : ℕ) → g ≤ beforeStep s → NoStep memory s g
+  few-no-step g few k h = ap (frameDue frameTimes) (frame-at k (omega arith)) ∙ passed-due frameTimes times-rise (s .frame) (r .frame) k (omega arith)
 
-module _ (memory : List ℕ) (s : State) (ranged : inRange s ≡ true) (q : Quiet s) (g : ℕ) (few : g ≤ frameBefore (s .frame)) where
+module _ (memory : List ℕ) (s : State) (ranged : inRange s ≡ true) (q : Quiet s) (g : ℕ) (few : g ≤ beforeStep s) where
   abbrev dmc-n : ℕ
   dmc-n = dmcPeriod (s .dmc .registers .index)
 
@@ -195,7 +189,7 @@ module _ (memory : List ℕ) (s : State) (ranged : inRange s ≡ true) (q : Quie
       (r .noise .shifter .timer-from)
       in
       let d = idle-closed memory dmc-n (dmc-period-range (s .dmc .registers .index) .0) (s .dmc) (r .dmc) (idle s q) g in
-      between memory s (r .frame) g few ∙ rw (a, b, t, n, d, frame-plain (s .frame) (r .frame) g few)
+      between memory s (r .frame) g few ∙ rw (a, b, t, n, d)
 
   -- THE LEVEL
   pub quiet-level : stateLevel (iterate (chipClock memory) g s) ≡ stateLevel s

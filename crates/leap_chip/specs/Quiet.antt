@@ -15,9 +15,8 @@ use Rattle.leap_square.specs.Leap.{stepsOf}
 use Rattle.chip_triangle.specs.declared.Sequencer as triangle
 use Rattle.leap_noise.specs.Leap.{shifterAdvanced}
 use Rattle.leap_dmc.specs.Leap.{dmcAdvanced}
-use Rattle.chip_frame.specs.Frame.{frameDue}
-use Rattle.chip_frame.specs.declared.Frame.{Frame}
 use Rattle.chip.specs.Clock.{chipClock}
+use Rattle.chip.specs.Leap.{stepDue, passedFrame}
 use Rattle.chip.specs.Level.{stateLevel}
 use Rattle.chip.specs.Range.{inRange}
 use Rattle.chip.specs.Table.{noisePeriod, dmcPeriod}
@@ -54,22 +53,17 @@ squareAfter g q =
 unfoldable pub triangleAfter : ℕ → triangle.Sequencer → triangle.Sequencer
 triangleAfter g q = record { timer = timerAfter g (q .timer); position = q .position }
 
--- the frame: "phase rises by 2"
-unfoldable pub frameAfter : ℕ → Frame → Frame
-frameAfter g f =
-    record { mode = f .mode; disable = f .disable; phase = f .phase + 2 * g; step = f .step; interrupt = f .interrupt }
-
--- every field g clocks on, where none of them brings a frame step
+-- every field g clocks on, where none of them brings a frame step; the frame's clock number goes round (`passedFrame`)
 unfoldable pub quietAfter : ℕ → State → State
 quietAfter g s =
     stateWith (squareAfter g (s .square1 .sequencer)) (squareAfter g (s .square2 .sequencer)) (triangleAfter g (s .triangle .sequencer))
     (shifterAdvanced (noisePeriod (s .noise .index)) (s .noise .mode) g (s .noise .shifter))
     (dmcAdvanced (dmcPeriod (s .dmc .registers .index)) g (s .dmc))
-    (frameAfter g (s .frame)) s
+    (passedFrame g s) s
 
 -- "g clocks that bring no frame step": the frame's own test fails at each of them
 abbrev pub NoStep : List ℕ → State → ℕ → Type 0
-NoStep memory s g = (k : ℕ) → k < g → frameDue (iterate (chipClock memory) k s .frame) ≡ false
+NoStep memory s g = (k : ℕ) → k < g → stepDue (iterate (chipClock memory) k s) ≡ false
 
 -- what g quiet clocks come to
 pub record Leapt (memory : List ℕ) (s : State) (g : ℕ) : Type 0 where

@@ -11,8 +11,8 @@ use Rattle.arith.specs.Pick.{pick}
 use Rattle.divider.specs.Divider.{forever}
 use Rattle.chip_mixer.specs.Mixer.{mixed}
 use Rattle.chip_triangle.specs.Triangle.{triangleAt}
-use Rattle.chip_frame.specs.Leap.{frameBefore}
-use Rattle.chip_frame.proofs.LeapLaws.{before-most}
+use Rattle.chip.specs.Leap.{beforeStep}
+use Rattle.chip.proofs.RangeLaws.{before-step-most}
 use Rattle.chip.specs.Clock.{chipClock}
 use Rattle.chip.specs.Level.{stateLevel}
 use Rattle.chip.specs.Range.{Bytes}
@@ -160,7 +160,7 @@ module _ (memory : List ℕ) (bytes : Bytes memory) (s : State) (r : StateRanged
         level = refl;
       }
 
-  module _ (k : ℕ) (from : l .now ≤ k) (to : k < l .next) (few : k ≤ frameBefore (s .frame)) where
+  module _ (k : ℕ) (from : l .now ≤ k) (to : k < l .next) (few : k ≤ beforeStep s) where
     -- the kept level is the level, up to the next event
     pub lagging-level : stateLevel (iterate (chipClock memory) k s) ≡ l .level
     unfolding stateLevel stateWith
@@ -191,9 +191,9 @@ module _ (memory : List ℕ) (bytes : Bytes memory) (s : State) (r : StateRanged
 
 -- at the event the kept level is the machine's
 pub event-level : (memory : List ℕ) (bytes : Bytes memory) (s : State) (r : StateRanged s) (l : Lags) (g : Lagging memory s l)
-    → l .next ≤ frameBefore (s .frame) → stateLevel (iterate (chipClock memory) (l .next) s) ≡ renewed memory l (l .next) .level
+    → l .next ≤ beforeStep s → stateLevel (iterate (chipClock memory) (l .next) s) ≡ renewed memory l (l .next) .level
 unfolding renewed renewedWith lagsAt
 event-level memory bytes s r l g few =
-    let f : l .next ≤ forever = omega (arith, before-most (s .frame)) in
+    let f : l .next ≤ forever = omega (arith, before-step-most s) in
     let e = lagging-renewed memory bytes s r l g f in
     lagging-level memory bytes s r (renewed memory l (l .next)) e (l .next) (omega arith) (next-past memory s (renewed memory l (l .next)) e) few

@@ -24,13 +24,13 @@ use Rattle.chip_noise.specs.declared.Shifter.{Shifter}
 use Rattle.leap_dmc.specs.Leap.{dmcStill}
 use Rattle.leap_dmc.specs.Lag.{dmcLag, dmcAt}
 use Rattle.leap_dmc.proofs.LeapLaws.{DmcIdle, idle-forever}
-use Rattle.chip_frame.specs.Leap.{frameBefore}
-use Rattle.chip_frame.proofs.LeapLaws.{before-most}
+use Rattle.chip.specs.Leap.{beforeStep}
+use Rattle.chip.proofs.RangeLaws.{before-step-most}
 use Rattle.chip.specs.Table.{dmcPeriod}
 use Rattle.chip.specs.declared.State.{State}
 use Rattle.chip.proofs.RangeLaws.{StateRanged}
 use Rattle.leap_chip.specs.Quiet.{Quiet, quietAfter}
-use Rattle.leap_chip.proofs.QuietLaws.{square-plain, triangle-plain, frame-plain}
+use Rattle.leap_chip.proofs.QuietLaws.{square-plain, triangle-plain}
 use Rattle.leap_stretch.specs.Lagged.{sooner, lagsAt, lagsOf, stateAt}
 use Rattle.leap_stretch.proofs.LaggedLaws.{sooner-past}
 
@@ -47,12 +47,12 @@ unfolding noiseStill noiseAmount
 noise-still c z n h = rw (eq-eqb (c .length .count) 0 z)
 
 -- THE RUN PASSES A QUIET STRETCH IN ONE LEAP: its next event is past every clock before the next frame step
-pub quiet-leaps : (s : State) → Quiet s → frameBefore (s .frame) < lagsOf s .next
+pub quiet-leaps : (s : State) → Quiet s → beforeStep s < lagsOf s .next
 unfolding lagsOf lagsAt squareLag triangleLag noiseLag dmcLag
 quiet-leaps s q =
-    let m = before-most (s .frame) in
+    let m = before-step-most s in
     let i : DmcIdle (s .dmc) = record { silence = q .silence; full = q .buffer; remaining = q .remaining } in
-    let far : (x : ℕ) → x ≡ forever → frameBefore (s .frame) < 0 + x + 1 = λ x e. omega arith in
+    let far : (x : ℕ) → x ≡ forever → beforeStep s < 0 + x + 1 = λ x e. omega arith in
     let a = far _ (square-still false (s .square1) (q .square1) _ _) in
     let b = far _ (square-still true (s .square2) (q .square2) _ _) in
     let t = far _ (triangle-still (s .triangle) (q .triangle) _) in
@@ -65,8 +65,8 @@ unfolding triangleGate runs
 gate-shut t z = rw z
 
 -- and the state that it makes of k clocks of it is the law's
-pub quiet-passed : (s : State) → StateRanged s → Quiet s → (k : ℕ) → k ≤ frameBefore (s .frame) → stateAt s (lagsOf s) k ≡ quietAfter k s
+pub quiet-passed : (s : State) → StateRanged s → Quiet s → (k : ℕ) → k ≤ beforeStep s → stateAt s (lagsOf s) k ≡ quietAfter k s
 unfolding stateAt lagsOf lagsAt squareLag triangleLag noiseLag dmcLag noiseShifterAt dmcAt quietAfter
 quiet-passed s r q k few =
     rw (sub-zero k, gate-shut (s .triangle) (q .triangle))
-    (rw (square-plain (s .square1 .sequencer) (r .square1 .sequencer) k, square-plain (s .square2 .sequencer) (r .square2 .sequencer) k, triangle-plain (s .triangle .sequencer) (r .triangle .sequencer) k, frame-plain (s .frame) (r .frame) k few) refl)
+    (rw (square-plain (s .square1 .sequencer) (r .square1 .sequencer) k, square-plain (s .square2 .sequencer) (r .square2 .sequencer) k, triangle-plain (s .triangle .sequencer) (r .triangle .sequencer) k) refl)

@@ -14,7 +14,7 @@ use Rattle.chip_triangle.specs.Triangle.{triangleAt}
 use Rattle.chip_noise.specs.Noise.{noiseAmount}
 use Rattle.leap_noise.specs.Lag.{noiseLag, noiseRenewed, noiseShifterAt}
 use Rattle.leap_dmc.specs.Lag.{dmcLag, dmcRenewed, dmcAt}
-use Rattle.chip_frame.specs.Leap.{framePassed}
+use Rattle.chip.specs.Leap.{passedFrame}
 use Rattle.chip_mixer.specs.Mixer.{mixed}
 use Rattle.chip.specs.Table.{noisePeriod, dmcPeriod}
 use Rattle.leap_chip.specs.Between.{stateWith}
@@ -79,4 +79,4 @@ stateAt s l k =
     stateWith (withBeat (s .square1 .sequencer) (beatAdvanced k (beatOf (s .square1 .sequencer))))
     (withBeat (s .square2 .sequencer) (beatAdvanced k (beatOf (s .square2 .sequencer))))
     (triangleWithBeat (s .triangle .sequencer) (triangleBeatAdvanced (triangleGate (s .triangle)) k (triangleBeatOf (s .triangle .sequencer))))
-    (noiseShifterAt (l .noise) k) (dmcAt (l .dmc) k) (framePassed k (s .frame)) s
+    (noiseShifterAt (l .noise) k) (dmcAt (l .dmc) k) (passedFrame k s) s

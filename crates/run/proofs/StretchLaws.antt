@@ -12,8 +12,8 @@ use Rattle.arith.specs.Pick.{pick, both}
 use Rattle.arith.proofs.PickLaws.{both-left, both-right}
 use Rattle.arith.proofs.IterateLaws.{iterate-zero, iterate-add, iterate-more, iterate-keeps}
 use Rattle.divider.specs.Divider.{forever}
-use Rattle.chip_frame.specs.Leap.{frameBefore}
-use Rattle.chip_frame.proofs.LeapLaws.{before-most}
+use Rattle.chip.specs.Leap.{beforeStep}
+use Rattle.chip.proofs.RangeLaws.{before-step-most}
 use Rattle.chip.specs.Clock.{chipClock}
 use Rattle.chip.specs.Level.{stateLevel}
 use Rattle.chip.specs.Range.{inRange, Bytes}
@@ -48,9 +48,9 @@ pub sounds-most : (r dmc end : ℕ) → r ≡ sooner dmc end → (r ≤ dmc) × 
 sounds-most r dmc end e = let a = sooner-most dmc end in (omega (arith, a), omega (arith, a))
 
 -- a stretch ends before the last clock left, and before the next frame step
-pub stretch-most : (left : ℕ) (s : State) → (stretchEnd left s ≤ left - 1) × (stretchEnd left s ≤ frameBefore (s .frame))
+pub stretch-most : (left : ℕ) (s : State) → (stretchEnd left s ≤ left - 1) × (stretchEnd left s ≤ beforeStep s)
 unfolding stretchEnd
-stretch-most left s = sooner-most (left - 1) (frameBefore (s .frame))
+stretch-most left s = sooner-most (left - 1) (beforeStep s)
 
 -- nothing done yet
 pub worked-none : (memory : List ℕ) (s : State) (end base : ℕ) (words : List ℕ) (l : Lags) (n : ℕ) → Standing memory s end base words l n
@@ -71,13 +71,13 @@ worked-on memory s end base from records before between words l₀ l n₀ n a b 
     }
 
 -- the start of a stretch
-pub standing-start : (memory : List ℕ) (s : State) (end base : ℕ) (words : List ℕ) (n : ℕ) → inRange s ≡ true → end ≤ frameBefore (s .frame)
+pub standing-start : (memory : List ℕ) (s : State) (end base : ℕ) (words : List ℕ) (n : ℕ) → inRange s ≡ true → end ≤ beforeStep s
     → base + end ≤ 1000000 → n ≤ base → n ≤ length words / 2 → Standing memory s end base words (lagsOf s) n
 unfolding lagsOf lagsAt
 standing-start memory s end base words n r b f h m =
     record { ranged = r; short = b; far = f; lagging = lagging-start memory s; now = omega arith; most = m; few = omega arith }
 
-pub worked-start : (memory : List ℕ) (s : State) (end base : ℕ) (words : List ℕ) (n : ℕ) → inRange s ≡ true → end ≤ frameBefore (s .frame)
+pub worked-start : (memory : List ℕ) (s : State) (end base : ℕ) (words : List ℕ) (n : ℕ) → inRange s ≡ true → end ≤ beforeStep s
     → base + end ≤ 1000000 → n ≤ base → n ≤ length words / 2 → Worked memory s end base 0 n words words (lagsOf s) n
 unfolding lagsOf lagsAt
 worked-start memory s end base words n r b f h m =
@@ -168,7 +168,7 @@ module _ (memory : List ℕ) (bytes : Bytes memory) (s : State) (end base from r
 
   module _ (e : l .next ≤ end) where
     reach : l .next ≤ forever
-    reach = omega (arith, before-most (s .frame), w .standing .short)
+    reach = omega (arith, before-step-most s, w .standing .short)
 
     brink : State
     brink = iterate (chipClock memory) (l .next - 1) s

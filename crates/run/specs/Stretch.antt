@@ -6,7 +6,7 @@ use mathlib.Core.Bool.{true}
 use mathlib.Core.List.{List}
 use lib.ListN.{length}
 use Rattle.arith.specs.Iterate.{iterate}
-use Rattle.chip_frame.specs.Leap.{frameBefore}
+use Rattle.chip.specs.Leap.{beforeStep}
 use Rattle.chip.specs.Clock.{chipClock}
 use Rattle.chip.specs.Level.{stateLevel}
 use Rattle.chip.specs.Range.{inRange}
@@ -21,7 +21,7 @@ use Rattle.run.specs.declared.Stretch.{Stretch}
 -- At clock `l .now` of a stretch of at most `end` clocks that began in s with `base` clocks done; n records are written.
 pub record Standing (memory : List ℕ) (s : State) (end base : ℕ) (words : List ℕ) (l : Lags) (n : ℕ) : Type 0 where
   pub ranged : inRange s ≡ true
-  pub short : end ≤ frameBefore (s .frame)
+  pub short : end ≤ beforeStep s
   pub far : base + end ≤ 1000000
   pub lagging : Lagging memory s l
   pub now : l .now ≤ end
@@ -40,7 +40,7 @@ pub record Worked (memory : List ℕ) (s : State) (end base from records : ℕ) 
 
 -- where a stretch ends that may go `left` clocks: before the next frame step, and before the last of them, which is worked by itself
 unfoldable pub stretchEnd : ℕ → State → ℕ
-stretchEnd left s = sooner (left - 1) (frameBefore (s .frame))
+stretchEnd left s = sooner (left - 1) (beforeStep s)
 
 -- "The run passes such stretches by that law": a quiet stretch goes to its end in one leap, writes nothing, and its state is the law's
 pub record Passed (s : State) (end n : ℕ) (before after : List ℕ) (r : Stretch) : Type 0 where

@@ -7,7 +7,7 @@ ghost use lib.Dec.{eqb, ltb};
 ghost use lib.ListN.{length};
 ghost use Rattle.arith.specs.Pick.{pick, both};
 ghost use Rattle.leap_stretch.specs.Lagged.{sooner};
-ghost use Rattle.chip_frame.specs.Leap.{frameBefore};
+ghost use Rattle.chip.specs.Leap.{beforeStep};
 ghost use Rattle.chip.specs.Range.{inRange};
 ghost use Rattle.run_answer.specs.Run.{answer, answered, lent, readBy, over, flat, stored};
 ghost use Rattle.run.specs.Stretch.{Standing, Worked, stretchEnd, Stretched};
@@ -153,7 +153,7 @@ fn stretch_on(
     records: u32,
 ) -> Stretch
     requires { ⌜ inRange s ≡ true ⌝ }
-    requires { ⌜ end ≤ frameBefore (s .frame) ⌝ }
+    requires { ⌜ end ≤ beforeStep s ⌝ }
     requires { ⌜ base + end ≤ 1000000 ⌝ }
     requires { ⌜ (records ≤ base) × (records ≤ length (now words) / 2) ⌝ }
     ensures { λ r. ⌜ Stretched (now (memory .entry)) s end base records (now (words .entry)) (now (words .exit)) r ⌝ }
@@ -199,7 +199,7 @@ fn next_stretch(
     requires { ⌜ (records ≤ base) × (records ≤ length (now words) / 2) ⌝ }
     ensures { λ r. ⌜ Stretched (now (memory .entry)) s (stretchEnd left s) base records (now (words .entry)) (now (words .exit)) r ⌝ }
 {
-    let end = least(left - 1, s.frame.before());
+    let end = least(left - 1, s.before_step());
     stretch_on(s, memory, end, base, words, records)
 }
 

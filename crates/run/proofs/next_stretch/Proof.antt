@@ -2,7 +2,7 @@ use Prim.Native.Nat.{_+_, _-_, _≤_}
 use mathlib.Core.Path.{_≡_, _∙_, ap, refl}
 use native.Mathlib.Omega.{arith}
 use borrow.Author.Needs.{needs}
-use Rattle.chip_frame.specs.Leap.{frameBefore}
+use Rattle.chip.specs.Leap.{beforeStep}
 use Rattle.leap_stretch.specs.Lagged.{sooner}
 use Rattle.run.specs.Stretch.{stretchEnd}
 use Rattle.run.proofs.StretchLaws.{stretch-most}
@@ -18,8 +18,8 @@ stretch-on-requires c κs =
     let p = c .before .before .before .before .before .pre in
     let a = c .before .before .before .before .before .args in
     let m = stretch-most (a .left) (a .s) in
-    let e : c .before .least .result ≡ sooner (a .left - 1) (frameBefore (a .s .frame)) =
-    c .before .least .ensures ∙ ap (sooner (a .left - 1)) (c .before .before .before2 .ensures)
+    let e : c .before .least .result ≡ sooner (a .left - 1) (beforeStep (a .s)) =
+    c .before .least .ensures ∙ ap (sooner (a .left - 1)) (c .before .before .before-step .ensures)
     in
     (p .0, (omega (arith, e, m), (omega (arith, e, m, p .1 .0), p .1 .1)))
 
@@ -31,7 +31,7 @@ unfolding stretchEnd
 returns c =
     let a = c .before .before .before .before .before .before .before .before .args in
     let e : c .before .before .before .before .least .result ≡ stretchEnd (a .left) (a .s) =
-    c .before .before .before .before .least .ensures ∙ ap (sooner (a .left - 1)) (c .before .before .before .before .before .before2 .ensures)
+    c .before .before .before .before .least .ensures ∙ ap (sooner (a .left - 1)) (c .before .before .before .before .before .before-step .ensures)
     in
     rw (← e) (c .before .before .stretch-on .ensures)
 

@@ -4,7 +4,7 @@ use Rattle.chip.proofs.State.write_sequencer.Tie as tie
 
 returns : tie.Need-returns
 unfolding sequencerWritten
-returns c = simp (c .step-if .ensures, c .before .written .ensures)
+returns c = simp (c .first-step-if .ensures, c .before .written .ensures)
 
 pub write-sequencer-spec : {M : Type 1} → statement M
 write-sequencer-spec = tie.close (tie.spec (λ c κs. tt) (λ c κs. tt) returns)

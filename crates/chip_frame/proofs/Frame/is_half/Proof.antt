@@ -4,7 +4,7 @@ use Rattle.chip_frame.proofs.Frame.is_half.Tie as tie
 
 returns : tie.Need-returns
 unfolding clocksLengths
-returns c = simp (c .pick-bool .ensures, c .before .either-of2 .ensures, c .before .before .either-of .ensures, c .before .before .before .next-step .ensures)
+returns c = simp (c .pick-bool .ensures, c .before .either-of2 .ensures, c .before .before .either-of .ensures)
 
 pub is-half-spec : {M : Type 1} → statement M
-is-half-spec = tie.close (tie.spec (λ c κs. tt) (λ c κs. tt) (λ c κs. tt) (λ c κs. tt) returns)
+is-half-spec = tie.close (tie.spec (λ c κs. tt) (λ c κs. tt) (λ c κs. tt) returns)

@@ -4,7 +4,7 @@ use Rattle.chip_frame.proofs.Frame.is_quarter.Tie as tie
 
 returns : tie.Need-returns
 unfolding clocksEnvelopes
-returns c = simp (c .pick-bool .ensures, c .before .next-step .ensures)
+returns c = simp (c .pick-bool .ensures)
 
 pub is-quarter-spec : {M : Type 1} → statement M
-is-quarter-spec = tie.close (tie.spec (λ c κs. tt) (λ c κs. tt) returns)
+is-quarter-spec = tie.close (tie.spec (λ c κs. tt) returns)

@@ -1,0 +1,20 @@
+-- The frame of a state between two steps: `chip_frame`'s, at the state's own times.
+use Prim.Native.Nat.{ℕ}
+use mathlib.Core.Bool.{Bool}
+use Rattle.chip_frame.specs.Frame.{frameDue}
+use Rattle.chip_frame.specs.Leap.{frameBefore, framePassed}
+use Rattle.chip_frame.specs.declared.Frame.{Frame}
+use Rattle.chip.specs.Table.{frameTimes}
+use Rattle.chip.specs.declared.State.{State}
+
+-- whether the next clock brings a frame step
+abbrev pub stepDue : State → Bool
+stepDue s = frameDue frameTimes (s .frame)
+
+-- the clocks before the next frame step
+abbrev pub beforeStep : State → ℕ
+beforeStep s = frameBefore frameTimes (s .frame)
+
+-- the frame after g clocks that bring none
+abbrev pub passedFrame : ℕ → State → Frame
+passedFrame g s = framePassed frameTimes g (s .frame)
