@@ -10,6 +10,7 @@ use Rattle.chip_noise.specs.Shifter.{shiftedOf, shifterClock}
 use Rattle.chip_dmc.specs.Clock.{dmcRead, dmcOutput, dmcTimed, outputClock, outputStep, emptied, readerClock, pending, fetched, nextAddress, byteAt, sampleEnded, restarted, flagged, levelMoved}
 use Rattle.chip_dmc.specs.Range.{dmcOn}
 use Rattle.chip.specs.Clock.{chipClock, timersClocked, readerClocked, envelopesClocked, lengthsClocked, stepped, framed}
+use Rattle.chip.specs.Leap.{stepDue}
 use Rattle.chip.specs.Level.{stateLevel}
 use Rattle.chip.specs.Range.{powerOn}
 use Rattle.chip.specs.Status.{statusByte, statusRead}
@@ -20,7 +21,7 @@ use Rattle.chip_square.specs.Write.{squareWrite, squareWrite3, sequencerHigh}
 use Rattle.chip_triangle.specs.Triangle.{triangleOutput, triangleAt, triangleTimed, runs, triangleSequenced, triangleLinear, triangleLengthened, triangleEnabled}
 use Rattle.chip_noise.specs.Noise.{noiseOutput, noiseAmount, noiseTimed, noiseEnveloped, noiseLengthened, noiseEnabled}
 use Rattle.chip_dmc.specs.Write.{dmcWrite, dmcWrite3, dmcEnabled, switched}
-use Rattle.chip_frame.specs.Frame.{frameDue, frameMoved, clocksEnvelopes, clocksLengths, frameStepped, frameRead}
+use Rattle.chip_frame.specs.Frame.{frameDue, frameMoved, stepAt, clocksEnvelopes, clocksLengths, frameStepped, frameRead}
 use Rattle.chip_units.specs.Timer.{timerClock, periodHigh}
 use Rattle.chip_units.specs.Length.{lengthLoaded, lengthClock, lengthEnabled}
 use Rattle.chip_units.specs.Envelope.{envelopeClock, envelopeStarted, envelopeDivided, decayed, volume, envelopeBegun}
@@ -46,16 +47,16 @@ Holds (number a b ∷ rows) = (a ≡ b) × Holds rows
 Holds (signed a b ∷ rows) = (a ≡ b) × Holds rows
 Holds (flag a b ∷ rows) = (a ≡ b) × Holds rows
 
--- power-on, but for the frame's phase and step
-abbrev pub atPhase : ℕ → ℕ → State
-atPhase phase step =
+-- power-on, but for the frame's clock number
+abbrev pub atClock : ℕ → State
+atClock clock =
     record {
       square1 = powerOn .square1;
       square2 = powerOn .square2;
       triangle = powerOn .triangle;
       noise = powerOn .noise;
       dmc = powerOn .dmc;
-      frame = record { mode = false; disable = false; phase = phase; step = step; interrupt = false };
+      frame = record { mode = false; disable = false; clock = clock; interrupt = false };
     }
 
 -- a sweep with this shift
@@ -78,17 +79,25 @@ marked memory =
     number (stateLevel powerOn) 8074
     -- (2) squares 15, 0 give A 4894
     ∷ number (squaresLevel (15 + 0)) 4894
-    -- (3) phase 14912 becomes 14914 with no step, 14913 becomes 0 and 14914 becomes 1, each with a step
-    ∷ number (chipClock memory (atPhase 14912 0) .frame .phase) 14914
-    ∷ number (chipClock memory (atPhase 14912 0) .frame .step) 0
-    ∷ number (chipClock memory (atPhase 14913 0) .frame .phase) 0
-    ∷ number (chipClock memory (atPhase 14913 0) .frame .step) 1
-    ∷ number (chipClock memory (atPhase 14914 0) .frame .phase) 1
-    ∷ number (chipClock memory (atPhase 14914 0) .frame .step) 1
-    -- (4) power-on but phase 14913, step 3: status 00, after one clock 40, read again 00
-    ∷ number (statusByte (atPhase 14913 3)) 0x00
-    ∷ number (statusByte (chipClock memory (statusRead (atPhase 14913 3)))) 0x40
-    ∷ number (statusByte (statusRead (chipClock memory (statusRead (atPhase 14913 3))))) 0x00
+    -- (3) from clock numbers 7456, 14912, 22370 and 29828 one clock brings a step, and from the numbers beside them none
+    ∷ flag (stepDue (atClock 7455)) false
+    ∷ flag (stepDue (atClock 7456)) true
+    ∷ flag (stepDue (atClock 7457)) false
+    ∷ flag (stepDue (atClock 14911)) false
+    ∷ flag (stepDue (atClock 14912)) true
+    ∷ flag (stepDue (atClock 14913)) false
+    ∷ flag (stepDue (atClock 22369)) false
+    ∷ flag (stepDue (atClock 22370)) true
+    ∷ flag (stepDue (atClock 22371)) false
+    ∷ flag (stepDue (atClock 29827)) false
+    ∷ flag (stepDue (atClock 29828)) true
+    ∷ flag (stepDue (atClock 29829)) false
+    -- and from 29829 it leads to 0
+    ∷ number (chipClock memory (atClock 29829) .frame .clock) 0
+    -- (4) power-on but clock number 29828: status 00, after one clock 40, read again 00
+    ∷ number (statusByte (atClock 29828)) 0x00
+    ∷ number (statusByte (chipClock memory (statusRead (atClock 29828)))) 0x40
+    ∷ number (statusByte (statusRead (chipClock memory (statusRead (atClock 29828))))) 0x00
     -- (5) period 1000, S 1, negate: 499 and 500
     ∷ signed (target false (sweepBy true 1) 1000) (pos 499)
     ∷ signed (target true (sweepBy true 1) 1000) (pos 500)
@@ -120,6 +129,6 @@ marked memory =
 
 -- EVERY MARKED CASE HOLDS
 pub all-hold : (memory : List ℕ) → Holds (marked memory)
-unfolding checkOf unlessWrong judged judge ending linesOf chipClock dmcRead muted powerOn registerWritten shiftedOf squaresLevel stateLevel statusByte statusRead target mixed weight restLevel squareOutput squareAmount squareTimed squareEnveloped squareSwept squareEnabled sequencerClock dutyBit squareWrite squareWrite3 sequencerHigh triangleOutput triangleAt triangleTimed runs triangleSequenced triangleLinear triangleLengthened triangleEnabled noiseOutput noiseAmount noiseTimed noiseEnveloped noiseLengthened noiseEnabled shifterClock dmcOutput dmcTimed outputClock outputStep emptied readerClock pending fetched nextAddress byteAt sampleEnded restarted flagged levelMoved dmcWrite dmcWrite3 dmcEnabled switched frameDue frameMoved clocksEnvelopes clocksLengths frameStepped frameRead timerClock periodHigh lengthLoaded lengthClock lengthEnabled envelopeClock envelopeStarted envelopeDivided decayed volume envelopeBegun lowPeriod highTarget sweeps sweptPeriod sweepClock linearClock timersClocked readerClocked envelopesClocked lengthsClocked stepped framed noisePeriod dmcPeriod channelWritten controlWritten enablesWritten
+unfolding checkOf unlessWrong judged judge ending linesOf chipClock dmcRead muted powerOn registerWritten shiftedOf squaresLevel stateLevel statusByte statusRead target mixed weight restLevel squareOutput squareAmount squareTimed squareEnveloped squareSwept squareEnabled sequencerClock dutyBit squareWrite squareWrite3 sequencerHigh triangleOutput triangleAt triangleTimed runs triangleSequenced triangleLinear triangleLengthened triangleEnabled noiseOutput noiseAmount noiseTimed noiseEnveloped noiseLengthened noiseEnabled shifterClock dmcOutput dmcTimed outputClock outputStep emptied readerClock pending fetched nextAddress byteAt sampleEnded restarted flagged levelMoved dmcWrite dmcWrite3 dmcEnabled switched frameDue frameMoved stepAt clocksEnvelopes clocksLengths frameStepped frameRead timerClock periodHigh lengthLoaded lengthClock lengthEnabled envelopeClock envelopeStarted envelopeDivided decayed volume envelopeBegun lowPeriod highTarget sweeps sweptPeriod sweepClock linearClock timersClocked readerClocked envelopesClocked lengthsClocked stepped framed noisePeriod dmcPeriod channelWritten controlWritten enablesWritten
 all-hold memory =
-    (refl, (refl, (refl, (refl, (refl, (refl, (refl, (refl, (refl, (refl, (refl, (refl, (refl, (refl, (refl, (refl, (refl, (refl, (refl, (refl, (refl, (refl, (refl, (refl, (refl, (refl, (refl, (refl, (refl, (refl, tt))))))))))))))))))))))))))))))
+    (refl, (refl, (refl, (refl, (refl, (refl, (refl, (refl, (refl, (refl, (refl, (refl, (refl, (refl, (refl, (refl, (refl, (refl, (refl, (refl, (refl, (refl, (refl, (refl, (refl, (refl, (refl, (refl, (refl, (refl, (refl, (refl, (refl, (refl, (refl, (refl, (refl, tt)))))))))))))))))))))))))))))))))))))

@@ -455,7 +455,7 @@ fn dmc_with(d: Dmc, unit: u8, field: u8, v: u16) -> Dmc {
     }
 }
 
-// f0 mode, f1 disable, f2 phase, f3 step, f4 interrupt flag
+// f0 mode, f1 disable, f2 clock number, f3 interrupt flag
 fn frame_with(f: Frame, field: u8, v: u16) -> Frame {
     let mut r = f;
     match field {
@@ -468,11 +468,7 @@ fn frame_with(f: Frame, field: u8, v: u16) -> Frame {
             r
         }
         b'2' => {
-            r.phase = v;
-            r
-        }
-        b'3' => {
-            r.step = low(v);
+            r.clock = v;
             r
         }
         _ => {
