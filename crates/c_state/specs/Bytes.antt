@@ -1,5 +1,5 @@
--- A state as 91 bytes: the 79 fields in the order in which document 01's "State, ranges and power-on" names them, square 1, square 2, triangle,
--- noise, DMC, frame. Period, timer, register, address, remaining and phase take two bytes, low first, every other field one; a flag is 0 or 1.
+-- A state as 90 bytes: the 78 fields in the order in which document 01's "State, ranges and power-on" names them, square 1, square 2, triangle,
+-- noise, DMC, frame. Period, timer, register, address, remaining and clock number take two bytes, low first, every other field one; a flag is 0 or 1.
 use Prim.Native.Nat.{ℕ, _+_, _*_, _/_, _%_}
 use mathlib.Core.Bool.{Bool, true}
 use mathlib.Core.List.{List, [], _∷_, _++_}
@@ -15,7 +15,7 @@ use Rattle.chip.specs.declared.State.{State}
 
 -- how many bytes a state is
 abbrev pub stateSize : ℕ
-stateSize = 91
+stateSize = 90
 
 -- WRITTEN
 
@@ -114,14 +114,13 @@ dmcBytes d =
     ∷ flagByte (d .reader .interrupt)
     ∷ []
 
--- "mode, interrupt disable, phase, step, interrupt flag"
+-- "mode, interrupt disable, [clock number], interrupt flag"
 unfoldable pub frameBytes : Frame → List ℕ
 frameBytes f =
     flagByte (f .mode)
     ∷ flagByte (f .disable)
-    ∷ low (f .phase)
-    ∷ high (f .phase)
-    ∷ f .step
+    ∷ low (f .clock)
+    ∷ high (f .clock)
     ∷ flagByte (f .interrupt)
     ∷ []
 
@@ -243,9 +242,8 @@ frameOf b at =
     record {
       mode = flagOf b at;
       disable = flagOf b (at + 1);
-      phase = pairOf b (at + 2);
-      step = byteOf b (at + 4);
-      interrupt = flagOf b (at + 5);
+      clock = pairOf b (at + 2);
+      interrupt = flagOf b (at + 4);
     }
 
 unfoldable pub stateOf : List ℕ → State
@@ -267,7 +265,7 @@ flagPlaces =
     ∷ 42 ∷ 45 ∷ 52
     ∷ 53 ∷ 54 ∷ 56 ∷ 60 ∷ 61
     ∷ 67 ∷ 68 ∷ 80 ∷ 83 ∷ 84
-    ∷ 85 ∷ 86 ∷ 90 ∷ []
+    ∷ 85 ∷ 86 ∷ 89 ∷ []
 
 -- every flag is 0 or 1
 unfoldable pub flagsRight : List ℕ → List ℕ → Bool

@@ -1,4 +1,4 @@
-// A state as 91 bytes, for callers in other languages: the fields in document 01's order, low byte first, a flag as 0 or 1.
+// A state as 90 bytes, for callers in other languages: the fields in document 01's order, low byte first, a flag as 0 or 1.
 ghost use mathlib.Core.Path.{_≡_};
 ghost use lib.ListN.{getD};
 ghost use Rattle.c_state.specs.Bytes.{stateSize, flagPlaces, flagsRight, isState, stateOf};
@@ -11,7 +11,7 @@ mod writer;
 use chip::State;
 
 // How many bytes a state is.
-pub const SIZE: usize = 91;
+pub const SIZE: usize = 90;
 
 pub fn size() -> usize
     ensures { λ r. ⌜ r ≡ stateSize ⌝ }
@@ -52,7 +52,7 @@ const FLAGS: [usize; 32] = [
     84,
     85,
     86,
-    90,
+    89,
 ];
 
 // The place of any flag k, counted from 0. The whole table is copied at each look-up.
@@ -98,7 +98,7 @@ fn flag_place(k: usize) -> usize
         28 => 84,
         29 => 85,
         30 => 86,
-        31 => 90,
+        31 => 89,
         _ => far_place(k),
     }
 }

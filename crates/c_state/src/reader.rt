@@ -253,14 +253,12 @@ pub(crate) fn frame_at(b: &[u8], at: usize) -> Frame
 {
     let mode = field::flag_at(b, at);
     let disable = field::flag_after(b, at, 1);
-    let phase = field::pair_after(b, at, 2);
-    let step = field::byte_after(b, at, 4);
-    let interrupt = field::flag_after(b, at, 5);
+    let clock = field::pair_after(b, at, 2);
+    let interrupt = field::flag_after(b, at, 4);
     Frame {
         mode: mode,
         disable: disable,
-        phase: phase,
-        step: step,
+        clock: clock,
         interrupt: interrupt,
     }
 }

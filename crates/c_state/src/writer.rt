@@ -142,15 +142,15 @@ fn dmc_bytes(d: Dmc) -> [u8; 18]
     ]
 }
 
-fn frame_bytes(f: Frame) -> [u8; 6]
+fn frame_bytes(f: Frame) -> [u8; 5]
     ensures { λ r. ⌜ r ≡ frameBytes f ⌝ }
 {
     let mode = field::flag_byte(f.mode);
     let disable = field::flag_byte(f.disable);
-    let phase_low = field::low_byte(f.phase);
-    let phase_high = field::high_byte(f.phase);
+    let clock_low = field::low_byte(f.clock);
+    let clock_high = field::high_byte(f.clock);
     let interrupt = field::flag_byte(f.interrupt);
-    [mode, disable, phase_low, phase_high, f.step, interrupt]
+    [mode, disable, clock_low, clock_high, interrupt]
 }
 
 // Copies all of `part` into `b` from `at` on.
@@ -198,8 +198,8 @@ pub(crate) fn put_dmc(d: Dmc, b: &mut [u8], at: usize)
 }
 
 pub(crate) fn put_frame(f: Frame, b: &mut [u8], at: usize)
-    requires { ⌜ at + 6 ≤ length (now b) ⌝ }
-    ensures { λ r. ⌜ now (b .exit) ≡ paste (now (b .entry)) at (frameBytes f) 6 ⌝ }
+    requires { ⌜ at + 5 ≤ length (now b) ⌝ }
+    ensures { λ r. ⌜ now (b .exit) ≡ paste (now (b .entry)) at (frameBytes f) 5 ⌝ }
 {
     let part = frame_bytes(f);
     put(&part, b, at);
