@@ -14,7 +14,7 @@
  * 14 to 19 the first line at fault wins, before 9 to 12.
  *
  * A state is PERCH_STATE_SIZE bytes: the fields in the order in which document 01, "State, ranges and power-on", names
- * them. Period, timer, shift register, address, remaining and phase take two bytes, low first, every other field one;
+ * them. Period, timer, shift register, address, remaining and clock number take two bytes, low first, every other field one;
  * a flag is 0 or 1. Bytes of another length, or with a flag above 1, or with a field outside its range, or with disable
  * and the frame's interrupt both set, are no state in range (PERCH_REFUSED_STATE).
  *
@@ -26,7 +26,7 @@
  *             index, timer (2), shift register (2)
  *         67  DMC: interrupt enable, loop, index, timer (2), level, address byte, length byte, address (2),
  *             remaining (2), buffer, full, shift byte, bits, silence, interrupt
- *         85  frame: mode, disable, phase (2), step, interrupt
+ *         85  frame: mode, disable, clock number (2), interrupt
  */
 #ifndef PERCHPULLEY_H
 #define PERCHPULLEY_H
@@ -38,12 +38,12 @@
 extern "C" {
 #endif
 
-#define PERCH_VERSION 2            /* of this header; perch_version() is the library's */
-#define PERCH_STATE_SIZE 91        /* bytes of a state; perch_state_size() at run time */
+#define PERCH_VERSION 3            /* of this header; perch_version() is the library's */
+#define PERCH_STATE_SIZE 90        /* bytes of a state; perch_state_size() at run time */
 #define PERCH_MEMORY_SIZE 32768    /* bytes of sample memory, $8000 to $FFFF */
 #define PERCH_MOST_CLOCKS 1000000  /* clocks that one run may be asked for */
 #define PERCH_MOST_SHEET 4081      /* bytes that one sheet may be asked for */
-#define PERCH_PLAYER_SIZE 190      /* bytes of a player; perch_player_size() at run time */
+#define PERCH_PLAYER_SIZE 189      /* bytes of a player; perch_player_size() at run time */
 #define PERCH_PLAYER_TIME 5        /* the first of the four bytes of a player that tell its time */
 #define PERCH_CURSOR_SIZE 88       /* bytes of a cursor; perch_cursor_size() at run time */
 #define PERCH_LONGEST_LINE 23      /* bytes of the longest line that a player writes, with its line feed */

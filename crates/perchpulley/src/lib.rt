@@ -19,7 +19,7 @@ pub mod runs;
 pub extern "C" fn perch_version() -> u32
     ensures { λ r. ⌜ r ≡ version ⌝ }
 {
-    2
+    3
 }
 
 // How many bytes a state is.

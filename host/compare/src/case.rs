@@ -62,7 +62,7 @@ pub enum Op {
 }
 
 /// The most bytes that a case lends as a state.
-pub const MOST_STATE: usize = 92;
+pub const MOST_STATE: usize = reading::bytes::SIZE + 1;
 
 /// What every lent word holds at first.
 pub const FILL: u32 = 0xa5a5_a5a5;

@@ -4,6 +4,7 @@
 use crate::case::{Case, MOST_STATE, Memory, Op};
 use crate::random::Random;
 use reading::bytes::SIZE;
+use reading::chip::Times;
 use reading::{Chip, MEMORY, MOST_CLOCKS};
 
 fn lengths(chip: &mut Chip, mut each: impl FnMut(&mut reading::chip::Length)) {
@@ -39,7 +40,7 @@ fn sound(chip: &mut Chip, random: &mut Random) {
 type Lean = fn(&mut Chip, &mut Random);
 
 const LEANS: [Lean; 17] = [
-    |chip, random| chip.frame.phase = random.within16(14_900..=14_914),
+    |chip, random| chip.frame.clock = random.pick(chip.frame.times().steps) - random.within16(0..=8),
     |chip, random| {
         let [first, second] = &mut chip.squares;
         let timers = [&mut first.timer, &mut second.timer, &mut chip.triangle.timer, &mut chip.noise.timer];
@@ -105,7 +106,11 @@ const LEANS: [Lean; 17] = [
         chip.dmc.index = random.within16(14..=15);
         chip.dmc.address = random.pick(&[32768, 65534, 65535]);
     },
-    |chip, _| chip.frame.step = if chip.frame.mode { 4 } else { 3 },
+    |chip, random| {
+        // About the last step, and where the sequence begins again.
+        let again = chip.frame.times().again;
+        chip.frame.clock = (again - 4 + random.within16(0..=6)) % again;
+    },
     sound,
 ];
 
@@ -122,9 +127,6 @@ pub fn state(random: &mut Random) -> Chip {
         }
     }
     lengths(&mut chip, |length| length.count = if length.enabled { length.count } else { 0 });
-    if !chip.frame.mode {
-        chip.frame.step %= 4;
-    }
     chip.frame.interrupt &= !chip.frame.disable;
     chip
 }
@@ -137,7 +139,8 @@ pub fn no_state(random: &mut Random) -> Vec<u8> {
         0 => bytes.resize(random.pick(&[0, 1, SIZE - 1, SIZE + 1]).min(MOST_STATE), 0),
         1 => bytes.iter_mut().for_each(|byte| *byte = random.byte()),
         2 => {
-            (chip.frame.mode, chip.frame.step) = (false, 4);
+            // A clock number of mode 1 in mode 0.
+            (chip.frame.mode, chip.frame.clock) = (false, random.within16(29_830..=37_281));
             bytes = chip.encode().to_vec();
         }
         3 => {
@@ -157,7 +160,7 @@ pub fn no_state(random: &mut Random) -> Vec<u8> {
         _ => {
             let field = random.within(0..=reading::bytes::FIELDS as u64 - 1);
             let (mut at, mut number) = (0, 0);
-            Chip::POWER_ON.clone().fields(|_, slot| {
+            chip.fields(|_, slot| {
                 if number == field {
                     let range = slot.range();
                     let most = if slot.width() == 2 { 0xffff } else { 0xff };
@@ -230,10 +233,14 @@ fn finish(random: &mut Random, ops: &mut Vec<Op>) {
     }
 }
 
-/// Clocks up to a frame step of a state, to its eve or past it.
+/// Clocks up to a frame step of a state, to its eve or past it; sometimes a whole sequence more.
 fn to_step(random: &mut Random, chip: &Chip) -> u64 {
-    let first = u64::from((14_915 - chip.frame.phase).div_ceil(2));
-    first + random.pick(&[0, 0, 0, 7_457, 7_458, 14_915, 22_372]) - random.within(0..=1) + random.within(0..=1)
+    let Times { steps, again } = chip.frame.times();
+    let [again, clock] = [again, chip.frame.clock].map(u64::from);
+    let to = |step: &u16| (u64::from(*step) + again - clock - 1) % again + 1;
+    let next = steps.iter().map(to).min().unwrap_or(1);
+    let first = if random.one_in(2) { next } else { to(&random.pick(steps)) };
+    first - random.within(0..=1) + random.within(0..=1) + random.pick(&[0, 0, 0, 0, 0, 0, 0, again])
 }
 
 /// A list of short runs.

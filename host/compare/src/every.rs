@@ -4,6 +4,7 @@
 use crate::draw::{hush, state};
 use crate::random::Random;
 use perch::raw;
+use reading::chip::Frame;
 use reading::mixer::Outputs;
 use reading::{Chip, MEMORY, boundary};
 
@@ -45,7 +46,7 @@ pub fn ranges(random: &mut Random) -> Result<u64, String> {
             length.count = if enabled { 7 } else { 0 };
         }
         chip.frame.mode = enabled;
-        chip.frame.step = if enabled { 4 } else { 3 };
+        chip.frame.clock = chip.frame.times().again - 1;
         (chip.frame.disable, chip.frame.interrupt) = (enabled, !enabled);
         let mut at = 0;
         let mut failure = Ok(());
@@ -135,7 +136,7 @@ pub fn sweeps(_: &mut Random) -> Result<u64, String> {
     for period in 0..=2047 {
         for bits in 0..64 {
             let mut chip = Chip::POWER_ON;
-            (chip.frame.phase, chip.frame.step) = (14914, 1);
+            chip.frame.clock = 14912;
             for square in &mut chip.squares {
                 square.period = period;
                 square.sweep.s = bits & 7;
@@ -159,7 +160,7 @@ pub fn counters(_: &mut Random) -> Result<u64, String> {
     let memory = [0; MEMORY];
     let mut checks = 0;
     let mut base = Chip::POWER_ON;
-    (base.frame.phase, base.frame.step) = (14913, 3);
+    base.frame.clock = 29828;
     for n in 0..=15 {
         for divider in 1..=16 {
             for counter in 0..=15 {
@@ -205,16 +206,15 @@ pub fn counters(_: &mut Random) -> Result<u64, String> {
     Ok(checks)
 }
 
-/// Every phase and step in both modes.
+/// Every clock number in both modes, with the frame's interrupt disabled or not.
 pub fn frames(random: &mut Random) -> Result<u64, String> {
     let memory = [0; MEMORY];
     let mut checks = 0;
-    for phase in 0..=14914 {
-        for step in 0..=8 {
-            let mut chip = state(random);
-            chip.frame.phase = phase;
-            (chip.frame.mode, chip.frame.step) = if step < 4 { (false, step) } else { (true, step - 4) };
-            one_clock(chip, &memory)?;
+    for kind in 0..4 {
+        let mut frame = Frame { mode: kind & 1 > 0, disable: kind & 2 > 0, ..Frame::default() };
+        for clock in 0..frame.times().again {
+            frame.clock = clock;
+            one_clock(Chip { frame, ..state(random) }, &memory)?;
             checks += 1;
         }
     }

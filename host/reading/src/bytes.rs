@@ -4,10 +4,10 @@ use crate::chip::{Chip, Envelope, Length};
 use std::ops::RangeInclusive;
 
 /// How many bytes a state is.
-pub const SIZE: usize = 91;
+pub const SIZE: usize = 90;
 
 /// How many fields a state has.
-pub const FIELDS: usize = 79;
+pub const FIELDS: usize = 78;
 
 /// One field of a state, where it lies and what it may hold.
 pub enum Slot<'a> {
@@ -75,7 +75,7 @@ fn length(l: &mut Length, visit: &mut impl FnMut(&'static str, Slot)) {
 }
 
 impl Chip {
-    /// Shows every field in order, with its name and its range.
+    /// Shows every field in order, with its name and its range; the clock number's is the mode's.
     pub fn fields(&mut self, mut visit: impl FnMut(&'static str, Slot)) {
         let visit = &mut visit;
         for square in &mut self.squares {
@@ -135,8 +135,8 @@ impl Chip {
         let frame = &mut self.frame;
         visit("mode", Flag(&mut frame.mode));
         visit("disable", Flag(&mut frame.disable));
-        visit("phase", Word(&mut frame.phase, 0..=14914));
-        visit("step", Byte(&mut frame.step, 0..=4));
+        let last = frame.times().again - 1;
+        visit("clock number", Word(&mut frame.clock, 0..=last));
         visit("interrupt", Flag(&mut frame.interrupt));
     }
 
@@ -174,11 +174,10 @@ impl Chip {
         (flags && chip.in_range()).then_some(chip)
     }
 
-    /// Whether every field is in its range, the step in its mode's, disable and the frame flag aren't both set, and a channel
-    /// that isn't enabled has length 0.
+    /// Whether every field is in its range, disable and the frame flag aren't both set, and a channel that isn't enabled has
+    /// length 0.
     pub fn in_range(mut self) -> bool {
-        let mut good = self.frame.step <= if self.frame.mode { 4 } else { 3 };
-        good &= !(self.frame.disable && self.frame.interrupt);
+        let mut good = !(self.frame.disable && self.frame.interrupt);
         let [first, second] = &self.squares;
         for length in [first.length, second.length, self.triangle.length, self.noise.length] {
             good &= length.enabled || length.count == 0;

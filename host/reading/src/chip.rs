@@ -505,12 +505,41 @@ pub struct Frame {
     pub mode: bool,
     /// The interrupt flag isn't set.
     pub disable: bool,
-    /// 0..14914, two for each clock.
-    pub phase: u16,
-    /// Steps done: 0..3 in mode 0, 0..4 in mode 1.
-    pub step: u16,
+    /// The clock number, counted from the reset: 0..29829 in mode 0, 0..37281 in mode 1.
+    pub clock: u16,
     /// The interrupt flag, set only while disable is clear.
     pub interrupt: bool,
+}
+
+/// When the frame sequencer steps, in clocks after the reset, and when it begins from the start again.
+#[derive(Clone, Copy, Debug, PartialEq, Eq)]
+pub struct Times {
+    /// The clocks that bring a step.
+    pub steps: &'static [u16],
+    /// From the start again at this clock.
+    pub again: u16,
+}
+
+const FOUR_STEPS: Times = Times { steps: &[7457, 14913, 22371, 29829], again: 29830 };
+const FIVE_STEPS: Times = Times { steps: &[7457, 14913, 22371, 29829, 37281], again: 37282 };
+
+impl Frame {
+    /// The times of the mode.
+    pub fn times(&self) -> Times {
+        if self.mode { FIVE_STEPS } else { FOUR_STEPS }
+    }
+
+    /// One clock more; the step that it brings, if it brings one.
+    fn count(&mut self) -> Option<usize> {
+        let Times { steps, again } = self.times();
+        self.clock += 1;
+        if self.clock == again {
+            self.clock = 0;
+        }
+        let place = steps.iter().position(|time| *time == self.clock)?;
+        // In mode 1 step 1 happens at the write; the five times then bring steps 2, 3, 4, 5 and 1.
+        Some(if self.mode { [2, 3, 4, 5, 1][place] } else { [1, 2, 3, 4][place] })
+    }
 }
 
 /// The whole state.
@@ -542,10 +571,10 @@ impl Chip {
         triangle: Triangle::POWER_ON,
         noise: Noise::POWER_ON,
         dmc: Dmc::POWER_ON,
-        frame: Frame { mode: false, disable: false, phase: 0, step: 0, interrupt: false },
+        frame: Frame { mode: false, disable: false, clock: 0, interrupt: false },
     };
 
-    /// One clock: the timers with what they drive, the DMC reader, the frame divider, then its step if due.
+    /// One clock: the timers with what they drive, the DMC reader, the frame's clock number, then its step if due.
     pub fn clock(&mut self, memory: &[u8]) {
         for square in &mut self.squares {
             square.timer_clock();
@@ -554,18 +583,15 @@ impl Chip {
         self.noise.timer_clock();
         self.dmc.timer_clock();
         self.dmc.reader_clock(memory);
-        self.frame.phase += 2;
-        if self.frame.phase >= 14915 {
-            self.frame.phase -= 14915;
-            self.frame_step();
+        if let Some(step) = self.frame.count() {
+            self.frame_step(step);
         }
     }
 
-    /// The next step of the frame sequence.
-    fn frame_step(&mut self) {
-        let step = self.frame.step + 1;
-        let (last, envelopes, lengths) =
-            if self.frame.mode { (5, step <= 4, step == 1 || step == 3) } else { (4, true, step == 2 || step == 4) };
+    /// A step of the frame sequence.
+    fn frame_step(&mut self, step: usize) {
+        let (envelopes, lengths) =
+            if self.frame.mode { (step <= 4, step == 1 || step == 3) } else { (true, step == 2 || step == 4) };
         if envelopes {
             for square in &mut self.squares {
                 square.envelope.clock();
@@ -584,7 +610,6 @@ impl Chip {
         if !self.frame.mode && step == 4 && !self.frame.disable {
             self.frame.interrupt = true;
         }
-        self.frame.step = if step == last { 0 } else { step };
     }
 
     /// A write to a register for which `is_register` holds; any other changes nothing.
@@ -609,10 +634,9 @@ impl Chip {
                 if self.frame.disable {
                     self.frame.interrupt = false;
                 }
-                self.frame.phase = 0;
-                self.frame.step = 0;
+                self.frame.clock = 0;
                 if self.frame.mode {
-                    self.frame_step();
+                    self.frame_step(1);
                 }
             }
             _ => {}

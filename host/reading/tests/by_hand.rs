@@ -13,22 +13,45 @@ fn clocks(chip: &mut Chip, count: u32) {
     }
 }
 
-/// A state one clock before frame step `step`.
-fn before_step(step: u16) -> Chip {
+/// A state one clock before frame step `step` of mode 0.
+fn before_step(step: usize) -> Chip {
     let mut chip = Chip::POWER_ON;
-    (chip.frame.phase, chip.frame.step) = (14913, step - 1);
+    chip.frame.clock = [7456, 14912, 22370, 29828][step - 1];
     chip
 }
 
+/// What moves after a $4017 write, and after how many clocks: the linear counter, the lengths, the frame flag.
+fn steps(value: u8, count: u32) -> Vec<(u32, String)> {
+    let mut chip = Chip::POWER_ON;
+    (chip.triangle.linear, chip.triangle.length) = (127, Length { count: 254, enabled: true });
+    let mut seen = Vec::new();
+    for clock in 0..=count {
+        let before = chip.triangle;
+        if clock == 0 {
+            chip.write(0x4017, value);
+        } else {
+            chip.clock(&MEMORY_0);
+        }
+        let mut moved = Vec::new();
+        moved.extend((chip.triangle.linear != before.linear).then_some("linear"));
+        moved.extend((chip.triangle.length != before.length).then_some("length"));
+        moved.extend((chip.read_status() & 0x40 > 0).then_some("flag"));
+        if !moved.is_empty() {
+            seen.push((clock, moved.join(" ")));
+        }
+    }
+    seen
+}
+
 #[test]
-fn a_state_is_79_fields_in_91_bytes() {
+fn a_state_is_78_fields_in_90_bytes() {
     let (mut fields, mut bytes) = (0, 0);
     Chip::POWER_ON.clone().fields(|_, slot| {
         fields += 1;
         bytes += slot.width();
     });
-    assert_eq!((fields, bytes), (79, 91));
-    assert_eq!((FIELDS, SIZE), (79, 91));
+    assert_eq!((fields, bytes), (78, 90));
+    assert_eq!((FIELDS, SIZE), (78, 90));
 }
 
 #[test]
@@ -36,13 +59,13 @@ fn bytes_lie_where_the_header_says() {
     let mut chip = Chip::POWER_ON;
     (chip.squares[0].period, chip.squares[1].duty) = (0x123, 2);
     (chip.triangle.linear, chip.noise.register) = (77, 0x4567);
-    (chip.dmc.address, chip.frame.phase, chip.frame.interrupt) = (0xabcd, 0x1234, true);
+    (chip.dmc.address, chip.frame.clock, chip.frame.interrupt) = (0xabcd, 0x1234, true);
     let bytes = chip.encode();
     assert_eq!(bytes[10..12], [0x23, 0x01]);
     assert_eq!((bytes[21], bytes[44]), (2, 77));
     assert_eq!(bytes[65..67], [0x67, 0x45]);
     assert_eq!(bytes[75..77], [0xcd, 0xab]);
-    assert_eq!((&bytes[87..89], bytes[90]), (&[0x34, 0x12][..], 1));
+    assert_eq!((&bytes[87..89], bytes[89]), (&[0x34, 0x12][..], 1));
     assert_eq!(Chip::decode(&bytes), Some(chip));
 }
 
@@ -76,10 +99,13 @@ fn power_on_is_marked_fields_and_zeros() {
 #[test]
 fn ranges_over_more_than_one_field() {
     let mut chip = Chip::POWER_ON;
-    chip.frame.step = 4;
-    assert!(!chip.in_range());
-    chip.frame.mode = true;
-    assert!(chip.in_range());
+    for (mode, last) in [(false, 29829), (true, 37281)] {
+        (chip.frame.mode, chip.frame.clock) = (mode, last);
+        assert!(chip.in_range());
+        chip.frame.clock = last + 1;
+        assert!(!chip.in_range());
+    }
+    chip.frame.clock = 37281;
     chip.noise.length = Length { count: 1, enabled: false };
     assert!(!chip.in_range());
     chip.noise.length.enabled = true;
@@ -109,23 +135,43 @@ fn the_players_example() {
 }
 
 #[test]
-fn four_frame_steps_take_29830_clocks() {
-    // Steps fall after 7458, 14915, 22373 and 29830 clocks: 7457.5 each, rounded up.
-    let mut chip = Chip::POWER_ON;
-    let mut seen = Vec::new();
-    for clock in 1..=29830 {
-        let before = chip.frame.step;
-        chip.clock(&MEMORY_0);
-        if chip.frame.step != before {
-            seen.push((clock, chip.frame.step, chip.frame.interrupt));
-        }
-    }
-    assert_eq!(seen, [(7458, 1, false), (14915, 2, false), (22373, 3, false), (29830, 0, true)]);
-    assert_eq!(chip.frame.phase, 0);
+fn four_steps_in_29830_clocks() {
+    let expected = [
+        (7457, "linear"),
+        (14913, "linear length"),
+        (22371, "linear"),
+        (29829, "linear length flag"),
+        (29830 + 7457, "linear"),
+        (29830 + 14913, "linear length"),
+        (29830 + 22371, "linear"),
+        (29830 + 29829, "linear length flag"),
+    ];
+    assert_eq!(steps(0x00, 2 * 29830), expected.map(|(clock, moved)| (clock, moved.to_string())));
+    let without = expected.map(|(clock, moved)| (clock, moved.trim_end_matches(" flag").to_string()));
+    assert_eq!(steps(0x40, 2 * 29830), without);
 }
 
 #[test]
-fn five_step_mode() {
+fn five_steps_in_37282_clocks() {
+    // The write brings step 1; then come 2, 3, 4, 5, which moves nothing, and 1.
+    let expected = [
+        (0, "linear length"),
+        (7457, "linear"),
+        (14913, "linear length"),
+        (22371, "linear"),
+        (37281, "linear length"),
+        (37282 + 7457, "linear"),
+        (37282 + 14913, "linear length"),
+        (37282 + 22371, "linear"),
+        (37282 + 37281, "linear length"),
+    ];
+    for value in [0x80, 0xc0] {
+        assert_eq!(steps(value, 2 * 37282), expected.map(|(clock, moved)| (clock, moved.to_string())));
+    }
+}
+
+#[test]
+fn a_write_of_mode_1_acts_at_once() {
     let mut chip = Chip::POWER_ON;
     chip.write(0x4015, 0x01);
     chip.write(0x4003, 0x18);
@@ -133,17 +179,24 @@ fn five_step_mode() {
     chip.frame.interrupt = true;
     chip.write(0x4017, 0x80);
     // Step 1 at once; with bit 6 clear the flag stays.
-    assert_eq!((chip.frame.phase, chip.frame.step, chip.squares[0].length.count), (0, 1, 1));
+    assert_eq!((chip.frame.clock, chip.squares[0].length.count), (0, 1));
     assert!(chip.frame.interrupt && !chip.squares[0].envelope.start);
     assert_eq!(chip.squares[0].envelope.counter, 15);
-    chip.frame.interrupt = false;
-    let mut lengths = Vec::new();
-    for _ in 0..4 {
-        clocks(&mut chip, 7458);
-        lengths.push((chip.frame.step, chip.squares[0].length.count));
+    // The next time is counted from the write.
+    clocks(&mut chip, 14912);
+    assert_eq!(chip.squares[0].length.count, 1);
+    clocks(&mut chip, 1);
+    assert_eq!(chip.squares[0].length.count, 0);
+}
+
+#[test]
+fn the_last_clock_number_leads_to_0_without_a_step() {
+    for (mode, last) in [(false, 29829), (true, 37281)] {
+        let mut chip = Chip::POWER_ON;
+        (chip.frame.mode, chip.frame.clock, chip.triangle.linear) = (mode, last, 9);
+        clocks(&mut chip, 1);
+        assert_eq!((chip.frame.clock, chip.triangle.linear, chip.frame.interrupt), (0, 9, false));
     }
-    assert_eq!(lengths, [(2, 1), (3, 0), (4, 0), (0, 0)]);
-    assert!(!chip.frame.interrupt);
 }
 
 #[test]
@@ -178,7 +231,7 @@ fn envelope_starts_then_divides() {
     chip.write(0x4003, 0x00);
     let mut seen = Vec::new();
     for _ in 0..8 {
-        chip.frame.phase = 14913;
+        chip.frame.clock = 7456;
         chip.clock(&MEMORY_0);
         let envelope = chip.squares[0].envelope;
         seen.push((envelope.counter, envelope.divider));
@@ -283,7 +336,7 @@ fn linear_counter() {
         chip.write(0x400b, 0);
         clocks(&mut chip, 1);
         assert_eq!((chip.triangle.linear, chip.triangle.linear_halt), (9, halt_after));
-        chip.frame.phase = 14914;
+        chip.frame.clock = 22370;
         clocks(&mut chip, 1);
         assert_eq!(chip.triangle.linear, if halt_after { 9 } else { 8 });
     }

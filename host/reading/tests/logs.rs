@@ -287,8 +287,8 @@ fn accesses_with_one_stamp_are_heard_one_by_one() {
 
 #[test]
 fn the_frame_flag_is_read_once() {
-    let log = b"log=1\nwait=29829\nread=4015\nwait=1\nread=4015\nread=4015\nstop=29830\n";
-    let expected = "play=1\nlevel=0:8074\nread=29829:00\nread=29830:40\nread=29830:00\nstop=29830\n";
+    let log = b"log=1\nwait=29828\nread=4015\nwait=1\nread=4015\nread=4015\nstop=29829\n";
+    let expected = "play=1\nlevel=0:8074\nread=29828:00\nread=29829:40\nread=29829:00\nstop=29829\n";
     assert_eq!(text(log, &MEMORY_0), expected);
 }
 

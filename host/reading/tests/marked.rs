@@ -17,19 +17,21 @@ fn case_2_squares_15_and_0() {
 }
 
 #[test]
-fn case_3_phases() {
-    for (phase, after, steps) in [(14912, 14914, 0), (14913, 0, 1), (14914, 1, 1)] {
+fn case_3_steps() {
+    // A step clocks the linear counter in either mode, but the fifth of mode 1.
+    for clock in 0..29830 {
         let mut chip = Chip::POWER_ON;
-        chip.frame.phase = phase;
+        (chip.frame.clock, chip.triangle.linear) = (clock, 9);
         chip.clock(&MEMORY_0);
-        assert_eq!((chip.frame.phase, chip.frame.step), (after, steps));
+        let step = [7456, 14912, 22370, 29828].contains(&clock);
+        assert_eq!(chip.triangle.linear, if step { 8 } else { 9 }, "{clock}");
     }
 }
 
 #[test]
 fn case_4_status() {
     let mut chip = Chip::POWER_ON;
-    (chip.frame.phase, chip.frame.step) = (14913, 3);
+    chip.frame.clock = 29828;
     assert_eq!(chip.read_status(), 0x00);
     chip.clock(&MEMORY_0);
     assert_eq!(chip.read_status(), 0x40);
