@@ -1,3 +1,4 @@
 pub mod Elsewhere
+pub mod MachineLaws
 pub mod RangeLaws
 pub mod StatusLaws

@@ -5,11 +5,13 @@ use mathlib.Core.Bool.{Bool, true, false}
 use mathlib.Core.List.{List}
 use native.Mathlib.Nat.{mod-lt}
 use native.Mathlib.Omega.{arith}
-use lib.Dec.{T, leb, eqb, leb→le}
+use lib.Dec.{T, leb, eqb}
+use borrow.Author.Tests.{leb-true}
 use lib.ListN.{getD, length}
 use Rattle.arith.specs.Pick.{pick, both}
 use Rattle.arith.specs.Bit.{bitSet}
 use Rattle.arith.proofs.PickLaws.{both-left, both-right, both-true, pick-both}
+use Rattle.arith.specs.Table.{every}
 use Rattle.arith.proofs.TableLaws.{at}
 use Rattle.chip_square.specs.Range.{squareIn}
 use Rattle.chip_square.proofs.RangeLaws.{SquareRanged, square-in, square-back, square-on, square-timed, square-enveloped, square-swept, square-enabled, square-written}
@@ -20,10 +22,11 @@ use Rattle.chip_frame.specs.Frame.{nextStep, frameDue, frameMoved, clocksEnvelo
 use Rattle.chip_frame.proofs.RangeLaws.{FrameRanged, frame-in, frame-back, frame-on, frame-moved, frame-stepped, frame-written, frame-read}
 use Rattle.chip_frame.proofs.LeapLaws.{Rising, Gaps, before-most}
 use Rattle.chip_mixer.proofs.LevelLaws.{mixed-most}
-use Rattle.chip.specs.Table.{noisePeriods, dmcPeriods, noisePeriod, dmcPeriod, frameTimes}
+use Rattle.chip.specs.Table.{noiseNtsc, noisePal, dmcNtsc, dmcPal, noisePeriod, dmcPeriod, noiseTop, dmcTop, frameTimes}
 use Rattle.chip.specs.Clock.{withFrame, timersClocked, readerClocked, envelopesClocked, lengthsClocked, envelopesIf, lengthsIf, stepped, framed, chipClock}
 use Rattle.chip.specs.Write.{enablesWritten, sequencerWritten, controlWritten, channelWritten, registerWritten}
 use Rattle.chip.specs.Leap.{beforeStep}
+use Rattle.chip.proofs.MachineLaws.{clocked-machine}
 use Rattle.chip.specs.Status.{statusRead}
 use Rattle.chip.specs.Level.{stateLevel}
 use Rattle.chip.specs.Range.{inRange, powerOn, Bytes}
@@ -33,14 +36,14 @@ pub record StateRanged (s : State) : Type 0 where
   pub square1 : SquareRanged (s .square1)
   pub square2 : SquareRanged (s .square2)
   pub triangle : TriangleRanged (s .triangle)
-  pub noise : NoiseRanged (s .noise)
-  pub dmc : DmcRanged (s .dmc)
-  pub frame : FrameRanged frameTimes (s .frame)
+  pub noise : NoiseRanged (noiseTop (s .pal)) (s .noise)
+  pub dmc : DmcRanged (dmcTop (s .pal)) (s .dmc)
+  pub frame : FrameRanged (frameTimes (s .pal)) (s .frame)
 
 -- the facts, from the test
 pub state-in : (s : State) → inRange s ≡ true → StateRanged s
 unfolding inRange
-state-in s e = search (both-left, both-right, square-in, triangle-in, noise-in, dmc-in, frame-in frameTimes)
+state-in s e = search (both-left, both-right, square-in, triangle-in, noise-in, dmc-in, frame-in (frameTimes (s .pal)))
 
 -- and back
 pub state-back : (s : State) → StateRanged s → inRange s ≡ true
@@ -50,59 +53,70 @@ state-back s h =
     (both-true _ _ (square-back (s .square2) (h .square2))
     (both-true _ _ (triangle-back (s .triangle) (h .triangle))
     (both-true _ _ (noise-back (s .noise) (h .noise))
-    (both-true _ _ (dmc-back (s .dmc) (h .dmc)) (frame-back frameTimes (s .frame) (h .frame))))))
+    (both-true _ _ (dmc-back (s .dmc) (h .dmc)) (frame-back (frameTimes (s .pal)) (s .frame) (h .frame))))))
 
--- POWER-ON IS IN RANGE
-pub power-on-in : inRange powerOn ≡ true
-unfolding inRange powerOn
-power-on-in =
-    both-true _ _ square-on (both-true _ _ square-on (both-true _ _ triangle-on (both-true _ _ (noise-back _ noise-on) (both-true _ _ (dmc-back _ dmc-on) (frame-on frameTimes)))))
+holds : (b : Bool) → T b → b ≡ true
+holds true h = refl
+holds false h = absurd h
 
--- every entry of a table is a period
-pub noise-period-range : (index : ℕ) → (1 ≤ noisePeriod index) × (noisePeriod index ≤ 4068)
+-- an entry of a table of sixteen periods is from 1 to the largest, by one test of the table
+period-in : (periods : List ℕ) (top : ℕ) → T (every (λ k x. both (leb 1 x) (leb x top)) 0 periods) → length periods ≡ 16 → (index : ℕ)
+    → (1 ≤ getD periods (index % 16) 0) × (getD periods (index % 16) 0 ≤ top)
+period-in periods top test sixteen index =
+    let i : index % 16 < 16 = mod-lt index (omega arith) in
+    let x : ℕ = getD periods (index % 16) 0 in
+    let t : both (leb 1 x) (leb x top) ≡ true = holds _ (at (λ k y. both (leb 1 y) (leb y top)) periods test (index % 16) (rw sixteen i)) in
+    (leb-true 1 x (both-left _ _ t), leb-true x top (both-right (leb 1 x) _ t))
+
+-- the periods, for either machine
+pub noise-period-range : (pal : Bool) (index : ℕ) → (1 ≤ noisePeriod pal index) × (noisePeriod pal index ≤ noiseTop pal)
 unfolding noisePeriod
-noise-period-range index =
-    let i : index % 16 < 16 = mod-lt index (omega arith) in (
-      leb→le 1 (getD noisePeriods (index % 16) 0) (at (λ k x. leb 1 x) noisePeriods tt (index % 16) i),
-      leb→le (getD noisePeriods (index % 16) 0) 4068 (at (λ k x. leb x 4068) noisePeriods tt (index % 16) i),
-    )
+noise-period-range true index = period-in noisePal 3778 tt refl index
+noise-period-range false index = period-in noiseNtsc 4068 tt refl index
 
-pub dmc-period-range : (index : ℕ) → (1 ≤ dmcPeriod index) × (dmcPeriod index ≤ 428)
+pub dmc-period-range : (pal : Bool) (index : ℕ) → (1 ≤ dmcPeriod pal index) × (dmcPeriod pal index ≤ dmcTop pal)
 unfolding dmcPeriod
-dmc-period-range index =
-    let i : index % 16 < 16 = mod-lt index (omega arith) in (
-      leb→le 1 (getD dmcPeriods (index % 16) 0) (at (λ k x. leb 1 x) dmcPeriods tt (index % 16) i),
-      leb→le (getD dmcPeriods (index % 16) 0) 428 (at (λ k x. leb x 428) dmcPeriods tt (index % 16) i),
-    )
+dmc-period-range true index = period-in dmcPal 398 tt refl index
+dmc-period-range false index = period-in dmcNtsc 428 tt refl index
 
--- the times of the frame rise, and no gap between two of them is above 7,458 clocks
-pub times-rise : Rising frameTimes
-times-rise =
+-- the times of the frame rise, and no gap between two of them is above 8,314 clocks
+pub times-rise : (pal : Bool) → Rising (frameTimes pal)
+times-rise true =
+    record { first = omega arith; second = omega arith; third = omega arith; fourth = omega arith; fifth = omega arith }
+times-rise false =
     record { first = omega arith; second = omega arith; third = omega arith; fourth = omega arith; fifth = omega arith }
 
-times-gaps : Gaps frameTimes 7458
-times-gaps =
+times-gaps : (pal : Bool) → Gaps (frameTimes pal) 8314
+times-gaps true =
+    record { first = omega arith; second = omega arith; third = omega arith; fourth = omega arith; fifth = omega arith }
+times-gaps false =
     record { first = omega arith; second = omega arith; third = omega arith; fourth = omega arith; fifth = omega arith }
 
 -- a stretch between two frame steps is at most this long
-pub before-step-most : (s : State) → beforeStep s ≤ 7458
-before-step-most s = before-most frameTimes 7458 times-gaps (s .frame)
+pub before-step-most : (s : State) → beforeStep s ≤ 8314
+before-step-most s = before-most (frameTimes (s .pal)) 8314 (times-gaps (s .pal)) (s .frame)
 
-frame-put : (s : State) (h : StateRanged s) {f : Rattle.chip_frame.specs.declared.Frame.Frame} → FrameRanged frameTimes f → StateRanged (withFrame s f)
+-- POWER-ON IS IN RANGE
+pub power-on-in : (pal : Bool) → inRange (powerOn pal) ≡ true
+unfolding inRange powerOn
+power-on-in pal =
+    both-true _ _ square-on (both-true _ _ square-on (both-true _ _ triangle-on (both-true _ _ (noise-back _ (noise-on (noisePeriod pal 0) (noise-period-range pal 0 .0) (noise-period-range pal 0 .1))) (both-true _ _ (dmc-back _ (dmc-on (dmcPeriod pal 0) (dmc-period-range pal 0 .0) (dmc-period-range pal 0 .1))) (frame-on (frameTimes pal))))))
+
+frame-put : (s : State) (h : StateRanged s) {f : Rattle.chip_frame.specs.declared.Frame.Frame} → FrameRanged (frameTimes (s .pal)) f → StateRanged (withFrame s f)
 frame-put s h r =
     record { square1 = h .square1; square2 = h .square2; triangle = h .triangle; noise = h .noise; dmc = h .dmc; frame = r }
 
 timers-kept : (s : State) → StateRanged s → StateRanged (timersClocked s)
 unfolding timersClocked
 timers-kept s h =
-    let n = noise-period-range (s .noise .index) in
-    let d = dmc-period-range (s .dmc .registers .index) in
+    let n = noise-period-range (s .pal) (s .noise .index) in
+    let d = dmc-period-range (s .pal) (s .dmc .registers .index) in
     record {
       square1 = square-timed (s .square1) (h .square1);
       square2 = square-timed (s .square2) (h .square2);
       triangle = triangle-timed (s .triangle) (h .triangle);
-      noise = noise-timed-kept (noisePeriod (s .noise .index)) (n .0) (n .1) (s .noise) (h .noise);
-      dmc = dmc-timed-kept (dmcPeriod (s .dmc .registers .index)) (d .0) (d .1) (s .dmc) (h .dmc);
+      noise = noise-timed-kept (noisePeriod (s .pal) (s .noise .index)) (n .0) (n .1) (s .noise) (h .noise);
+      dmc = dmc-timed-kept (dmcPeriod (s .pal) (s .dmc .registers .index)) (d .0) (d .1) (s .dmc) (h .dmc);
       frame = h .frame;
     }
 
@@ -145,16 +159,17 @@ lengths-kept s h =
 step-kept : (step : ℕ) (s : State) → StateRanged s → StateRanged (stepped step s)
 unfolding stepped
 step-kept step s h =
-    let e : StateRanged (envelopesIf (clocksEnvelopes step (s .frame)) s) = pick-both StateRanged (clocksEnvelopes step (s .frame)) (envelopes-kept s h) h in
-    let l : StateRanged (lengthsIf (clocksLengths step (s .frame)) (envelopesIf (clocksEnvelopes step (s .frame)) s)) =
-    pick-both StateRanged (clocksLengths step (s .frame)) (lengths-kept (envelopesIf (clocksEnvelopes step (s .frame)) s) e) e
-    in frame-put _ l (frame-stepped frameTimes step (s .frame) (h .frame))
+    let quarter : Bool = clocksEnvelopes step (s .frame) in
+    let half : Bool = clocksLengths step (s .frame) in
+    let e : StateRanged (envelopesIf quarter s) = pick-both StateRanged quarter (envelopes-kept s h) h in
+    let l : StateRanged (lengthsIf half (envelopesIf quarter s)) = pick-both StateRanged half (lengths-kept (envelopesIf quarter s) e) e in
+    frame-put _ l (rw (clocked-machine half quarter s .pal) (frame-stepped (frameTimes (s .pal)) step (s .frame) (h .frame)))
 
 framed-kept : (s : State) → StateRanged s → StateRanged (framed s)
 unfolding framed
 framed-kept s h =
-    let m : StateRanged (withFrame s (frameMoved frameTimes (s .frame))) = frame-put s h (frame-moved frameTimes (s .frame) (h .frame)) in
-    pick-both StateRanged (frameDue frameTimes (s .frame)) (step-kept (nextStep frameTimes (s .frame)) (withFrame s (frameMoved frameTimes (s .frame))) m) m
+    let m : StateRanged (withFrame s (frameMoved (frameTimes (s .pal)) (s .frame))) = frame-put s h (frame-moved (frameTimes (s .pal)) (s .frame) (h .frame)) in
+    pick-both StateRanged (frameDue (frameTimes (s .pal)) (s .frame)) (step-kept (nextStep (frameTimes (s .pal)) (s .frame)) (withFrame s (frameMoved (frameTimes (s .pal)) (s .frame))) m) m
 
 -- A CLOCK KEEPS THE RANGE
 pub clock-kept : (memory : List ℕ) → Bytes memory → (s : State) → StateRanged s → StateRanged (chipClock memory s)
@@ -177,7 +192,7 @@ module _ (value : ℕ) (byte : value ≤ 255) (s : State) (h : StateRanged s) wh
   sequencer-kept : StateRanged (sequencerWritten value s)
   unfolding sequencerWritten
   sequencer-kept =
-      let m = frame-put s h (frame-written frameTimes value (s .frame)) in
+      let m = frame-put s h (frame-written (frameTimes (s .pal)) value (s .frame)) in
       pick-both StateRanged (bitSet value 7) (step-kept 1 _ m) m
 
   channel-kept : (channel place : ℕ) → StateRanged (channelWritten channel place value s)
@@ -203,7 +218,7 @@ module _ (value : ℕ) (byte : value ≤ 255) (s : State) (h : StateRanged s) wh
 -- A STATUS READ KEEPS THE RANGE
 pub read-kept : (s : State) → StateRanged s → StateRanged (statusRead s)
 unfolding statusRead
-read-kept s h = frame-put s h (frame-read frameTimes (s .frame) (h .frame))
+read-kept s h = frame-put s h (frame-read (frameTimes (s .pal)) (s .frame) (h .frame))
 
 -- THE LEVEL IS AT MOST 32,767
 pub level-most : (s : State) → stateLevel s ≤ 32767

@@ -11,4 +11,4 @@ use Rattle.chip.proofs.RangeLaws.{StateRanged}
 -- THE LINE IS ASSERTED EXACTLY WHERE ONE OF THE TWO FLAGS IS SET
 pub line-flags : (s : State) → StateRanged s → lineAsserted s ≡ either (s .frame .interrupt) (s .dmc .reader .interrupt)
 unfolding lineAsserted
-line-flags s h = ap (λ (b : Bool). either b (s .dmc .reader .interrupt)) (asserts-flag frameTimes (s .frame) (h .frame))
+line-flags s h = ap (λ (b : Bool). either b (s .dmc .reader .interrupt)) (asserts-flag (frameTimes (s .pal)) (s .frame) (h .frame))

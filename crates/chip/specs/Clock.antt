@@ -22,6 +22,7 @@ withDmc s d =
       noise = s .noise;
       dmc = d;
       frame = s .frame;
+      pal = s .pal;
     }
 
 abbrev pub withFrame : State → Frame → State
@@ -33,6 +34,7 @@ withFrame s f =
       noise = s .noise;
       dmc = s .dmc;
       frame = f;
+      pal = s .pal;
     }
 
 -- "all timers with what they drive (triangle gated by its counters as they stood at the start of the clock)"
@@ -42,9 +44,10 @@ timersClocked s =
       square1 = squareTimed (s .square1);
       square2 = squareTimed (s .square2);
       triangle = triangleTimed (s .triangle);
-      noise = noiseTimed (noisePeriod (s .noise .index)) (s .noise);
-      dmc = dmcTimed (dmcPeriod (s .dmc .registers .index)) (s .dmc);
+      noise = noiseTimed (noisePeriod (s .pal) (s .noise .index)) (s .noise);
+      dmc = dmcTimed (dmcPeriod (s .pal) (s .dmc .registers .index)) (s .dmc);
       frame = s .frame;
+      pal = s .pal;
     }
 
 -- "the DMC reader"
@@ -61,6 +64,7 @@ envelopesClocked s =
       noise = noiseEnveloped (s .noise);
       dmc = s .dmc;
       frame = s .frame;
+      pal = s .pal;
     }
 
 -- "lengths and sweeps"
@@ -73,6 +77,7 @@ lengthsClocked s =
       noise = noiseLengthened (s .noise);
       dmc = s .dmc;
       frame = s .frame;
+      pal = s .pal;
     }
 
 -- what a step clocks, where it does
@@ -90,9 +95,9 @@ stepped step s =
 -- the frame's clock number (document 01's "frame divider"), "then its step if due"
 unfoldable pub framed : State → State
 framed s =
-    pick (frameDue frameTimes (s .frame))
-    (stepped (nextStep frameTimes (s .frame)) (withFrame s (frameMoved frameTimes (s .frame))))
-    (withFrame s (frameMoved frameTimes (s .frame)))
+    pick (frameDue (frameTimes (s .pal)) (s .frame))
+    (stepped (nextStep (frameTimes (s .pal)) (s .frame)) (withFrame s (frameMoved (frameTimes (s .pal)) (s .frame))))
+    (withFrame s (frameMoved (frameTimes (s .pal)) (s .frame)))
 
 -- "One clock, in order: all timers with what they drive ..; the DMC reader; the frame divider, then its step if due."
 unfoldable pub chipClock : List ℕ → State → State

@@ -9,12 +9,12 @@ use Rattle.chip.specs.declared.State.{State}
 
 -- whether the next clock brings a frame step
 abbrev pub stepDue : State → Bool
-stepDue s = frameDue frameTimes (s .frame)
+stepDue s = frameDue (frameTimes (s .pal)) (s .frame)
 
 -- the clocks before the next frame step
 abbrev pub beforeStep : State → ℕ
-beforeStep s = frameBefore frameTimes (s .frame)
+beforeStep s = frameBefore (frameTimes (s .pal)) (s .frame)
 
 -- the frame after g clocks that bring none
 abbrev pub passedFrame : ℕ → State → Frame
-passedFrame g s = framePassed frameTimes g (s .frame)
+passedFrame g s = framePassed (frameTimes (s .pal)) g (s .frame)

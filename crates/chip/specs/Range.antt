@@ -9,7 +9,7 @@ use Rattle.chip_triangle.specs.Triangle.{triangleIn, triangleOn}
 use Rattle.chip_noise.specs.Noise.{noiseIn, noiseOn}
 use Rattle.chip_dmc.specs.Range.{dmcIn, dmcOn}
 use Rattle.chip_frame.specs.Frame.{frameIn, frameOn}
-use Rattle.chip.specs.Table.{frameTimes}
+use Rattle.chip.specs.Table.{noisePeriod, dmcPeriod, noiseTop, dmcTop, frameTimes}
 use Rattle.chip.specs.declared.State.{State}
 
 -- every field within its range
@@ -17,18 +17,20 @@ unfoldable pub inRange : State → Bool
 inRange s =
     both (squareIn (s .square1))
     (both (squareIn (s .square2))
-    (both (triangleIn (s .triangle)) (both (noiseIn (s .noise)) (both (dmcIn (s .dmc)) (frameIn frameTimes (s .frame))))))
+    (both (triangleIn (s .triangle)) (both (noiseIn (noiseTop (s .pal)) (s .noise)) (both (dmcIn (dmcTop (s .pal)) (s .dmc)) (frameIn (frameTimes (s .pal)) (s .frame))))))
 
--- "Power-on is house: flags clear, numbers 0, except as marked."
-unfoldable pub powerOn : State
-powerOn =
+-- "Power-on is house: flags clear, numbers 0, except as marked." Request 9: "a machine, NTSC or PAL, fixed at power-on"; "timers for noise and DMC are the
+-- machine's periods at index 0"
+unfoldable pub powerOn : Bool → State
+powerOn pal =
     record {
       square1 = squareOn;
       square2 = squareOn;
       triangle = triangleOn;
-      noise = noiseOn;
-      dmc = dmcOn;
+      noise = noiseOn (noisePeriod pal 0);
+      dmc = dmcOn (dmcPeriod pal 0);
       frame = frameOn;
+      pal = pal;
     }
 
 -- sample memory holds bytes

@@ -26,6 +26,7 @@ withSquare1 s q =
       noise = s .noise;
       dmc = s .dmc;
       frame = s .frame;
+      pal = s .pal;
     }
 
 abbrev pub withSquare2 : State → Square → State
@@ -37,6 +38,7 @@ withSquare2 s q =
       noise = s .noise;
       dmc = s .dmc;
       frame = s .frame;
+      pal = s .pal;
     }
 
 abbrev pub withTriangle : State → Triangle → State
@@ -48,6 +50,7 @@ withTriangle s t =
       noise = s .noise;
       dmc = s .dmc;
       frame = s .frame;
+      pal = s .pal;
     }
 
 abbrev pub withNoise : State → Noise → State
@@ -59,6 +62,7 @@ withNoise s n =
       noise = n;
       dmc = s .dmc;
       frame = s .frame;
+      pal = s .pal;
     }
 
 -- four registers a channel: squares from $4000 and $4004, triangle $4008, noise $400C, DMC $4010; then $4015 and $4017
@@ -78,6 +82,7 @@ enablesWritten value s =
       noise = noiseEnabled (bitSet value 3) (s .noise);
       dmc = dmcEnabled (bitSet value 4) (s .dmc);
       frame = s .frame;
+      pal = s .pal;
     }
 
 -- "A $4017 write sets mode (bit 7) and disable (bit 6)", the clock number 0; "in mode 1 step 1 happens at once"

@@ -4,7 +4,6 @@ ghost use mathlib.Core.Path.{_≡_};
 ghost use mathlib.Core.Bool.{Bool, not};
 ghost use Prim.Native.Nat.{ℕ, _+_, _-_, _*_, _/_, _%_, _≤_};
 ghost use Rattle.arith.specs.Pick.{pick, both};
-ghost use Rattle.chip.specs.Table.{noisePeriod, dmcPeriod, frameTimes};
 ghost use Rattle.chip.specs.Clock.{withFrame, timersClocked, readerClocked, envelopesClocked, lengthsClocked, envelopesIf, lengthsIf, stepped, framed, chipClock};
 ghost use Rattle.chip.specs.Write.{withSquare1, withSquare2, withTriangle, withNoise, enablesWritten, sequencerWritten, controlWritten, channelWritten, registerWritten};
 ghost use Rattle.chip.specs.Status.{statusByte, statusRead, lineAsserted};
@@ -17,11 +16,13 @@ ghost use Rattle.chip_noise.specs.Noise.{noiseWrite};
 ghost use Rattle.chip_dmc.specs.Write.{dmcWrite};
 use chip_dmc::Dmc;
 use chip_frame::Frame;
-use chip_frame::Times;
 use chip_noise::Noise;
 use chip_square::Square;
 use chip_triangle::Triangle;
 
+pub mod tables;
+
+// `pal` is the machine, PAL or NTSC: fixed at power-on.
 pub struct State {
     pub square1: Square,
     pub square2: Square,
@@ -29,79 +30,19 @@ pub struct State {
     pub noise: Noise,
     pub dmc: Dmc,
     pub frame: Frame,
-}
-
-// The noise timer's period at an index.
-pub fn noise_period(index: u8) -> u16
-    ensures { λ r. ⌜ r ≡ noisePeriod index ⌝ }
-{
-    let i = index % 16;
-    match i {
-        0 => 4,
-        1 => 8,
-        2 => 16,
-        3 => 32,
-        4 => 64,
-        5 => 96,
-        6 => 128,
-        7 => 160,
-        8 => 202,
-        9 => 254,
-        10 => 380,
-        11 => 508,
-        12 => 762,
-        13 => 1016,
-        14 => 2034,
-        _ => 4068,
-    }
-}
-
-// The DMC timer's period at an index.
-pub fn dmc_period(index: u8) -> u16
-    ensures { λ r. ⌜ r ≡ dmcPeriod index ⌝ }
-{
-    let i = index % 16;
-    match i {
-        0 => 428,
-        1 => 380,
-        2 => 340,
-        3 => 320,
-        4 => 286,
-        5 => 254,
-        6 => 226,
-        7 => 214,
-        8 => 190,
-        9 => 160,
-        10 => 142,
-        11 => 128,
-        12 => 106,
-        13 => 84,
-        14 => 72,
-        _ => 54,
-    }
-}
-
-// The clock numbers at which the frame's steps come.
-pub fn frame_times() -> Times
-    ensures { λ r. ⌜ r ≡ frameTimes ⌝ }
-{
-    Times {
-        first: 7457,
-        second: 14913,
-        third: 22371,
-        fourth: 29829,
-        fifth: 37281,
-    }
+    pub pal: bool,
 }
 
 // The state at power-on.
-pub fn power_on() -> State
-    ensures { λ r. ⌜ r ≡ powerOn ⌝ }
+pub fn power_on(pal: bool) -> State
+    ensures { λ r. ⌜ r ≡ powerOn pal ⌝ }
 {
+    let noise_first = tables::noise_period(pal, 0);
+    let dmc_first = tables::dmc_period(pal, 0);
     let square = Square::power_on();
     let triangle = Triangle::power_on();
-    let noise = Noise::power_on();
-    let dmc = Dmc::power_on();
+    let noise = Noise::power_on(noise_first);
+    let dmc = Dmc::power_on(dmc_first);
     let frame = Frame::power_on();
     State {
         square1: square,
@@ -110,6 +51,7 @@ pub fn power_on() -> State
         noise: noise,
         dmc: dmc,
         frame: frame,
+        pal: pal,
     }
 }
 
@@ -121,9 +63,11 @@ impl State {
         let a = self.square1.in_range();
         let b = self.square2.in_range();
         let t = self.triangle.in_range();
-        let n = self.noise.in_range();
-        let d = self.dmc.in_range();
-        let times = frame_times();
+        let noise_top = tables::noise_top(self.pal);
+        let n = self.noise.in_range(noise_top);
+        let dmc_top = tables::dmc_top(self.pal);
+        let d = self.dmc.in_range(dmc_top);
+        let times = tables::frame_times(self.pal);
         let f = self.frame.in_range(times);
         let df = arith::both_of(d, f);
         let ndf = arith::both_of(n, df);
@@ -136,8 +80,8 @@ impl State {
     fn timed(self) -> State
         ensures { λ r. ⌜ r ≡ timersClocked self ⌝ }
     {
-        let n = noise_period(self.noise.index);
-        let d = dmc_period(self.dmc.registers.index);
+        let n = tables::noise_period(self.pal, self.noise.index);
+        let d = tables::dmc_period(self.pal, self.dmc.registers.index);
         let mut s = self;
         s.square1 = self.square1.timed();
         s.square2 = self.square2.timed();
@@ -215,7 +159,7 @@ impl State {
     fn frame_clocked(self) -> State
         ensures { λ r. ⌜ r ≡ framed self ⌝ }
     {
-        let times = frame_times();
+        let times = tables::frame_times(self.pal);
         let step = self.frame.next_step(times);
         let mut s = self;
         s.frame = self.frame.moved(times);
@@ -238,7 +182,7 @@ impl State {
     pub fn before_step(self) -> u32
         ensures { λ r. ⌜ r ≡ beforeStep self ⌝ }
     {
-        let times = frame_times();
+        let times = tables::frame_times(self.pal);
         self.frame.before(times)
     }
 
@@ -246,7 +190,7 @@ impl State {
     pub fn passed_frame(self, g: u32) -> Frame
         ensures { λ r. ⌜ r ≡ passedFrame g self ⌝ }
     {
-        let times = frame_times();
+        let times = tables::frame_times(self.pal);
         self.frame.passed(times, g)
     }
 

@@ -36,11 +36,11 @@ pub struct Scaled {
     pub fraction: f32,
 }
 
-// The state at power-on.
-pub fn power_on() -> State
-    ensures { λ r. ⌜ r ≡ powerOn ⌝ }
+// The state at power-on of a machine: true is PAL, false is NTSC.
+pub fn power_on(pal: bool) -> State
+    ensures { λ r. ⌜ r ≡ powerOn pal ⌝ }
 {
-    chip::power_on()
+    chip::power_on(pal)
 }
 
 // Whether a state is within its range.

@@ -1,4 +1,4 @@
--- The range test and the facts it stands for; power-on is in range, and every operation keeps it. Assumes nothing.
+-- The range test and the facts it stands for; power-on is in range, and every operation keeps it, whatever the largest period. Assumes nothing.
 use Prim.Native.Nat.{ℕ, _+_, _-_, _*_, _/_, _%_, _≤_, _<_}
 use mathlib.Core.Path.{_≡_, refl}
 use mathlib.Core.Bool.{Bool, true, false, not}
@@ -25,9 +25,9 @@ pub record RegistersRanged (s : Registers) : Type 0 where
   pub start : s .start ≤ 255
   pub size : s .size ≤ 255
 
-pub record OutputRanged (o : Output) : Type 0 where
+pub record OutputRanged (top : ℕ) (o : Output) : Type 0 where
   pub timer-from : 1 ≤ o .timer
-  pub timer-to : o .timer ≤ 428
+  pub timer-to : o .timer ≤ top
   pub level : o .level ≤ 127
   pub shift : o .shift ≤ 255
   pub bits-from : 1 ≤ o .bits
@@ -39,17 +39,27 @@ pub record ReaderRanged (r : Reader) : Type 0 where
   pub remaining : r .remaining ≤ 4081
   pub buffer : r .buffer ≤ 255
 
-pub record DmcRanged (d : Dmc) : Type 0 where
+pub record DmcRanged (top : ℕ) (d : Dmc) : Type 0 where
   pub registers : RegistersRanged (d .registers)
-  pub output : OutputRanged (d .output)
+  pub output : OutputRanged top (d .output)
   pub reader : ReaderRanged (d .reader)
+
+-- setting the flag keeps the reader's
+flag-kept : (r : Reader) (t : Bool) → ReaderRanged r → ReaderRanged (withInterrupt r t)
+flag-kept r t h =
+    record {
+      address-from = h .address-from;
+      address-to = h .address-to;
+      remaining = h .remaining;
+      buffer = h .buffer;
+    }
 
 -- THE TEST AND THE FACTS
 registers-in : (s : Registers) → registersIn s ≡ true → RegistersRanged s
 unfolding registersIn
 registers-in s e = search (both-left, both-right, leb-true)
 
-output-in : (o : Output) → outputIn o ≡ true → OutputRanged o
+output-in : {top : ℕ} (o : Output) → outputIn top o ≡ true → OutputRanged top o
 unfolding outputIn
 output-in o e = search (both-left, both-right, leb-true)
 
@@ -57,7 +67,7 @@ reader-in : (r : Reader) → readerIn r ≡ true → ReaderRanged r
 unfolding readerIn
 reader-in r e = search (both-left, both-right, leb-true)
 
-pub dmc-in : (d : Dmc) → dmcIn d ≡ true → DmcRanged d
+pub dmc-in : {top : ℕ} (d : Dmc) → dmcIn top d ≡ true → DmcRanged top d
 unfolding dmcIn
 dmc-in d e = search (both-left, both-right, registers-in, output-in, reader-in)
 
@@ -65,7 +75,7 @@ registers-back : (s : Registers) → RegistersRanged s → registersIn s ≡ tru
 unfolding registersIn
 registers-back s r = search (both-true, le-leb)
 
-output-back : (o : Output) → OutputRanged o → outputIn o ≡ true
+output-back : {top : ℕ} (o : Output) → OutputRanged top o → outputIn top o ≡ true
 unfolding outputIn
 output-back o r = search (both-true, le-leb) depth 7
 
@@ -73,21 +83,21 @@ reader-back : (s : Reader) → ReaderRanged s → readerIn s ≡ true
 unfolding readerIn
 reader-back s r = search (both-true, le-leb)
 
-pub dmc-back : (d : Dmc) → DmcRanged d → dmcIn d ≡ true
+pub dmc-back : {top : ℕ} (d : Dmc) → DmcRanged top d → dmcIn top d ≡ true
 unfolding dmcIn
 dmc-back d r =
     both-true _ _ (registers-back _ (r .registers))
     (both-true _ _ (output-back _ (r .output)) (reader-back _ (r .reader)))
 
 -- POWER-ON IS IN RANGE
-pub dmc-on : DmcRanged dmcOn
-dmc-on =
+pub dmc-on : {top : ℕ} (n : ℕ) → 1 ≤ n → n ≤ top → DmcRanged top (dmcOn n)
+dmc-on n from to =
     record {
       registers = record { index = omega arith; start = omega arith; size = omega arith };
       output =
           record {
-            timer-from = omega arith;
-            timer-to = omega arith;
+            timer-from = from;
+            timer-to = to;
             level = omega arith;
             shift = omega arith;
             bits-from = omega arith;
@@ -98,7 +108,7 @@ dmc-on =
     }
 
 -- what it gives
-pub dmc-output-most : (d : Dmc) → DmcRanged d → dmcOutput d ≤ 127
+pub dmc-output-most : {top : ℕ} (d : Dmc) → DmcRanged top d → dmcOutput d ≤ 127
 unfolding dmcOutput
 dmc-output-most d r = r .output .level
 
@@ -116,12 +126,12 @@ tick-most n c m a b p q =
     pick-each (λ (x : ℕ). (1 ≤ x) × (x ≤ m)) (due c) (λ e. (a, b))
     (λ e. (omega (arith, leb-false c 1 e), omega arith))
 
-module _ (n : ℕ) (from : 1 ≤ n) (to : n ≤ 428) where
-  output-kept : (full : Bool) (buffer : ℕ) (o : Output) → buffer ≤ 255 → OutputRanged o
-      → OutputRanged (outputClock n full buffer o)
+module _ {top : ℕ} (n : ℕ) (from : 1 ≤ n) (to : n ≤ top) where
+  output-kept : (full : Bool) (buffer : ℕ) (o : Output) → buffer ≤ 255 → OutputRanged top o
+      → OutputRanged top (outputClock n full buffer o)
   unfolding outputClock outputStep
   output-kept full buffer o b r =
-      pick-each OutputRanged (due (o .timer)) (λ e. stepped)
+      pick-each (OutputRanged top) (due (o .timer)) (λ e. stepped)
       (λ e.
       record {
         timer-from = omega (arith, leb-false (o .timer) 1 e);
@@ -135,7 +145,7 @@ module _ (n : ℕ) (from : 1 ≤ n) (to : n ≤ 428) where
       bits : (1 ≤ tick 8 (o .bits)) × (tick 8 (o .bits) ≤ 8)
       bits = tick-most 8 (o .bits) 8 (omega arith) (omega arith) (r .bits-from) (r .bits-to)
 
-      stepped : OutputRanged (outputStep n full buffer o)
+      stepped : OutputRanged top (outputStep n full buffer o)
       stepped =
           record {
             timer-from = from;
@@ -148,7 +158,7 @@ module _ (n : ℕ) (from : 1 ≤ n) (to : n ≤ 428) where
             bits-to = bits .1;
           }
 
-  pub dmc-timed-kept : (d : Dmc) → DmcRanged d → DmcRanged (dmcTimed n d)
+  pub dmc-timed-kept : (d : Dmc) → DmcRanged top d → DmcRanged top (dmcTimed n d)
   unfolding dmcTimed emptied
   dmc-timed-kept d r =
       record {
@@ -214,7 +224,7 @@ module _ (memory : List ℕ) (bytes : (i : ℕ) → getD memory i 0 ≤ 255) whe
       f)
       h
 
-  pub dmc-read-kept : (d : Dmc) → DmcRanged d → DmcRanged (dmcRead memory d)
+  pub dmc-read-kept : {top : ℕ} (d : Dmc) → DmcRanged top d → DmcRanged top (dmcRead memory d)
   unfolding dmcRead
   dmc-read-kept d r =
       record {
@@ -224,25 +234,16 @@ module _ (memory : List ℕ) (bytes : (i : ℕ) → getD memory i 0 ≤ 255) whe
       }
 
   -- ONE CLOCK KEEPS IT, and so does any number of clocks
-  pub dmc-clock-kept : (n : ℕ) → 1 ≤ n → n ≤ 428 → (d : Dmc) → DmcRanged d → DmcRanged (dmcClock memory n d)
+  pub dmc-clock-kept : {top : ℕ} (n : ℕ) → 1 ≤ n → n ≤ top → (d : Dmc) → DmcRanged top d → DmcRanged top (dmcClock memory n d)
   unfolding dmcClock
   dmc-clock-kept n from to d r = dmc-read-kept (dmcTimed n d) (dmc-timed-kept n from to d r)
 
-  pub dmc-clocks-kept : (n : ℕ) → 1 ≤ n → n ≤ 428 → (g : ℕ) (d : Dmc) → DmcRanged d
-      → DmcRanged (iterate (dmcClock memory n) g d)
-  dmc-clocks-kept n from to g d r = iterate-keeps DmcRanged (dmcClock memory n) (dmc-clock-kept n from to) g d r
+  pub dmc-clocks-kept : {top : ℕ} (n : ℕ) → 1 ≤ n → n ≤ top → (g : ℕ) (d : Dmc) → DmcRanged top d
+      → DmcRanged top (iterate (dmcClock memory n) g d)
+  dmc-clocks-kept {top} n from to g d r = iterate-keeps (DmcRanged top) (dmcClock memory n) (dmc-clock-kept n from to) g d r
 
 -- WRITES KEEP IT
-flag-kept : (r : Reader) (t : Bool) → ReaderRanged r → ReaderRanged (withInterrupt r t)
-flag-kept r t h =
-    record {
-      address-from = h .address-from;
-      address-to = h .address-to;
-      remaining = h .remaining;
-      buffer = h .buffer;
-    }
-
-write0-kept : (value : ℕ) (d : Dmc) → DmcRanged d → DmcRanged (dmcWrite0 value d)
+write0-kept : {top : ℕ} (value : ℕ) (d : Dmc) → DmcRanged top d → DmcRanged top (dmcWrite0 value d)
 unfolding dmcWrite0
 write0-kept value d r =
     record {
@@ -251,7 +252,7 @@ write0-kept value d r =
       reader = flag-kept (d .reader) _ (r .reader);
     }
 
-write1-kept : (value : ℕ) (d : Dmc) → DmcRanged d → DmcRanged (dmcWrite1 value d)
+write1-kept : {top : ℕ} (value : ℕ) (d : Dmc) → DmcRanged top d → DmcRanged top (dmcWrite1 value d)
 unfolding dmcWrite1
 write1-kept value d r =
     let o = r .output in
@@ -269,7 +270,7 @@ write1-kept value d r =
       reader = r .reader;
     }
 
-write2-kept : (value : ℕ) (d : Dmc) → value ≤ 255 → DmcRanged d → DmcRanged (dmcWrite2 value d)
+write2-kept : {top : ℕ} (value : ℕ) (d : Dmc) → value ≤ 255 → DmcRanged top d → DmcRanged top (dmcWrite2 value d)
 unfolding dmcWrite2
 write2-kept value d h r =
     record {
@@ -278,7 +279,7 @@ write2-kept value d h r =
       reader = r .reader;
     }
 
-write3-kept : (value : ℕ) (d : Dmc) → value ≤ 255 → DmcRanged d → DmcRanged (dmcWrite3 value d)
+write3-kept : {top : ℕ} (value : ℕ) (d : Dmc) → value ≤ 255 → DmcRanged top d → DmcRanged top (dmcWrite3 value d)
 unfolding dmcWrite3
 write3-kept value d h r =
     record {
@@ -287,14 +288,14 @@ write3-kept value d h r =
       reader = r .reader;
     }
 
-pub dmc-write-kept : (place value : ℕ) (d : Dmc) → value ≤ 255 → DmcRanged d → DmcRanged (dmcWrite place value d)
+pub dmc-write-kept : {top : ℕ} (place value : ℕ) (d : Dmc) → value ≤ 255 → DmcRanged top d → DmcRanged top (dmcWrite place value d)
 unfolding dmcWrite
-dmc-write-kept place value d h r =
-    pick-both DmcRanged (eqb place 0) (write0-kept value d r)
-    (pick-both DmcRanged (eqb place 1) (write1-kept value d r)
-    (pick-both DmcRanged (eqb place 2) (write2-kept value d h r) (write3-kept value d h r)))
+dmc-write-kept {top} place value d h r =
+    pick-both (DmcRanged top) (eqb place 0) (write0-kept value d r)
+    (pick-both (DmcRanged top) (eqb place 1) (write1-kept value d r)
+    (pick-both (DmcRanged top) (eqb place 2) (write2-kept value d h r) (write3-kept value d h r)))
 
-pub dmc-enabled-kept : (on : Bool) (d : Dmc) → DmcRanged d → DmcRanged (dmcEnabled on d)
+pub dmc-enabled-kept : {top : ℕ} (on : Bool) (d : Dmc) → DmcRanged top d → DmcRanged top (dmcEnabled on d)
 unfolding dmcEnabled switched
 dmc-enabled-kept on d r =
     record {

@@ -100,10 +100,10 @@ impl Output {
         self.at(self.timer - 1)
     }
 
-    fn in_range(self) -> bool
-        ensures { λ r. ⌜ r ≡ outputIn self ⌝ }
+    fn in_range(self, top: u16) -> bool
+        ensures { λ r. ⌜ r ≡ outputIn top self ⌝ }
     {
-        let timer = arith::both_of(1 <= self.timer, self.timer <= 428);
+        let timer = arith::both_of(1 <= self.timer, self.timer <= top);
         let bits = arith::both_of(1 <= self.bits, self.bits <= 8);
         let shift = arith::both_of(self.shift <= 255, bits);
         let level = arith::both_of(self.level <= 127, shift);
@@ -241,9 +241,9 @@ impl Reader {
 }
 
 impl Dmc {
-    // The state at power-on.
-    pub fn power_on() -> Dmc
-        ensures { λ r. ⌜ r ≡ dmcOn ⌝ }
+    // The state at power-on; the timer starts at the period.
+    pub fn power_on(period: u16) -> Dmc
+        ensures { λ r. ⌜ r ≡ dmcOn period ⌝ }
     {
         let registers = Registers {
             enable: false,
@@ -253,7 +253,7 @@ impl Dmc {
             size: 0,
         };
         let output = Output {
-            timer: 428,
+            timer: period,
             level: 0,
             shift: 0,
             bits: 8,
@@ -373,10 +373,11 @@ impl Dmc {
         d
     }
 
-    pub fn in_range(self) -> bool
-        ensures { λ r. ⌜ r ≡ dmcIn self ⌝ }
+    // `top` is the largest period.
+    pub fn in_range(self, top: u16) -> bool
+        ensures { λ r. ⌜ r ≡ dmcIn top self ⌝ }
     {
-        let o = self.output.in_range();
+        let o = self.output.in_range(top);
         let r = self.reader.in_range();
         let s = self.registers.in_range();
         let rest = arith::both_of(o, r);

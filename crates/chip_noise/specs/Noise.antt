@@ -79,17 +79,19 @@ noiseWrite place value c =
     (pick (eqb place 3) (noiseWrite3 value c) c))
 
 -- "loop, constant, n, envelope, length and enabled as a square's, mode, index 0..15, timer 1..4068, shift register 1..32767"
-unfoldable pub noiseIn : Noise → Bool
-noiseIn c =
-    both (leb (c .index) 15) (both (shifterIn (c .shifter)) (both (envelopeIn (c .envelope)) (lengthIn (c .length))))
+-- (`top` is the machine's largest period)
+unfoldable pub noiseIn : ℕ → Noise → Bool
+noiseIn top c =
+    both (leb (c .index) 15) (both (shifterIn top (c .shifter)) (both (envelopeIn (c .envelope)) (lengthIn (c .length))))
 
--- "timer .. (4), shift register .. (1)", the envelope's divider 1, the rest 0 and clear
-abbrev pub noiseOn : Noise
-noiseOn =
+-- request 9: "Power-on timers for noise and DMC are the machine's periods at index 0", here n; "shift register .. (1)", the envelope's divider 1, the rest 0
+-- and clear
+abbrev pub noiseOn : ℕ → Noise
+noiseOn n =
     record {
       mode = false;
       index = 0;
-      shifter = record { timer = 4; register = 1 };
+      shifter = record { timer = n; register = 1 };
       envelope = record { looped = false; constant = false; n = 0; start = false; divider = 1; counter = 0 };
       length = record { count = 0; enabled = false };
     }

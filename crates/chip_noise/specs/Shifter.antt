@@ -25,7 +25,7 @@ shifterClock n mode h =
       register = pick (due (h .timer)) (shiftedOf mode (h .register)) (h .register);
     }
 
--- "timer 1..4068, shift register 1..32767"
-unfoldable pub shifterIn : Shifter → Bool
-shifterIn h =
-    both (both (leb 1 (h .timer)) (leb (h .timer) 4068)) (both (leb 1 (h .register)) (leb (h .register) 32767))
+-- "timer 1..4068, shift register 1..32767"; request 9: the timer's range follows the machine's largest period, `top`
+unfoldable pub shifterIn : ℕ → Shifter → Bool
+shifterIn top h =
+    both (both (leb 1 (h .timer)) (leb (h .timer) top)) (both (leb 1 (h .register)) (leb (h .register) 32767))

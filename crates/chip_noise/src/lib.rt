@@ -56,22 +56,22 @@ impl Shifter {
         }
     }
 
-    fn in_range(self) -> bool
-        ensures { λ r. ⌜ r ≡ shifterIn self ⌝ }
+    fn in_range(self, top: u16) -> bool
+        ensures { λ r. ⌜ r ≡ shifterIn top self ⌝ }
     {
-        let timer = arith::both_of(1 <= self.timer, self.timer <= 4068);
+        let timer = arith::both_of(1 <= self.timer, self.timer <= top);
         let register = arith::both_of(1 <= self.register, self.register <= 32767);
         arith::both_of(timer, register)
     }
 }
 
 impl Noise {
-    // The state at power-on.
-    pub fn power_on() -> Noise
-        ensures { λ r. ⌜ r ≡ noiseOn ⌝ }
+    // The state at power-on; the timer starts at the period.
+    pub fn power_on(period: u16) -> Noise
+        ensures { λ r. ⌜ r ≡ noiseOn period ⌝ }
     {
         let shifter = Shifter {
-            timer: 4,
+            timer: period,
             register: 1,
         };
         let envelope = Envelope {
@@ -183,10 +183,11 @@ impl Noise {
         }
     }
 
-    pub fn in_range(self) -> bool
-        ensures { λ r. ⌜ r ≡ noiseIn self ⌝ }
+    // `top` is the largest period.
+    pub fn in_range(self, top: u16) -> bool
+        ensures { λ r. ⌜ r ≡ noiseIn top self ⌝ }
     {
-        let s = self.shifter.in_range();
+        let s = self.shifter.in_range(top);
         let e = self.envelope.in_range();
         let l = self.length.in_range();
         let units = arith::both_of(e, l);

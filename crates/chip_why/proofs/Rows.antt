@@ -122,7 +122,7 @@ noise-row true false false zero h = record { says = refl; sure = refl }
 noise-row true false false (suc v) h = record { says = rw (some v); sure = simp (some v) }
 
 -- SO IS THE NOISE'S
-pub noise-fair : (c : Noise) → NoiseRanged c → Fair (noiseWhy c) (noiseOutput c)
+pub noise-fair : (c : Noise) {top : ℕ} → NoiseRanged top c → Fair (noiseWhy c) (noiseOutput c)
 unfolding noiseWhy noiseOutput noiseAmount
 noise-fair c h =
     noise-row (c .length .enabled) (eqb (c .length .count) 0) (bitSet (c .shifter .register) 0) (volume (c .envelope)) (idle-short (c .length) (h .length))
@@ -166,6 +166,6 @@ pub square-not-enabled : (second : Bool) (s : Square) → SquareRanged s → s .
 unfolding squareWhy firstReason
 square-not-enabled second s h e = (h .length .idle e, rw e)
 
-pub noise-not-enabled : (c : Noise) → NoiseRanged c → c .length .enabled ≡ false → (c .length .count ≡ 0) × (noiseWhy c ≡ NotEnabled)
+pub noise-not-enabled : (c : Noise) {top : ℕ} → NoiseRanged top c → c .length .enabled ≡ false → (c .length .count ≡ 0) × (noiseWhy c ≡ NotEnabled)
 unfolding noiseWhy firstReason
 noise-not-enabled c h e = (h .length .idle e, rw e)

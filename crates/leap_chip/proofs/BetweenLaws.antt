@@ -41,16 +41,16 @@ registers-stay memory n g d =
 
 module _ (memory : List ℕ) (s : State) where
   abbrev noise-n : ℕ
-  noise-n = noisePeriod (s .noise .index)
+  noise-n = noisePeriod (s .pal) (s .noise .index)
 
   abbrev dmc-n : ℕ
-  dmc-n = dmcPeriod (s .dmc .registers .index)
+  dmc-n = dmcPeriod (s .pal) (s .dmc .registers .index)
 
   -- one clock that brings no step
   one : (q1 q2 : square1.Sequencer) (tq : triangle1.Sequencer) (h : Shifter) (d : Dmc) (f : Frame)
-      → frameDue frameTimes f ≡ false → d .registers ≡ s .dmc .registers
+      → frameDue (frameTimes (s .pal)) f ≡ false → d .registers ≡ s .dmc .registers
       → chipClock memory (stateWith q1 q2 tq h d f s)
-      ≡ stateWith (sequencerClock q1) (sequencerClock q2) (triangleSequenced (runs (s .triangle)) tq) (shifterClock noise-n (s .noise .mode) h) (dmcClock memory dmc-n d) (frameMoved frameTimes f) s
+      ≡ stateWith (sequencerClock q1) (sequencerClock q2) (triangleSequenced (runs (s .triangle)) tq) (shifterClock noise-n (s .noise .mode) h) (dmcClock memory dmc-n d) (frameMoved (frameTimes (s .pal)) f) s
   unfolding chipClock framed readerClocked timersClocked stateWith squareTimed triangleTimed noiseTimed dmcClock runs
   one q1 q2 tq h d f e r = rw (e, r)
 
@@ -62,17 +62,17 @@ module _ (memory : List ℕ) (s : State) where
       (iterate (shifterClock noise-n (s .noise .mode)) g (s .noise .shifter))
       (iterate (dmcClock memory dmc-n) g (s .dmc)) (passedFrame g s) s
 
-  start : FrameRanged frameTimes (s .frame) → s ≡ parted 0
+  start : FrameRanged (frameTimes (s .pal)) (s .frame) → s ≡ parted 0
   unfolding iterate stateWith
-  start h = rw (passed-none frameTimes (s .frame) h)
+  start h = rw (passed-none (frameTimes (s .pal)) (s .frame) h)
 
-  more : FrameRanged frameTimes (s .frame) → (g : ℕ) → g < beforeStep s → chipClock memory (parted g) ≡ parted (suc g)
+  more : FrameRanged (frameTimes (s .pal)) (s .frame) → (g : ℕ) → g < beforeStep s → chipClock memory (parted g) ≡ parted (suc g)
   more h g few =
-      one _ _ _ _ (iterate (dmcClock memory dmc-n) g (s .dmc)) (passedFrame g s) (passed-due frameTimes times-rise (s .frame) h g few) (registers-stay memory dmc-n g (s .dmc))
-      ∙ rw (passed-more frameTimes (s .frame) h g, ← add-one g, iterate-more sequencerClock g (s .square1 .sequencer), iterate-more sequencerClock g (s .square2 .sequencer), iterate-more (triangleSequenced (runs (s .triangle))) g (s .triangle .sequencer), iterate-more (shifterClock noise-n (s .noise .mode)) g (s .noise .shifter), iterate-more (dmcClock memory dmc-n) g (s .dmc))
+      one _ _ _ _ (iterate (dmcClock memory dmc-n) g (s .dmc)) (passedFrame g s) (passed-due (frameTimes (s .pal)) (times-rise (s .pal)) (s .frame) h g few) (registers-stay memory dmc-n g (s .dmc))
+      ∙ rw (passed-more (frameTimes (s .pal)) (s .frame) h g, ← add-one g, iterate-more sequencerClock g (s .square1 .sequencer), iterate-more sequencerClock g (s .square2 .sequencer), iterate-more (triangleSequenced (runs (s .triangle))) g (s .triangle .sequencer), iterate-more (shifterClock noise-n (s .noise .mode)) g (s .noise .shifter), iterate-more (dmcClock memory dmc-n) g (s .dmc))
 
   -- CLOCKS THAT BRING NO FRAME STEP ARE EACH CHANNEL'S OWN
-  pub between : FrameRanged frameTimes (s .frame) → (g : ℕ) → g ≤ beforeStep s → iterate (chipClock memory) g s ≡ parted g
+  pub between : FrameRanged (frameTimes (s .pal)) (s .frame) → (g : ℕ) → g ≤ beforeStep s → iterate (chipClock memory) g s ≡ parted g
   between h zero l = iterate-zero (chipClock memory) s ∙ start h
   between h (suc g) l =
       ap (λ (k : ℕ). iterate (chipClock memory) k s) (sym (add-one g))

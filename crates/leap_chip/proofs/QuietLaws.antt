@@ -40,7 +40,7 @@ use Rattle.chip_frame.specs.Frame.{frameDue}
 use Rattle.chip_frame.specs.declared.Frame.{Frame}
 use Rattle.chip_frame.proofs.LeapLaws.{passed-due, before-due}
 use Rattle.chip.specs.Clock.{chipClock}
-use Rattle.chip.specs.Leap.{beforeStep, passedFrame}
+use Rattle.chip.specs.Leap.{stepDue, beforeStep, passedFrame}
 use Rattle.chip.specs.Level.{stateLevel}
 use Rattle.chip.specs.Range.{inRange}
 use Rattle.chip.specs.Table.{noisePeriod, dmcPeriod, frameTimes}
@@ -154,10 +154,10 @@ module _ (memory : List ℕ) (s : State) (ranged : inRange s ≡ true) where
   abbrev r : StateRanged s
   r = state-in s ranged
 
-  -- the frame at clock k of a stretch
-  frame-at : (k : ℕ) → k ≤ beforeStep s → iterate (chipClock memory) k s .frame ≡ passedFrame k s
+  -- whether clock k of a stretch brings a step
+  due-at : (k : ℕ) → k ≤ beforeStep s → stepDue (iterate (chipClock memory) k s) ≡ frameDue (frameTimes (s .pal)) (passedFrame k s)
   unfolding stateWith
-  frame-at k few = ap (λ (x : State). x .frame) (between memory s (r .frame) k few)
+  due-at k few = ap stepDue (between memory s (r .frame) k few)
 
   -- clocks that bring no step are at most those before the next one,
   pub no-step-few : (g : ℕ) → NoStep memory s g → g ≤ beforeStep s
@@ -166,16 +166,16 @@ module _ (memory : List ℕ) (s : State) (ranged : inRange s ≡ true) where
       go : (t : Bool) → ltb (beforeStep s) g ≡ t → g ≤ beforeStep s
       go true e =
           let b : ℕ = beforeStep s in
-          absurd (true≢false (sym (before-due frameTimes times-rise (s .frame) (r .frame)) ∙ sym (ap (frameDue frameTimes) (frame-at b (omega arith))) ∙ none b (ltb-true b g e)))
+          absurd (true≢false (sym (before-due (frameTimes (s .pal)) (times-rise (s .pal)) (s .frame) (r .frame)) ∙ sym (due-at b (omega arith)) ∙ none b (ltb-true b g e)))
       go false e = ltb-false (beforeStep s) g e
 
   -- and the other way round
   pub few-no-step : (g : ℕ) → g ≤ beforeStep s → NoStep memory s g
-  few-no-step g few k h = ap (frameDue frameTimes) (frame-at k (omega arith)) ∙ passed-due frameTimes times-rise (s .frame) (r .frame) k (omega arith)
+  few-no-step g few k h = due-at k (omega arith) ∙ passed-due (frameTimes (s .pal)) (times-rise (s .pal)) (s .frame) (r .frame) k (omega arith)
 
 module _ (memory : List ℕ) (s : State) (ranged : inRange s ≡ true) (q : Quiet s) (g : ℕ) (few : g ≤ beforeStep s) where
   abbrev dmc-n : ℕ
-  dmc-n = dmcPeriod (s .dmc .registers .index)
+  dmc-n = dmcPeriod (s .pal) (s .dmc .registers .index)
 
   -- EVERY FIELD
   pub quiet-closed : iterate (chipClock memory) g s ≡ quietAfter g s
@@ -185,10 +185,10 @@ module _ (memory : List ℕ) (s : State) (ranged : inRange s ≡ true) (q : Quie
       let a = square-goes (s .square1) (r .square1) g in
       let b = square-goes (s .square2) (r .square2) g in
       let t = triangle-rests (s .triangle) (r .triangle) (q .triangle) g in
-      let n = noises.shifter-closed (noisePeriod (s .noise .index)) (s .noise .mode) (noise-period-range (s .noise .index) .0) g (s .noise .shifter)
+      let n = noises.shifter-closed (noisePeriod (s .pal) (s .noise .index)) (s .noise .mode) (noise-period-range (s .pal) (s .noise .index) .0) g (s .noise .shifter)
       (r .noise .shifter .timer-from)
       in
-      let d = idle-closed memory dmc-n (dmc-period-range (s .dmc .registers .index) .0) (s .dmc) (r .dmc) (idle s q) g in
+      let d = idle-closed memory dmc-n (dmc-period-range (s .pal) (s .dmc .registers .index) .0) (s .dmc) (r .dmc) (idle s q) g in
       between memory s (r .frame) g few ∙ rw (a, b, t, n, d)
 
   -- THE LEVEL
@@ -199,10 +199,10 @@ module _ (memory : List ℕ) (s : State) (ranged : inRange s ≡ true) (q : Quie
       let a = square-silent false (s .square1) (r .square1) (q .square1) g in
       let b = square-silent true (s .square2) (r .square2) (q .square2) g in
       let t = triangle-holds (s .triangle) (r .triangle) (q .triangle) g in
-      let n = noise-silent (noisePeriod (s .noise .index)) (s .noise) (q .noise)
-      (iterate (shifterClock (noisePeriod (s .noise .index)) (s .noise .mode)) g (s .noise .shifter))
+      let n = noise-silent (noisePeriod (s .pal) (s .noise .index)) (s .noise) (q .noise)
+      (iterate (shifterClock (noisePeriod (s .pal) (s .noise .index)) (s .noise .mode)) g (s .noise .shifter))
       in
-      let d = idle-still memory dmc-n (dmc-period-range (s .dmc .registers .index) .0) (s .dmc) (r .dmc) (idle s q) g in
+      let d = idle-still memory dmc-n (dmc-period-range (s .pal) (s .dmc .registers .index) .0) (s .dmc) (r .dmc) (idle s q) g in
       ap stateLevel (between memory s (r .frame) g few) ∙ rw (a, b, t, n, d)
 
 -- THE LAW

@@ -19,4 +19,5 @@ stateWith q1 q2 tq h d f s =
       noise = noise.withShifter (s .noise) h;
       dmc = d;
       frame = f;
+      pal = s .pal;
     }

@@ -57,8 +57,8 @@ triangleAfter g q = record { timer = timerAfter g (q .timer); position = q .posi
 unfoldable pub quietAfter : ℕ → State → State
 quietAfter g s =
     stateWith (squareAfter g (s .square1 .sequencer)) (squareAfter g (s .square2 .sequencer)) (triangleAfter g (s .triangle .sequencer))
-    (shifterAdvanced (noisePeriod (s .noise .index)) (s .noise .mode) g (s .noise .shifter))
-    (dmcAdvanced (dmcPeriod (s .dmc .registers .index)) g (s .dmc))
+    (shifterAdvanced (noisePeriod (s .pal) (s .noise .index)) (s .noise .mode) g (s .noise .shifter))
+    (dmcAdvanced (dmcPeriod (s .pal) (s .dmc .registers .index)) g (s .dmc))
     (passedFrame g s) s
 
 -- "g clocks that bring no frame step": the frame's own test fails at each of them

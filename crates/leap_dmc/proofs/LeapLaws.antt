@@ -34,7 +34,7 @@ unfolding dmcStill outputStill
 idle-forever n d i = rw (idle-rests d i, i .silence, i .full)
 
 -- the closed form of what the timer drives
-seen-closed : (n g : ℕ) (d : Dmc) → 0 < n → DmcRanged d
+seen-closed : (n g : ℕ) (d : Dmc) → 0 < n → {top : ℕ} → DmcRanged top d
     → seen d (iterate (drive n tapeStep) g (ownTape (d .output))) ≡ dmcAdvanced n g d
 unfolding dmcAdvanced outputAdvanced
 seen-closed n g d hn r =
@@ -58,7 +58,7 @@ still-most n d hn ht hb =
     (omega (arith, mul-le-mul {n₁ = d .output .bits - 1} {m₁ = n} {n₂ = 254} {m₂ = 65535} (omega arith) hn)) (omega arith))
     (omega arith))
 
-module _ (memory : List ℕ) (n : ℕ) (hn : 0 < n) (d : Dmc) (r : DmcRanged d) where
+module _ (memory : List ℕ) (n : ℕ) (hn : 0 < n) (d : Dmc) {top : ℕ} (r : DmcRanged top d) where
   -- THE LAW OF THE QUIET STATE, the DMC's share: idle, any number of clocks has the closed form, and the output stays
   pub idle-closed : DmcIdle d → (g : ℕ) → iterate (dmcClock memory n) g d ≡ dmcAdvanced n g d
   idle-closed i g = idle-clocks memory n d (idle-rests d i) (i .silence) (i .full) g ∙ seen-closed n g d hn r

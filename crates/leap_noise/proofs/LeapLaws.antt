@@ -136,7 +136,7 @@ gives-none h = go (bitSet (h .register) 0)
     go true = refl
     go false = refl
 
-module _ (n : ℕ) (hn : 0 < n) (mode : Bool) (amount : ℕ) (h : Shifter) (r : ShifterRanged h) where
+module _ (n : ℕ) (hn : 0 < n) (mode : Bool) (amount : ℕ) (h : Shifter) {top : ℕ} (r : ShifterRanged top h) where
   bit-leaves : (j : ℕ) → j ≤ alike 14 (h .register)
       → pick (bitSet (iterate (shiftedOf mode) j (h .register)) 0) 0 amount ≡ pick (bitSet (h .register) 0) 0 amount
   bit-leaves j q =
@@ -196,7 +196,7 @@ module _ (n : ℕ) (c : Noise) where
   noise-gives h = refl
 
   -- THE LAW OF THE QUIET STATE, the noise's share: any number of clocks has the closed form, and with no length the output stays 0
-  pub noise-closed : 0 < n → NoiseRanged c → (g : ℕ)
+  pub noise-closed : 0 < n → {top : ℕ} → NoiseRanged top c → (g : ℕ)
       → iterate (noiseTimed n) g c ≡ withShifter c (shifterAdvanced n (c .mode) g (c .shifter))
   noise-closed hn r g =
       noise-clocks g ∙ ap (withShifter c) (shifter-closed n (c .mode) hn g (c .shifter) (r .shifter .timer-from))

@@ -30,8 +30,8 @@ pub dmc-start : (memory : List ℕ) (n : ℕ) (d : Dmc) → DmcKept memory n d 0
 unfolding dmcLag
 dmc-start memory n d = record { n = refl; follows = lag-start d }
 
-module _ (memory : List ℕ) (bytes : Bytes memory) (n : ℕ) (from : 1 ≤ n) (to : n ≤ 428) (d : Dmc) (r : DmcRanged d) where
-  leaps : Leaps (dmcClock memory n) dmcOutput (dmcStill n) (dmcTurned memory n) DmcRanged
+module _ (memory : List ℕ) (bytes : Bytes memory) (n : ℕ) (from : 1 ≤ n) {top : ℕ} (to : n ≤ top) (d : Dmc) (r : DmcRanged top d) where
+  leaps : Leaps (dmcClock memory n) dmcOutput (dmcStill n) (dmcTurned memory n) (DmcRanged top)
   leaps =
       record {
         keeps = dmc-clock-kept memory bytes n from to;

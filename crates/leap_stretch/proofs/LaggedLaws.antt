@@ -54,8 +54,8 @@ pub record Lagging (memory : List ℕ) (s : State) (l : Lags) : Type 0 where
   pub square1 : SquareKept false (s .square1) (l .now) (l .square1)
   pub square2 : SquareKept true (s .square2) (l .now) (l .square2)
   pub triangle : TriangleKept (s .triangle) (l .now) (l .triangle)
-  pub noise : NoiseKept (noisePeriod (s .noise .index)) (s .noise) (l .now) (l .noise)
-  pub dmc : DmcKept memory (dmcPeriod (s .dmc .registers .index)) (s .dmc) (l .now) (l .dmc)
+  pub noise : NoiseKept (noisePeriod (s .pal) (s .noise .index)) (s .noise) (l .now) (l .noise)
+  pub dmc : DmcKept memory (dmcPeriod (s .pal) (s .dmc .registers .index)) (s .dmc) (l .now) (l .dmc)
   pub soon : l .soon ≡ sooner (sooner (l .square1 .next) (l .square2 .next)) (l .triangle .next)
   pub next : l .next ≡ sooner (l .soon) (sooner (l .noise .next) (l .dmc .next))
   pub level : l .level ≡ mixed (l .square1 .out) (l .square2 .out) (triangleAt (l .triangle .position)) (l .noise .out) (l .dmc .out)
@@ -68,8 +68,8 @@ lagging-start memory s =
       square1 = square-start false (s .square1);
       square2 = square-start true (s .square2);
       triangle = triangle-start (s .triangle);
-      noise = noise-start (noisePeriod (s .noise .index)) (s .noise);
-      dmc = dmc-start memory (dmcPeriod (s .dmc .registers .index)) (s .dmc);
+      noise = noise-start (noisePeriod (s .pal) (s .noise .index)) (s .noise);
+      dmc = dmc-start memory (dmcPeriod (s .pal) (s .dmc .registers .index)) (s .dmc);
       soon = refl;
       next = refl;
       level = refl;
@@ -132,10 +132,10 @@ module _ (memory : List ℕ) (s : State) (l : Lags) (g : Lagging memory s l) whe
 
 module _ (memory : List ℕ) (bytes : Bytes memory) (s : State) (r : StateRanged s) (l : Lags) (g : Lagging memory s l) where
   abbrev noise-n : ℕ
-  noise-n = noisePeriod (s .noise .index)
+  noise-n = noisePeriod (s .pal) (s .noise .index)
 
   abbrev dmc-n : ℕ
-  dmc-n = dmcPeriod (s .dmc .registers .index)
+  dmc-n = dmcPeriod (s .pal) (s .dmc .registers .index)
 
   -- ONE EVENT
   pub lagging-renewed : l .next ≤ forever → Lagging memory s (renewed memory l (l .next))
@@ -147,8 +147,8 @@ module _ (memory : List ℕ) (bytes : Bytes memory) (s : State) (r : StateRanged
       let late : (x : ℕ) → l .soon ≤ x → due ≡ false → l .next < x =
       λ x h z. let ne : l .soon ≡ l .next → ⊥ = eqb-false (l .soon) (l .next) z in omega (arith, m .voices)
       in
-      let pn = noise-period-range (s .noise .index) in
-      let pd = dmc-period-range (s .dmc .registers .index) in
+      let pn = noise-period-range (s .pal) (s .noise .index) in
+      let pd = dmc-period-range (s .pal) (s .dmc .registers .index) in
       record {
         square1 = square-kept false (s .square1) (r .square1) (l .now) (l .square1) (g .square1) (l .next) (omega arith) (m .square1) f due (late _ (m .soon1));
         square2 = square-kept true (s .square2) (r .square2) (l .now) (l .square2) (g .square2) (l .next) (omega arith) (m .square2) f due (late _ (m .soon2));
@@ -166,8 +166,8 @@ module _ (memory : List ℕ) (bytes : Bytes memory) (s : State) (r : StateRanged
     unfolding stateLevel stateWith
     lagging-level =
         let m = next-most memory s l g in
-        let pn = noise-period-range (s .noise .index) in
-        let pd = dmc-period-range (s .dmc .registers .index) in
+        let pn = noise-period-range (s .pal) (s .noise .index) in
+        let pd = dmc-period-range (s .pal) (s .dmc .registers .index) in
         let a = square-out false (s .square1) (r .square1) (l .now) (l .square1) (g .square1) k from (omega (arith, m .square1)) in
         let b = square-out true (s .square2) (r .square2) (l .now) (l .square2) (g .square2) k from (omega (arith, m .square2)) in
         let t = triangle-out (s .triangle) (r .triangle) (l .now) (l .triangle) (g .triangle) k from (omega (arith, m .triangle)) in
@@ -180,8 +180,8 @@ module _ (memory : List ℕ) (bytes : Bytes memory) (s : State) (r : StateRanged
     unfolding stateAt
     lagging-state =
         let m = next-most memory s l g in
-        let pn = noise-period-range (s .noise .index) in
-        let pd = dmc-period-range (s .dmc .registers .index) in
+        let pn = noise-period-range (s .pal) (s .noise .index) in
+        let pd = dmc-period-range (s .pal) (s .dmc .registers .index) in
         let a = square-at (s .square1) (r .square1) k in
         let b = square-at (s .square2) (r .square2) k in
         let t = triangle-at (s .triangle) (r .triangle) k in

@@ -34,8 +34,8 @@ pub noise-start : (n : ℕ) (c : Noise) → NoiseKept n c 0 (noiseLag n (c .mode
 unfolding noiseLag
 noise-start n c = record { n = refl; mode = refl; amount = refl; follows = lag-start (c .shifter) }
 
-module _ (n : ℕ) (from : 1 ≤ n) (to : n ≤ 4068) (c : Noise) (r : NoiseRanged c) where
-  leaps : Leaps (shifterClock n (c .mode)) (shifterGives (noiseAmount c)) (noiseStill (noiseAmount c) n) (shifterTurned n (c .mode)) ShifterRanged
+module _ (n : ℕ) (from : 1 ≤ n) {top : ℕ} (to : n ≤ top) (c : Noise) (r : NoiseRanged top c) where
+  leaps : Leaps (shifterClock n (c .mode)) (shifterGives (noiseAmount c)) (noiseStill (noiseAmount c) n) (shifterTurned n (c .mode)) (ShifterRanged top)
   leaps =
       record {
         keeps = shifter-clock-kept n (c .mode) from to;

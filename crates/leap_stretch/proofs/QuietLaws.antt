@@ -57,7 +57,7 @@ quiet-leaps s q =
     let b = far _ (square-still true (s .square2) (q .square2) _ _) in
     let t = far _ (triangle-still (s .triangle) (q .triangle) _) in
     let n = far _ (noise-still (s .noise) (q .noise) _ _) in
-    let d = far _ (idle-forever (dmcPeriod (s .dmc .registers .index)) (s .dmc) i) in
+    let d = far _ (idle-forever (dmcPeriod (s .pal) (s .dmc .registers .index)) (s .dmc) i) in
     sooner-past _ _ _ (sooner-past _ _ _ (sooner-past _ _ _ a b) t) (sooner-past _ _ _ n d)
 
 gate-shut : (t : Triangle) → t .length .count ≡ 0 → triangleGate t ≡ 0

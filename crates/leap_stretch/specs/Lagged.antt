@@ -50,8 +50,8 @@ lagsOf s =
     lagsAt (squareLag (dutyRow (s .square1 .duty)) (squareAmount false (s .square1)) (beatOf (s .square1 .sequencer)) 0)
     (squareLag (dutyRow (s .square2 .duty)) (squareAmount true (s .square2)) (beatOf (s .square2 .sequencer)) 0)
     (triangleLag (triangleGate (s .triangle)) (triangleBeatOf (s .triangle .sequencer)) 0)
-    (noiseLag (noisePeriod (s .noise .index)) (s .noise .mode) (noiseAmount (s .noise)) (s .noise .shifter) 0)
-    (dmcLag (dmcPeriod (s .dmc .registers .index)) (s .dmc) 0)
+    (noiseLag (noisePeriod (s .pal) (s .noise .index)) (s .noise .mode) (noiseAmount (s .noise)) (s .noise .shifter) 0)
+    (dmcLag (dmcPeriod (s .pal) (s .dmc .registers .index)) (s .dmc) 0)
     0
 
 -- an event at clock e: squares and triangle are brought up to it where one of them is due, the others are as they are given

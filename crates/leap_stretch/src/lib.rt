@@ -67,10 +67,10 @@ pub fn lags_of(s: State) -> Lags
     let on = leap_triangle::gate(s.triangle);
     let beat3 = leap_triangle::beat_of(s.triangle.sequencer);
     let t = TriangleLag::new(on, beat3);
-    let noise_n = chip::noise_period(s.noise.index);
+    let noise_n = chip::tables::noise_period(s.pal, s.noise.index);
     let amount = s.noise.amount();
     let n = NoiseLag::new(noise_n, s.noise.mode, amount, s.noise.shifter, 0);
-    let dmc_n = chip::dmc_period(s.dmc.registers.index);
+    let dmc_n = chip::tables::dmc_period(s.pal, s.dmc.registers.index);
     let d = DmcLag::new(dmc_n, s.dmc, 0);
     lags_at(a, b, t, n, d, 0)
 }
@@ -142,6 +142,7 @@ fn state_with(
         noise: noise,
         dmc: d,
         frame: f,
+        pal: s.pal,
     }
 }
 
