@@ -85,6 +85,7 @@ fn opened(l: Line, at: usize, next: usize) -> Step
 {
     match l {
         Line::Header => Step::Plain(Part::Refused(14, at)),
+        Line::Machine => Step::Plain(Part::Refused(14, at)),
         Line::One(a) => Step::Plain(Part::Acts(next, single(a))),
         Line::Loop(n) => Step::Open(n, next),
         Line::Done => Step::Plain(Part::Close(at, next)),

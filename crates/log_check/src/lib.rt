@@ -4,6 +4,7 @@ use log_judge::Block;
 use log_judge::Checked;
 use log_judge::Reading;
 use log_judge::Totals;
+use log_read::is_pal;
 use log_read::number;
 use log_read::place;
 use log_read::read;
@@ -20,19 +21,21 @@ fn refusal(number: u8, place: usize) -> Checked
     Checked {
         number,
         place,
+        pal: false,
         clocks: 0,
         turns: 0,
         items: 0,
     }
 }
 
-// A log with these totals passes.
-fn passed(t: Totals) -> Checked
-    ensures { λ r. ⌜ r ≡ totalled t ⌝ }
+// A log for a machine with these totals passes.
+fn passed(pal: bool, t: Totals) -> Checked
+    ensures { λ r. ⌜ r ≡ totalled pal t ⌝ }
 {
     Checked {
         number: 0,
         place: 0,
+        pal,
         clocks: t.clocks,
         turns: t.turns,
         items: t.items,
@@ -40,8 +43,8 @@ fn passed(t: Totals) -> Checked
 }
 
 // 9, then 10, of a log whose `stop` stands at a place with a number.
-fn weighed(t: Totals, place: usize, n: u64) -> Checked
-    ensures { λ r. ⌜ r ≡ limited t place n ⌝ }
+fn weighed(pal: bool, t: Totals, place: usize, n: u64) -> Checked
+    ensures { λ r. ⌜ r ≡ limited pal t place n ⌝ }
 {
     if 2000000000 < t.clocks {
         return refusal(9, place);
@@ -50,14 +53,14 @@ fn weighed(t: Totals, place: usize, n: u64) -> Checked
         return refusal(9, place);
     }
     if n == t.clocks {
-        return passed(t);
+        return passed(pal, t);
     }
     refusal(10, place)
 }
 
-// A log whose lines came to a block: nothing may stand behind `stop`.
-fn closed(length: usize, b: Block) -> Checked
-    ensures { λ r. ⌜ r ≡ closing length b ⌝ }
+// A log for a machine whose lines came to a block: nothing may stand behind `stop`.
+fn closed(pal: bool, length: usize, b: Block) -> Checked
+    ensures { λ r. ⌜ r ≡ closing pal length b ⌝ }
 {
     match b {
         Block::Closed(_, next, _) => refusal(18, next),
@@ -65,14 +68,14 @@ fn closed(length: usize, b: Block) -> Checked
             if next < length {
                 refusal(19, next)
             } else {
-                weighed(t, place, n as u64)
+                weighed(pal, t, place, n as u64)
             }
         }
         Block::Refused(number, place) => refusal(number, place),
     }
 }
 
-// Whether a log passes, and its totals; or the first thing that is wrong with it.
+// Whether a log passes, its machine and its totals; or the first thing that is wrong with it.
 pub fn check(log: &[u8]) -> Checked
     ensures { λ r. ⌜ r ≡ checkOf (now (log .entry)) ⌝ }
 {
@@ -80,5 +83,6 @@ pub fn check(log: &[u8]) -> Checked
     let Reading::Item(_, _) = r else {
         return refusal(number(r), place(r));
     };
-    closed(log.len(), read_block(log, start(log), 0))
+    let pal = is_pal(log);
+    closed(pal, log.len(), read_block(log, start(log), 0))
 }

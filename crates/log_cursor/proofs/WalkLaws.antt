@@ -3,7 +3,7 @@ use mathlib.Core.Path.{_≡_, refl, ap, sym, _∙_, ap₂}
 use mathlib.Core.List.{List, [], _∷_, _++_, append-assoc, append-nil}
 use Prim.Native.Nat.{ℕ, zero, suc, _+_, _-_, _*_, _≤_, _<_}
 use native.Mathlib.Numerals.{add-one, sub-one}
-use native.Mathlib.Nat.{suc-mul, zero-mul, mul-le-mul, mul-left-comm}
+use native.Mathlib.Nat.{suc-mul, zero-mul, mul-add, mul-le-mul, mul-left-comm}
 use native.Mathlib.Omega.{arith}
 use borrow.Author.Tests.{lt-ltb, eq-eqb, ne-eqb, le-leb}
 use lib.ListN.{length, take, getD, set, length-set}
@@ -12,10 +12,10 @@ use Rattle.machine.specs.Saying.{over, on, says, Gives}
 use Rattle.machine.proofs.SayingLaws.{within, by-says, by-on, by-over}
 use Rattle.log_line.specs.declared.Act.{Act}
 use Rattle.log_line.specs.declared.Line.{Line}
-use Rattle.log_line.specs.declared.Line.the-variants.{Header, One, Loop, Done, Stop, Bad}
+use Rattle.log_line.specs.declared.Line.the-variants.{Header, Machine, One, Loop, Done, Stop, Bad}
 use Rattle.log_judge.specs.declared.Reading.the-variants.{Item}
 use Rattle.log_spot.proofs.Standing.{Goes, act as acts-on, opens as opened-on, closes as closes-on, ends as ends-on}
-use Rattle.log_judge.proofs.PlaceLaws.{to-depth}
+use Rattle.log_judge.proofs.PlaceLaws.{had-at, had-text, to-depth}
 use Rattle.log_judge.specs.Reading.{standing, readIn, readAt}
 use Rattle.log_judge.specs.Tree.{Tree, end, act, loop, acts, times, turns}
 use Rattle.log_judge.proofs.Derived.{Ending, closes, stops, Reads, an-act, a-loop, a-done, a-stop}
@@ -194,22 +194,22 @@ block-gives {at = at} (a-done e z) s l rest k K c h = within _ _ (omega arith) (
 block-gives {log = log} {at = at} (a-stop {p = p} {n = n} e) s l rest k K c h =
     rw (K .0) (by-over (stepOf log) _ (stop-said log c at n p s l h e) (omega arith))
 
--- lines passed, by the turns: a loop's own line is paid for by its first turn
-few : (n a b : ℕ) → 0 < n → a ≤ 2 * b → 1 + n * (1 + a) ≤ 2 * (n * (1 + b))
-few zero a b z h = absurd (omega arith)
-few (suc m) a b z h =
-    let i = mul-le-mul {n₁ = m} {m₁ = 1 + a} {n₂ = m} {m₂ = 2 * (1 + b)} (omega arith) (omega arith) in
-    let j = mul-left-comm m 2 (1 + b) in
-    let x = suc-mul m (1 + a) in
-    let y = suc-mul m (1 + b) in
+-- lines passed, by the turns: a loop's own line is paid for by its two turns or more
+few : (n a b : ℕ) → 2 ≤ n → 2 * a ≤ 3 * b → 2 * (1 + n * (1 + a)) ≤ 3 * (n * (1 + b))
+few n a b z h =
+    let i = mul-le-mul {n₁ = n} {m₁ = 2 * (1 + a)} {n₂ = n} {m₂ = 2 + 3 * b} (omega arith) (omega arith) in
+    let j = mul-left-comm n 2 (1 + a) in
+    let k = mul-add n 2 (3 * b) in
+    let l = mul-left-comm n 3 b in
+    let m = mul-add n 1 b in
     omega arith
 
-lines-turns : {log : List ℕ} {at d : ℕ} {t : Tree} {e : Ending} → Reads log at d t e → lines t ≤ 2 * turns t
+lines-turns : {log : List ℕ} {at d : ℕ} {t : Tree} {e : Ending} → Reads log at d t e → 2 * lines t ≤ 3 * turns t
 unfolding lines turns
 lines-turns (an-act e r) = let i = lines-turns r in omega arith
-lines-turns (a-loop {n = n} {b = b} e z low r r′) =
+lines-turns {log} {at} (a-loop {n = n} {p = p} {b = b} e z low r r′) =
     let j = lines-turns r′ in
-    let i = few n (lines b) (turns b) z (lines-turns r) in
+    let i = few n (lines b) (turns b) (had-text (had-at log at (Loop n) p e) .1 .0) (lines-turns r) in
     omega arith
 lines-turns (a-done e z) = omega arith
 lines-turns (a-stop e) = omega arith
@@ -221,10 +221,32 @@ header-said : (log : List ℕ) (p : ℕ) → readAt log 0 ≡ Item Header p → 
 unfolding followed readAt standing
 header-said log p e = step-in log beginning 0 0 [] [] begin-at Header p e
 
--- the beginning gives the whole list and then the end: at most two steps a turn, and one each for the first line and for `stop`
-pub begin-gives : (log : List ℕ) (t : Tree) (p q r n : ℕ) → readAt log 0 ≡ Item Header p → Reads log p 0 t (stops q r n)
-    → Gives (stepOf log) beginning (acts t) (2 * turns t + 2)
-begin-gives log t p q r n e h =
-    let i = lines-turns h in
-    let g = rw append-nil at (block-gives h [] [] [] 1 (refl, omega arith) (passed beginning 0 p) (pass-at log beginning 0 0 [] [] begin-at p)) in
-    by-on (stepOf log) (2 * turns t + 2) (header-said log p e) g (omega arith)
+-- behind `log=1`
+abbrev headed : Cursor
+headed = passed beginning 0 6
+
+headed-at : At headed 6 0 [] []
+headed-at = record { place = refl; depth = refl; low = omega arith; starts = refl; left = refl; room = refl; space = refl }
+
+machine-said : (log : List ℕ) (p : ℕ) → readIn (standing 6 0) log 6 ≡ Item Machine p → stepOf log headed ≡ go on (passed headed 0 p)
+unfolding followed
+machine-said log p e = step-in log headed 6 0 [] [] headed-at Machine p e
+
+-- behind the head of a log, the list and then the end
+turns-give : (log : List ℕ) (t : Tree) (c : Cursor) (p q r n : ℕ) → At c p 0 [] [] → Reads log p 0 t (stops q r n) → Gives (stepOf log) c (acts t) (lines t + 1)
+turns-give log t c p q r n a h = rw append-nil at (block-gives h [] [] [] 1 (refl, omega arith) c a)
+
+-- the beginning gives the whole list and then the end: at most three steps for two turns, and one each for `log=1`, `machine=pal` and `stop`
+
+module _ (log : List ℕ) (t : Tree) (p q r n : ℕ) (e : readAt log 0 ≡ Item Header 6) (h : Reads log p 0 t (stops q r n)) (few-turns : turns t ≤ 1000000) where
+  pub begin-ntsc : p ≡ 6 → Gives (stepOf log) beginning (acts t) 2000002
+  begin-ntsc z =
+      let i = lines-turns h in
+      by-on (stepOf log) 2000002 (header-said log 6 e) (turns-give log t headed p q r n (rw z headed-at) h) (omega arith)
+
+  pub begin-pal : readIn (standing 6 0) log 6 ≡ Item Machine p → Gives (stepOf log) beginning (acts t) 2000002
+  begin-pal m =
+      let i = lines-turns h in
+      by-on (stepOf log) 2000002 (header-said log 6 e)
+      (by-on (stepOf log) (lines t + 2) (machine-said log p m) (turns-give log t (passed headed 0 p) p q r n (pass-at log headed 6 0 [] [] headed-at p) h) (omega arith))
+      (omega arith)

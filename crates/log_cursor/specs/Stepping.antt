@@ -6,7 +6,7 @@ use lib.Dec.{eqb, leb, ltb}
 use Rattle.arith.specs.Pick.{pick}
 use Rattle.log_line.specs.declared.Act.{Act}
 use Rattle.log_line.specs.declared.Line.{Line}
-use Rattle.log_line.specs.declared.Line.the-variants.{Header, One, Loop, Done, Stop, Bad}
+use Rattle.log_line.specs.declared.Line.the-variants.{Header, Machine, One, Loop, Done, Stop, Bad}
 use Rattle.log_judge.specs.declared.Reading.{Reading}
 use Rattle.log_judge.specs.declared.Reading.the-variants.{Item, Refused}
 use Rattle.log_judge.specs.Reading.{standing, readIn}
@@ -79,6 +79,7 @@ turned c d p n = pick (eqb n 0) (go on (passed c (d - 1) p)) (go on (again c d n
 -- that is open, and stops where none is
 unfoldable pub followed : Cursor → ℕ → ℕ → Line → Go
 followed c d p Header = go on (passed c d p)
+followed c d p Machine = go on (passed c d p)
 followed c d p (One a) = go (says a) (passed c d p)
 followed c d p (Loop n) = pick (ltb d 8) (go on (entered c d p n)) (go (refused 7 (c .at)) c)
 followed c d p Done = pick (eqb d 0) (go (refused 8 (c .at)) c) (turned c d p (getD (c .left) (d - 1) 0))

@@ -189,6 +189,10 @@ fn follow(c: Cursor, d: usize, next: usize, l: Line) -> Stepped
             found: Found::Moved,
             cursor: pass(c, d, next),
         },
+        Line::Machine => Stepped {
+            found: Found::Moved,
+            cursor: pass(c, d, next),
+        },
         Line::One(a) => Stepped {
             found: Found::Act(a),
             cursor: pass(c, d, next),

@@ -1,7 +1,7 @@
 -- What an import with number 0 is, and what does not matter. Assumes nothing.
 use Prim.Native.Nat.{ℕ, _+_, _≤_}
 use mathlib.Core.Path.{_≡_, refl, sym, ap, _∙_}
-use mathlib.Core.Bool.{true}
+use mathlib.Core.Bool.{true, false}
 use mathlib.Core.List.{List, [], _∷_, _++_}
 use native.Mathlib.Nat.{zero-add}
 use native.Mathlib.Omega.{arith}
@@ -103,9 +103,9 @@ tree-stamped : (l : List Said) → stamped 0 (acts (treeFor l)) ≡ writesFrom 0
 unfolding treeFor
 tree-stamped l = stamped-from l 0 0 (omega arith)
 
-text-is : (l : List Said) → textFor l ≡ logText (treeFor l) (clocks (treeFor l))
+text-is : (l : List Said) → textFor l ≡ logText false (treeFor l) (clocks (treeFor l))
 unfolding textFor
-text-is l = ap (logText (treeFor l)) (sym (tree-clocks l))
+text-is l = ap (logText false (treeFor l)) (sym (tree-clocks l))
 
 clocks-are : (l : List Said) → clocksFor l ≡ stood (samplesIn l)
 unfolding clocksFor
@@ -124,12 +124,13 @@ imported-stands s room b done =
     let t = treeFor l in
     let tc = tree-clocks l in
     let ti = text-is l in
-    let p = printed t (tree-within l (said-sound s b l (i .is))) (omega (arith, w .clocks)) (w .turns) (omega (arith, w .short, ap length ti)) in
-    let same : textOf (streamOf s) ≡ logText t (clocks t) = ap textOf (i .is) ∙ (text-ended l ∙ ti) in
+    let p = printed false t (tree-within l (said-sound s b l (i .is))) (omega (arith, w .clocks)) (w .turns) (omega (arith, w .short, ap length ti)) in
+    let same : textOf (streamOf s) ≡ logText false t (clocks t) = ap textOf (i .is) ∙ (text-ended l ∙ ti) in
     rw same (record {
       said = l;
       is = i .is;
       passes = ap (λ (c : _). c .number) (p .0);
+      machine = p .2;
       accesses = ap (λ (u : Tree). stamped 0 (acts u)) (p .1) ∙ tree-stamped l;
       end = ap clocks (p .1) ∙ (tc ∙ clocks-are l);
     })

@@ -1,6 +1,7 @@
 -- The log that a stream is brought in as, and the answer.
 use Prim.Native.Nat.{ℕ, _+_, _-_, _*_, _/_, _%_}
 use mathlib.Core.List.{List, [], _∷_}
+use mathlib.Core.Bool.{false}
 use lib.ListN.{length}
 use lib.Seq.{sets}
 use lib.Dec.{ltb, eqb}
@@ -39,7 +40,7 @@ samplesIn [] = 0
 samplesIn (Wait n ∷ l) = n + samplesIn l
 samplesIn (Write r v ∷ l) = samplesIn l
 
--- the tree of a stream that ends, its clocks in all, and its log
+-- the tree of a stream that ends, its clocks in all, and its log: "It writes an NTSC log"
 unfoldable pub treeFor : List Said → Tree
 treeFor l = actsFrom 0 0 l
 
@@ -47,7 +48,7 @@ unfoldable pub clocksFor : List Said → ℕ
 clocksFor l = stood (samplesIn l)
 
 unfoldable pub textFor : List Said → List ℕ
-textFor l = logText (treeFor l) (clocksFor l)
+textFor l = logText false (treeFor l) (clocksFor l)
 
 abbrev pub refusal : ℕ → ℕ → Imported
 refusal k p = record { number = k; place = p; length = 0 }

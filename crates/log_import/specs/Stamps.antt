@@ -2,12 +2,14 @@
 use Prim.Native.Nat.{ℕ, _+_}
 use mathlib.Core.Path.{_≡_}
 use mathlib.Core.List.{List, [], _∷_}
+use mathlib.Core.Bool.{false}
 use Rattle.bus.specs.declared.Access.{Access as Accessed}
 use Rattle.bus.specs.declared.Access.the-variants.{Write as Written}
 use Rattle.log_line.specs.declared.Act.{Act}
 use Rattle.log_line.specs.declared.Act.the-variants.{Wait as Waited, Access}
 use Rattle.log_import.specs.declared.Said.{Said}
 use Rattle.log_import.specs.declared.Said.the-variants.{Wait, Write}
+use Rattle.log_judge.specs.Head.{machineOf}
 use Rattle.log_judge.specs.Tree.{acts, clocks}
 use Rattle.log_judge.specs.Whole.{treeOf, checkOf}
 use Rattle.log_import.specs.Stream.{ended, streamOf}
@@ -29,10 +31,11 @@ writesFrom s [] = []
 writesFrom s (Wait n ∷ l) = writesFrom (s + n) l
 writesFrom s (Write r v ∷ l) = at (stood s) (Written r v) ∷ writesFrom s l
 
--- "a log .. that passes our check and stands for exactly those accesses at those clocks"
+-- "It writes an NTSC log .. that passes our check and stands for exactly those accesses at those clocks"
 pub record Stands (stream log : List ℕ) : Type 0 where
   pub said : List Said
   pub is : streamOf stream ≡ ended said
   pub passes : checkOf log .number ≡ 0
+  pub machine : machineOf log ≡ false
   pub accesses : stamped 0 (acts (treeOf log)) ≡ writesFrom 0 said
   pub end : clocks (treeOf log) ≡ stood (samplesIn said)

@@ -15,14 +15,15 @@ use Rattle.log_line.specs.Said.{lineOf}
 use Rattle.log_judge.specs.declared.Checked.{Checked}
 use Rattle.log_judge.specs.declared.Reading.{Reading}
 use Rattle.log_judge.specs.declared.Reading.the-variants.{Item, Refused}
-use Rattle.log_judge.specs.Lines.{linesOf, bytesAt, nextLine, startOf}
+use Rattle.log_judge.specs.Lines.{linesOf, bytesAt, nextLine}
+use Rattle.log_judge.specs.Head.{machineOf, startOf}
 use Rattle.log_judge.specs.Reading.{taken, readIn, readAt}
-use Rattle.log_judge.specs.Judge.{right, wrong, first, among, over, placed, verdict, behind, ending, unless, judge, judged}
+use Rattle.log_judge.specs.Judge.{right, wrong, first, second, over, placed, verdict, leaves, behind, ending, unless, judge, judged}
 use Rattle.log_judge.specs.Tree.{Tree, end, act, loop, acts, clocks, turns}
 use Rattle.log_judge.specs.Whole.{grow, blocks, innermost, treeOf, Stopping, stopHere, stopFrom, stopOf, refusal, passed, heavy, weighed, unlessWrong, checkOf}
 use Rattle.log_judge.specs.Block.{Got, closed, stopped, refused, readBlock, totals, answer}
 use Rattle.log_judge.specs.Closing.{totalled, limited, closing}
-use Rattle.log_judge.proofs.PlaceLaws.{Had, had-at, had-says, bytes-long, next-le, next-pos, read-some, read-long}
+use Rattle.log_judge.proofs.PlaceLaws.{Had, had-at, had-says, bytes-long, next-le, read-some, read-long}
 use Rattle.log_spot.specs.declared.Stand.{Stand as Standing}
 use Rattle.log_spot.specs.declared.Stand.the-variants.{First, Among}
 use Rattle.log_spot.specs.declared.Found.{Found}
@@ -31,7 +32,8 @@ use Rattle.log_spot.specs.Fault.{spotOf}
 use Rattle.log_spot.proofs.Standing.{first-header}
 use Rattle.log_judge.proofs.TotalLaws.{length-times}
 use Rattle.log_judge.proofs.Derived.{Ending, closes, stops, Reads, an-act, a-loop, a-done, a-stop, Derived, derived, inside-loop}
-use Rattle.log_judge.proofs.JudgeLaws.{linesFrom, judgeAt, lines-at, judge-at, judge-none, after, bridge}
+use Rattle.log_judge.proofs.JudgeLaws.{linesFrom, judgeAt, lines-at, judge-at, judge-none, after, bridge, bridge-second}
+use Rattle.log_judge.proofs.HeadLaws.{pal-long, had-second, second-next, first-next, ntsc-second, ntsc-start, pal-start}
 
 -- the lines from a place on stand for what is read there
 
@@ -79,15 +81,15 @@ acts-le (loop n b t) =
     let m = mul-le-mul {n₁ = n} {m₁ = length (acts b)} {n₂ = n} {m₂ = 1 + turns b} (omega arith) (omega arith) in
     rw (length-append, length-times) (omega arith)
 
-checked≡ : {c u a c′ u′ a′ : ℕ} → c ≡ c′ → u ≡ u′ → a ≡ a′
-    → _≡_ {A = Checked} (record { number = 0; place = 0; clocks = c; turns = u; items = a }) (record { number = 0; place = 0; clocks = c′; turns = u′; items = a′ })
-checked≡ p q r i = record { number = 0; place = 0; clocks = p i; turns = q i; items = r i }
+checked≡ : (m : Bool) {c u a c′ u′ a′ : ℕ} → c ≡ c′ → u ≡ u′ → a ≡ a′
+    → _≡_ {A = Checked} (record { number = 0; place = 0; pal = m; clocks = c; turns = u; items = a }) (record { number = 0; place = 0; pal = m; clocks = c′; turns = u′; items = a′ })
+checked≡ m p q r i = record { number = 0; place = 0; pal = m; clocks = p i; turns = q i; items = r i }
 
-limited-is : (t : Tree) (p n : ℕ) → limited (totals t) p n ≡ weighed t (record { place = p; number = n })
+limited-is : (m : Bool) (t : Tree) (p n : ℕ) → limited m (totals t) p n ≡ weighed m t (record { place = p; number = n })
 unfolding totals weighed heavy
-limited-is t p n = go (ltb 2000000000 (clocks t)) refl (ltb 1000000 (turns t)) refl
+limited-is pal t p n = go (ltb 2000000000 (clocks t)) refl (ltb 1000000 (turns t)) refl
   where
-    go : (a : Bool) → ltb 2000000000 (clocks t) ≡ a → (b : Bool) → ltb 1000000 (turns t) ≡ b → limited (totals t) p n ≡ weighed t (record { place = p; number = n })
+    go : (a : Bool) → ltb 2000000000 (clocks t) ≡ a → (b : Bool) → ltb 1000000 (turns t) ≡ b → limited pal (totals t) p n ≡ weighed pal t (record { place = p; number = n })
     go true e b f =
         let h = ltb-true 2000000000 (clocks t) e in
         rw (e, lt-ltb 2000000000 (min 2000000001 (clocks t)) (omega arith))
@@ -100,7 +102,7 @@ limited-is t p n = go (ltb 2000000000 (clocks t)) refl (ltb 1000000 (turns t)) r
         let k = ltb-false 1000000 (turns t) f in
         let m : min 2000000001 (clocks t) ≡ clocks t = omega arith in
         let i = acts-le t in
-        let done : totalled (totals t) ≡ passed t = checked≡ m (omega arith) (omega arith) in
+        let done : totalled pal (totals t) ≡ passed pal t = checked≡ pal m (omega arith) (omega arith) in
         rw (e, f, le-ltb 2000000000 (min 2000000001 (clocks t)) (omega arith), le-ltb 1000000 (min 1000001 (turns t)) (omega arith))
         (rw m (ap (λ (x : Checked). pick (eqb n (clocks t)) x (refusal 10 p)) (rw m at done)))
 
@@ -113,39 +115,78 @@ over-at log q = go (ltb q (length log)) refl
     go true e = judge-at log q over (ltb-true q (length log) e)
     go false e = judge-none log q over (ltb-false q (length log) e)
 
-closing-is : (log : List ℕ) (at : ℕ) (g : Got) → Derived log at 0 g
-    → closing (length log) (answer g) ≡ unlessWrong (after log 0 g) (weighed (innermost (blocks (linesFrom log at))) (stopFrom at (linesFrom log at)))
+closing-is : (m : Bool) (log : List ℕ) (at : ℕ) (g : Got) → Derived log at 0 g
+    → closing m (length log) (answer g) ≡ unlessWrong (after log 0 g) (weighed m (innermost (blocks (linesFrom log at))) (stopFrom at (linesFrom log at)))
 unfolding after answer unlessWrong innermost
-closing-is log at (closed t p q) r = absurd (let z = inside-loop r in omega arith)
-closing-is log at (stopped t p q n) r = rw (over-at log q, blocks-of r, stop-of r) (go (ltb q (length log)))
+closing-is m log at (closed t p q) r = absurd (let z = inside-loop r in omega arith)
+closing-is m log at (stopped t p q n) r = rw (over-at log q, blocks-of r, stop-of r) (go (ltb q (length log)))
   where
-    go : (b : Bool) → pick b (refusal 19 q) (limited (totals t) p n) ≡ unlessWrong (pick b (wrong 19 q) right) (weighed t (record { place = p; number = n }))
+    go : (b : Bool) → pick b (refusal 19 q) (limited m (totals t) p n) ≡ unlessWrong (pick b (wrong 19 q) right) (weighed m t (record { place = p; number = n }))
     go true = refl
-    go false = limited-is t p n
-closing-is log at (refused k p) r = refl
+    go false = limited-is m t p n
+closing-is m log at (refused k p) r = refl
+
+-- the lines behind a log's head, which begin at a place: what is found of the log, its tree and its `stop` are theirs
+pub record BehindHead (log : List ℕ) (at : ℕ) : Type 0 where
+  pub found : judged log ≡ after log 0 (readBlock log at 0)
+  pub tree : treeOf log ≡ innermost (blocks (linesFrom log at))
+  pub stop : stopOf log ≡ stopFrom at (linesFrom log at)
 
 -- the check, from what reading at 0 finds
 abbrev pub CheckedBy : List ℕ → Reading → Type 0
-CheckedBy log (Item l p) = closing (length log) (answer (readBlock log (startOf log) 0)) ≡ checkOf log
+CheckedBy log (Item l p) = closing (machineOf log) (length log) (answer (readBlock log (startOf log) 0)) ≡ checkOf log
 CheckedBy log (Refused k p) = refusal k p ≡ checkOf log
 
 module _ (log : List ℕ) (short : length log ≤ 60000) (some : 0 < length log) where
-  pub check-short : checkOf log ≡ unlessWrong (judged log) (weighed (treeOf log) (stopOf log))
+  pub check-short : checkOf log ≡ unlessWrong (judged log) (weighed (machineOf log) (treeOf log) (stopOf log))
   unfolding checkOf
   check-short = rw (le-ltb 60000 (length log) short)
 
-  pub judged-first : judged log ≡ unless (placed 0 (spotOf First (bytesAt log 0))) (judgeAt log (among 0) (nextLine log 0))
+  pub judged-first : judged log ≡ unless (placed 0 (spotOf First (bytesAt log 0))) (judgeAt log second (nextLine log 0))
   unfolding judged verdict behind
   judged-first = judge-at log 0 first some
 
-  headed : spotOf First (bytesAt log 0) ≡ Right Header → closing (length log) (answer (readBlock log (startOf log) 0)) ≡ checkOf log
-  unfolding treeOf stopOf grow stopHere startOf placed unless
-  headed e =
-      let h : Had First log 0 Header (nextLine log 0) = record { short = short; inside = some; found = e; on = refl } in
-      let next = nextLine log 0 in
-      let z : 0 < next = next-pos log 0 some in
-      let f : judged log ≡ after log 0 (readBlock log next 0) = judged-first ∙ rw e (bridge log next 0 short z (next-le log 0 (omega arith))) in
-      closing-is log next (readBlock log next 0) (derived log next 0) ∙ sym (check-short ∙ rw (f, blocks-at h, stop-at h) refl)
+  module _ (e : spotOf First (bytesAt log 0) ≡ Right Header) where
+    at-second : judged log ≡ judgeAt log second 6
+    unfolding placed unless
+    at-second = judged-first ∙ rw (e, first-next log e)
+
+    had-first : Had First log 0 Header 6
+    had-first = record { short = short; inside = some; found = e; on = sym (first-next log e) }
+
+    pal-head : machineOf log ≡ true → BehindHead log 18
+    unfolding treeOf stopOf grow stopHere placed unless verdict behind leaves
+    pal-head m =
+        let h = had-second log short m in
+        let long : 18 ≤ length log = pal-long log m in
+        record {
+          found = at-second ∙ (judge-at log 6 second (h .inside) ∙ rw (h .found, had-says h, second-next log m) (bridge log 18 0 short (omega arith) long));
+          tree = ap innermost (blocks-at had-first ∙ blocks-at h);
+          stop = stop-at had-first ∙ stop-at h;
+        }
+
+    ntsc-head : machineOf log ≡ false → BehindHead log 6
+    unfolding treeOf stopOf grow stopHere
+    ntsc-head m =
+        let long : 6 ≤ length log = rw (first-next log e) at (next-le log 0 (omega arith)) in
+        record {
+          found = at-second ∙ bridge-second log short long (ntsc-second log e m);
+          tree = ap innermost (blocks-at had-first);
+          stop = stop-at had-first;
+        }
+
+    pub behind-head : BehindHead log (startOf log)
+    behind-head = go (machineOf log) refl
+      where
+        go : (m : Bool) → machineOf log ≡ m → BehindHead log (startOf log)
+        go true m = rw (pal-start log e m) (pal-head m)
+        go false m = rw (ntsc-start log e m) (ntsc-head m)
+
+    headed : closing (machineOf log) (length log) (answer (readBlock log (startOf log) 0)) ≡ checkOf log
+    headed =
+        let h = behind-head in
+        closing-is (machineOf log) log (startOf log) (readBlock log (startOf log) 0) (derived log (startOf log) 0)
+        ∙ sym (check-short ∙ rw (h .found, h .tree, h .stop) refl)
 
   first-by : (f : Found) → spotOf First (bytesAt log 0) ≡ f → CheckedBy log (taken 0 (nextLine log 0) f)
   unfolding placed unless unlessWrong

@@ -10,16 +10,16 @@ use lib.Dec.{eqb, ltb}
 use Rattle.arith.specs.Pick.{pick}
 use Rattle.log_line.specs.declared.Act.{Act}
 use Rattle.log_line.specs.declared.Line.{Line}
-use Rattle.log_line.specs.declared.Line.the-variants.{Header, One, Loop, Done, Stop, Bad}
+use Rattle.log_line.specs.declared.Line.the-variants.{Header, Machine, One, Loop, Done, Stop, Bad}
 use Rattle.log_judge.specs.declared.Reading.{Reading}
 use Rattle.log_judge.specs.declared.Reading.the-variants.{Item}
 use Rattle.log_judge.specs.Reading.{standing, readIn, readAt}
 use Rattle.log_spot.specs.declared.Stand.the-variants.{Among}
-use Rattle.log_spot.proofs.Standing.{Goes, act as acts-on, opens as opened-on, closes as closes-on, ends as ends-on, goes}
+use Rattle.log_spot.proofs.Standing.{Goes, act as acts-on, opens as opened-on, closes as closes-on, ends as ends-on}
 use Rattle.log_judge.specs.Lines.{bytesAt}
 use Rattle.log_judge.specs.Tree.{Tree, end, act, loop}
 use Rattle.log_judge.specs.Block.{Got, closed, stopped, refused, begun, begunBy, readBegun, looped, piece, before, onward, readBlock, readPart}
-use Rattle.log_judge.proofs.PlaceLaws.{had, had-at, had-text, from-depth, to-depth, Stands, head, inner, stands}
+use Rattle.log_judge.proofs.PlaceLaws.{had, had-at, had-text, from-depth, to-depth, Stands, head, tells, inner, stands}
 use Rattle.log_judge.proofs.Descent.{unrolled, begun-on, got-behind, BegunBehind, Behind}
 
 -- how a block ends: the place of its `done` and the place behind it; or the place of its `stop`, the place behind it and its number
@@ -68,6 +68,7 @@ module _ (log : List ℕ) (at d : ℕ) where
       → Derived log at d (onward (λ p. readBlock log p d) (piece (readBlock log) d (begun at p l)))
   unfolding begun piece onward
   line-on Header p l (head z) b rec = tt
+  line-on Machine p l (tells z) b rec = tt
   line-on (One a) p l (inner z acts-on) b rec = act-on a p (readBlock log p d) l (rec p d (b .0) (b .1))
   line-on (Loop n) p l (inner z (opened-on k)) b rec =
       body-on n p (readBlock log p (d + 1)) l k (b .0) (rec p (d + 1) (b .0) (b .1)) (got-behind log p (d + 1)) (λ p i j. rec p d i j)

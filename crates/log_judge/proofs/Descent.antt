@@ -24,10 +24,10 @@ use Rattle.log_judge.specs.declared.Block.the-variants.{Closed, Stopped}
 use Rattle.log_judge.specs.Lines.{bytesAt}
 use Rattle.log_judge.specs.Reading.{standing, readIn}
 use Rattle.log_spot.specs.declared.Stand.the-variants.{Among}
-use Rattle.log_spot.proofs.Standing.{Goes, act as acts-on, opens as opened-on, closes as closes-on, ends as ends-on, goes}
+use Rattle.log_spot.proofs.Standing.{Goes, act as acts-on, opens as opened-on, closes as closes-on, ends as ends-on}
 use Rattle.log_judge.specs.Tree.{Tree, act, loop, acts, actClocks, clocks, turns}
 use Rattle.log_judge.specs.Block.{Got, closed, stopped, refused, Piece, one, many, shut, halt, bad, Begun, whole, opens, begun, begunBy, readBegun, looped, piece, before, onward, blockIn, readBlock, readPart, cut, noTotals, sumOf, Small, totals, answer, partAnswer, stepAnswer, partEnd, SmallBlock, loopPart}
-use Rattle.log_judge.proofs.PlaceLaws.{HadIn, had-in, Stands, head, inner, stands, next-pos, next-le}
+use Rattle.log_judge.proofs.PlaceLaws.{HadIn, had-in, Stands, head, tells, inner, stands, next-pos, next-le}
 use Rattle.log_judge.proofs.TotalLaws.{sum-sum, none-sum, small-sum, small-cut, act-sum, loop-sum, times-totals}
 
 -- where a block ends, and that the count of lines does not matter
@@ -59,6 +59,7 @@ looped-behind at next most n (refused k p) h r = tt
 begun-behind : (at next d most : ℕ) (l : Line) → at < next → next ≤ most → Stands at d l → BegunBehind at most d (begun at next l)
 unfolding begun
 begun-behind at next d most l h k (head z) = tt
+begun-behind at next d most l h k (tells z) = tt
 begun-behind at next d most l h k (inner z acts-on) = (h, k)
 begun-behind at next d most l h k (inner z (opened-on e)) = (h, k, e)
 begun-behind at next d most l h k (inner z (closes-on e)) = (omega arith, h, k)

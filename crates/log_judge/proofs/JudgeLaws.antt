@@ -10,11 +10,11 @@ use lib.Seq.{drop-drop}
 use lib.Dec.{eqb, ltb}
 use Rattle.arith.specs.Pick.{pick}
 use Rattle.log_line.specs.declared.Line.{Line}
-use Rattle.log_line.specs.declared.Line.the-variants.{Header, One, Loop, Done, Stop, Bad}
+use Rattle.log_line.specs.declared.Line.the-variants.{Header, Machine, One, Loop, Done, Stop, Bad}
 use Rattle.log_line.specs.Said.{lineOf}
 use Rattle.log_judge.specs.Lines.{onto, linesOf, lineLen, bytesAt, nextLine}
 use Rattle.log_judge.specs.Reading.{standing, readIn, taken}
-use Rattle.log_judge.specs.Judge.{Verdict, right, wrong, Stand, among, over, placed, verdict, leaves, behind, ending, unless, judge}
+use Rattle.log_judge.specs.Judge.{Verdict, right, wrong, Stand, second, among, over, placed, verdict, leaves, behind, ending, unless, judge}
 use Rattle.log_judge.specs.Tree.{Tree, act, loop}
 use Rattle.log_judge.specs.Block.{whole, bad, Got, closed, stopped, refused, Begun, begun, begunBy, readBegun, looped, piece, before, onward, readBlock, readPart}
 use Rattle.log_judge.proofs.PlaceLaws.{bytes-long, read-some, read-none, standing-on}
@@ -23,7 +23,7 @@ use Rattle.log_spot.specs.declared.Stand.the-variants.{Among}
 use Rattle.log_spot.specs.declared.Found.{Found}
 use Rattle.log_spot.specs.declared.Found.the-variants.{Right, Wrong}
 use Rattle.log_spot.specs.Fault.{spotOf}
-use Rattle.log_spot.proofs.Standing.{Goes, act as acts-on, opens as opened-on, closes as closes-on, ends as ends-on, goes, told}
+use Rattle.log_spot.proofs.Standing.{Goes, act as acts-on, opens as opened-on, closes as closes-on, ends as ends-on, Lets, pal, turn, lets, second-only, told}
 use Rattle.log_judge.proofs.Descent.{unrolled, begun-on, got-behind, BegunBehind, Behind}
 
 -- the first line of a text, and the lines behind it
@@ -107,52 +107,84 @@ module _ (log : List ℕ) (short : length log ≤ 60000) (at d : ℕ) where
   line-told Done (closes-on k) b rec = refl
   line-told (Stop n) (ends-on k) b rec = rw (eq-eqb d 0 k)
 
+-- how a line stands that begins at `at`, is the second line or isn't, and has d loops open: by the judgement
+record Stood (log : List ℕ) (at d : ℕ) (m : Bool) (s : Stand) : Type 0 where
+  six : eqb at 6 ≡ m
+  now : verdict s at (bytesAt log at) ≡ placed at (spotOf (Among m d) (bytesAt log at))
+  then : behind s (bytesAt log at) ≡ leaves d (lineOf (bytesAt log at))
+  last : ending s at ≡ wrong 18 at
+  turns : spotOf (Among m d) (bytesAt log at) ≡ Right Machine → ⊥
+
+among-stood : (log : List ℕ) (at d : ℕ) → 6 < at → Stood log at d false (among d)
+unfolding verdict behind ending
+among-stood log at d h = record { six = ne-eqb at 6 (λ q. omega arith); now = refl; then = refl; last = refl; turns = second-only d (bytesAt log at) }
+
+second-stood : (log : List ℕ) → (spotOf (Among true 0) (bytesAt log 6) ≡ Right Machine → ⊥) → Stood log 6 0 true second
+unfolding verdict behind ending
+second-stood log h = record { six = refl; now = refl; then = refl; last = refl; turns = h }
+
+module _ (log : List ℕ) (short : length log ≤ 60000) (at d : ℕ) (m : Bool) (s : Stand) (stood : Stood log at d m s) (z : 0 < at) where
+  line-goes : (l : Line) → spotOf (Among m d) (bytesAt log at) ≡ Right l → Goes d l
+  line-goes l e = go l (lets m d (bytesAt log at) l e) e
+    where
+      go : (l : Line) → Lets m d l → spotOf (Among m d) (bytesAt log at) ≡ Right l → Goes d l
+      go l (pal h) e = absurd (stood .turns e)
+      go l (turn g) e = g
+
   -- what is found of the line at `at`
-  found-told : (f : Found) → spotOf (Among d) (bytesAt log at) ≡ f → BegunBehind at (length log) d (begunBy at (taken at (nextLine log at) f))
+  found-told : (f : Found) → spotOf (Among m d) (bytesAt log at) ≡ f → BegunBehind at (length log) d (begunBy at (taken at (nextLine log at) f))
       → ((p e : ℕ) → at < p → p ≤ length log → judgeAt log (among e) p ≡ after log e (readBlock log p e))
-      → unless (placed at f) (judgeAt log (leaves d (lineOf (bytesAt log at))) (nextLine log at)) ≡ Onward (begunBy at (taken at (nextLine log at) f))
+      → unless (placed at f) (judgeAt log (leaves d (lineOf (bytesAt log at))) (nextLine log at)) ≡ Onward log short at d (begunBy at (taken at (nextLine log at) f))
   unfolding placed unless begunBy Onward piece onward after
   found-told (Right l) e b rec =
-      rw (told (Among d) (bytesAt log at) l e .says) (line-told l (goes d (bytesAt log at) l e) b rec)
+      rw (told (Among m d) (bytesAt log at) l e .says) (line-told log short at d l (line-goes l e) b rec)
   found-told (Wrong k i) e b rec = wrong-told k (at + i)
     where
-      wrong-told : (k p : ℕ) → wrong k p ≡ Onward (whole (bad k p))
+      wrong-told : (k p : ℕ) → wrong k p ≡ Onward log short at d (whole (bad k p))
       wrong-told k p = refl
 
   -- reading at `at` begins what is found of the line there
-  begun-at : 0 < at → at < length log → readBegun log at d ≡ begunBy at (taken at (nextLine log at) (spotOf (Among d) (bytesAt log at)))
+  begun-at : at < length log → readBegun log at d ≡ begunBy at (taken at (nextLine log at) (spotOf (Among m d) (bytesAt log at)))
   unfolding readBegun
-  begun-at z h = ap (λ (st : Standing). begunBy at (readIn st log at)) (standing-on at d z) ∙ ap (begunBy at) (read-some (Among d) log at short h)
+  begun-at h =
+      ap (λ (st : Standing). begunBy at (readIn st log at)) (standing-on at d z ∙ ap (λ (b : Bool). Among b d) (stood .six))
+      ∙ ap (begunBy at) (read-some (Among m d) log at short h)
 
   -- at the log's end there is none
-  none-told : at ≤ length log → length log ≤ at → judgeAt log (among d) at ≡ Onward (readBegun log at d)
-  unfolding Onward readBegun begunBy piece onward after ending
-  none-told h w = rw (read-none (standing at d) log at short w) (judge-none log at (among d) w ∙ ap (wrong 18) (omega arith))
+  none-told : at ≤ length log → length log ≤ at → judgeAt log s at ≡ Onward log short at d (readBegun log at d)
+  unfolding Onward readBegun begunBy piece onward after
+  none-told h w = rw (read-none (standing at d) log at short w) (judge-none log at s w ∙ (stood .last ∙ ap (wrong 18) (omega arith)))
 
-  some-told : 0 < at → at < length log → ((p e : ℕ) → at < p → p ≤ length log → judgeAt log (among e) p ≡ after log e (readBlock log p e))
-      → judgeAt log (among d) at ≡ Onward (readBegun log at d)
-  unfolding verdict behind
-  some-told z w rec =
-      let s = begun-at z w in
-      rw s (judge-at log at (among d) w ∙ found-told (spotOf (Among d) (bytesAt log at)) refl (rw s at (begun-on log at d)) rec)
+  some-told : at < length log → ((p e : ℕ) → at < p → p ≤ length log → judgeAt log (among e) p ≡ after log e (readBlock log p e))
+      → judgeAt log s at ≡ Onward log short at d (readBegun log at d)
+  some-told w rec =
+      let b = begun-at w in
+      rw b (judge-at log at s w ∙ rw (stood .now, stood .then) (found-told (spotOf (Among m d) (bytesAt log at)) refl (rw b at (begun-on log at d)) rec))
 
-  at-told : 0 < at → at ≤ length log → ((p e : ℕ) → at < p → p ≤ length log → judgeAt log (among e) p ≡ after log e (readBlock log p e))
-      → judgeAt log (among d) at ≡ Onward (readBegun log at d)
-  at-told z h rec = go (ltb at (length log)) refl
+  at-told : at ≤ length log → ((p e : ℕ) → at < p → p ≤ length log → judgeAt log (among e) p ≡ after log e (readBlock log p e))
+      → judgeAt log s at ≡ Onward log short at d (readBegun log at d)
+  at-told h rec = go (ltb at (length log)) refl
     where
-      go : (b : Bool) → ltb at (length log) ≡ b → judgeAt log (among d) at ≡ Onward (readBegun log at d)
-      go true e = some-told z (ltb-true at (length log) e) rec
+      go : (b : Bool) → ltb at (length log) ≡ b → judgeAt log s at ≡ Onward log short at d (readBegun log at d)
+      go true e = some-told (ltb-true at (length log) e) rec
       go false e = none-told h (ltb-false at (length log) e)
 
-  told-step : 0 < at → at ≤ length log → ((p e : ℕ) → at < p → p ≤ length log → judgeAt log (among e) p ≡ after log e (readBlock log p e))
-      → judgeAt log (among d) at ≡ after log d (readBlock log at d)
+  told-step : at ≤ length log → ((p e : ℕ) → at < p → p ≤ length log → judgeAt log (among e) p ≡ after log e (readBlock log p e))
+      → judgeAt log s at ≡ after log d (readBlock log at d)
   unfolding readPart Onward
-  told-step z h rec = rw (unrolled log at d) (at-told z h rec)
+  told-step h rec = rw (unrolled log at d) (at-told h rec)
 
-bridge-in : (f : ℕ) (log : List ℕ) (at d : ℕ) → length log ≤ 60000 → 0 < at → at ≤ length log → length log ≤ at + f → judgeAt log (among d) at ≡ after log d (readBlock log at d)
-bridge-in zero log at d s z h k = told-step log s at d z h (λ p e i j. absurd (omega arith))
-bridge-in (suc f) log at d s z h k = told-step log s at d z h (λ p e i j. bridge-in f log p e s (omega arith) j (omega arith))
+bridge-in : (f : ℕ) (log : List ℕ) (at d : ℕ) → length log ≤ 60000 → 6 < at → at ≤ length log → length log ≤ at + f → judgeAt log (among d) at ≡ after log d (readBlock log at d)
+bridge-in zero log at d s z h k = told-step log s at d false (among d) (among-stood log at d z) (omega arith) h (λ p e i j. absurd (omega arith))
+bridge-in (suc f) log at d s z h k =
+    told-step log s at d false (among d) (among-stood log at d z) (omega arith) h (λ p e i j. bridge-in f log p e s (omega arith) j (omega arith))
 
--- the lines from a place on, judged one by one, come to what the block read there does
-pub bridge : (log : List ℕ) (at d : ℕ) → length log ≤ 60000 → 0 < at → at ≤ length log → judgeAt log (among d) at ≡ after log d (readBlock log at d)
+-- the lines from a place on behind the second line, judged one by one, come to what the block read there does
+pub bridge : (log : List ℕ) (at d : ℕ) → length log ≤ 60000 → 6 < at → at ≤ length log → judgeAt log (among d) at ≡ after log d (readBlock log at d)
 bridge log at d s z h = bridge-in (length log) log at d s z h (omega arith)
+
+-- and so do those from the second line on, where that is not `machine=pal`
+pub bridge-second : (log : List ℕ) → length log ≤ 60000 → 6 ≤ length log → (spotOf (Among true 0) (bytesAt log 6) ≡ Right Machine → ⊥)
+    → judgeAt log second 6 ≡ after log 0 (readBlock log 6 0)
+bridge-second log s h k =
+    told-step log s 6 0 true second (second-stood log k) (omega arith) h (λ p e i j. bridge log p e s i j)

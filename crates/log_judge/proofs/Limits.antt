@@ -12,18 +12,19 @@ use lib.Dec.{eqb, ltb}
 use Rattle.arith.specs.Pick.{pick, either}
 use Rattle.arith.proofs.PickLaws.{pick-both, pick-each}
 use Rattle.log_line.specs.declared.Line.{Line}
-use Rattle.log_line.specs.declared.Line.the-variants.{Header, One, Loop, Done, Stop, Bad}
+use Rattle.log_line.specs.declared.Line.the-variants.{Header, Machine, One, Loop, Done, Stop, Bad}
 use Rattle.log_line.specs.Said.{lineOf}
 use Rattle.log_line.proofs.LineLaws.{bad-number}
 use Rattle.log_judge.specs.declared.Checked.{Checked}
 use Rattle.log_judge.specs.Lines.{onto, linesOf}
+use Rattle.log_judge.specs.Head.{machineOf}
 use Rattle.log_spot.specs.declared.Stand.{Stand as Standing}
 use Rattle.log_spot.specs.declared.Stand.the-variants.{First, Among}
 use Rattle.log_spot.specs.declared.Found.{Found}
 use Rattle.log_spot.specs.declared.Found.the-variants.{Right, Wrong}
 use Rattle.log_spot.specs.Fault.{spotOf}
 use Rattle.log_spot.proofs.Standing.{bounded}
-use Rattle.log_judge.specs.Judge.{Verdict, right, wrong, Stand, first, among, over, placed, verdict, behind, ending, unless, judge, judged}
+use Rattle.log_judge.specs.Judge.{Verdict, right, wrong, Stand, first, second, among, over, placed, verdict, behind, ending, unless, judge, judged}
 use Rattle.log_judge.specs.Tree.{Tree, clocks, turns}
 use Rattle.log_judge.specs.Whole.{treeOf, Stopping, stopHere, stopFrom, stopOf, refusal, passed, heavy, weighed, unlessWrong, checkOf}
 
@@ -64,12 +65,14 @@ placed-to n at st l h (Wrong k i) e =
 verdict-to : (n at : ℕ) (s : Stand) (l : List ℕ) → at + length l ≤ n → UpTo n (verdict s at l)
 unfolding verdict
 verdict-to n at first l h = placed-to n at First l h (spotOf First l) refl
-verdict-to n at (among d) l h = placed-to n at (Among d) l h (spotOf (Among d) l) refl
+verdict-to n at second l h = placed-to n at (Among true 0) l h (spotOf (Among true 0) l) refl
+verdict-to n at (among d) l h = placed-to n at (Among false d) l h (spotOf (Among false d) l) refl
 verdict-to n at over l h = (omega arith, omega arith)
 
 ending-to : (n at : ℕ) → at ≤ n → (s : Stand) → UpTo n (ending s at)
 unfolding ending
 ending-to n at h first = (omega arith, h)
+ending-to n at h second = (omega arith, h)
 ending-to n at h (among d) = (omega arith, h)
 ending-to n at h over = tt
 
@@ -91,6 +94,7 @@ stop-here : (n at : ℕ) (l : Line) (s : Stopping) → at ≤ n → s .place ≤
 unfolding stopHere
 stop-here n at (Stop m) s h k = h
 stop-here n at Header s h k = k
+stop-here n at Machine s h k = k
 stop-here n at (One a) s h k = k
 stop-here n at (Loop m) s h k = k
 stop-here n at Done s h k = k
@@ -119,9 +123,9 @@ light t h = go (ltb 2000000000 (clocks t)) refl h
     go true e f = absurd (let z : _≡_ {A = ℕ} 0 1 = cc in omega arith)
     go false e f = ltb-false 2000000000 (clocks t) e
 
-weighed-in : (t : Tree) (s : Stopping) → s .place ≤ 60000 → Limited (weighed t s)
+weighed-in : (m : Bool) (t : Tree) (s : Stopping) → s .place ≤ 60000 → Limited (weighed m t s)
 unfolding weighed
-weighed-in t s h =
+weighed-in m t s h =
     pick-each Limited (heavy t) (λ e. refusal-in 9 (s .place) (omega arith) h)
     (λ e. pick-both Limited (eqb (s .number) (clocks t)) (record { number = omega arith; place = omega arith; clocks = light t e }) (refusal-in 10 (s .place) (omega arith) h))
 
@@ -136,5 +140,5 @@ check-limits log =
     pick-each Limited (ltb 60000 (length log)) (λ e. refusal-in 5 0 (omega arith) (omega arith))
     (λ e.
     let s : 0 + total (linesOf log) ≤ 60000 = (let h = ltb-false 60000 (length log) e in let k = total-lines log in omega arith) in
-    unless-in (judge first 0 (linesOf log)) (weighed (treeOf log) (stopFrom 0 (linesOf log))) (judge-to 60000 (linesOf log) first 0 s)
-    (weighed-in (treeOf log) (stopFrom 0 (linesOf log)) (stop-to 60000 (linesOf log) 0 s)))
+    unless-in (judge first 0 (linesOf log)) (weighed (machineOf log) (treeOf log) (stopFrom 0 (linesOf log))) (judge-to 60000 (linesOf log) first 0 s)
+    (weighed-in (machineOf log) (treeOf log) (stopFrom 0 (linesOf log)) (stop-to 60000 (linesOf log) 0 s)))

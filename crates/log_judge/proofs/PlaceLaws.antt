@@ -11,7 +11,7 @@ use lib.Seq.{drop-cons, drop-drop}
 use lib.Dec.{ltb, eqb}
 use Rattle.arith.specs.Pick.{pick}
 use Rattle.log_line.specs.declared.Line.{Line}
-use Rattle.log_line.specs.declared.Line.the-variants.{Header, One, Loop, Done, Stop, Bad}
+use Rattle.log_line.specs.declared.Line.the-variants.{Header, Machine, One, Loop, Done, Stop, Bad}
 use Rattle.log_line.specs.Said.{lineOf}
 use Rattle.log_line.specs.Printed.{lineText, Printable}
 use Rattle.log_line.proofs.LineLaws.{read-printed}
@@ -26,7 +26,7 @@ use Rattle.log_spot.specs.declared.Found.the-variants.{Right, Wrong}
 use Rattle.log_spot.specs.Fault.{spotOf}
 use Rattle.log_spot.proofs.FaultLaws.{right-line}
 use Rattle.log_spot.specs.declared.Stand.the-variants.{First, Among, Alone}
-use Rattle.log_spot.proofs.Standing.{told, tell, bounded, Goes, act as acts-on, opens as opened-on, closes as closes-on, ends as ends-on, goes, goes-may, first-header, alone}
+use Rattle.log_spot.proofs.Standing.{told, tell, bounded, Goes, act as acts-on, opens as opened-on, closes as closes-on, ends as ends-on, Lets, pal, turn, lets, goes-may, first-header, alone}
 
 -- the length of a line
 
@@ -149,30 +149,35 @@ item-in : (st : Stand) (log : List ℕ) (at : ℕ) (l : Line) (next : ℕ) → l
     → spotOf st (bytesAt log at) ≡ Right l → readIn st log at ≡ Item l next
 item-in st log at l next s h n e = read-some st log at s h ∙ (ap (taken at (nextLine log at)) e ∙ ap (λ (x : ℕ). Item l x) (sym n))
 
-pub standing-on : (at d : ℕ) → 0 < at → standing at d ≡ Among d
+pub standing-on : (at d : ℕ) → 0 < at → standing at d ≡ Among (eqb at 6) d
 unfolding standing
 standing-on at d z = rw (ne-eqb at 0 (λ q. omega arith))
 
--- a line that is right where it stands: `log=1` at the start of the log, or one that may stand at that depth
+-- a line that is right where it stands: `log=1` at the start of the log, `machine=pal` behind it, or one that may stand at that depth
 pub data Stands (at d : ℕ) : Line → Type 0 where
   head : at ≡ 0 → Stands at d Header
+  tells : at ≡ 6 → Stands at d Machine
   inner : {l : Line} → 0 < at → Goes d l → Stands at d l
 
 pub stands : (at d : ℕ) (s : List ℕ) (l : Line) → spotOf (standing at d) s ≡ Right l → Stands at d l
 unfolding standing
 stands at d s l e = go (eqb at 0) refl e
   where
-    go : (b : Bool) → eqb at 0 ≡ b → spotOf (pick b First (Among d)) s ≡ Right l → Stands at d l
+    further : {l : Line} → (at ≡ 0 → ⊥) → Lets (eqb at 6) d l → Stands at d l
+    further z (pal h) = tells (eqb-true at 6 h)
+    further z (turn g) = inner (omega (arith, z)) g
+
+    go : (b : Bool) → eqb at 0 ≡ b → spotOf (pick b First (Among (eqb at 6) d)) s ≡ Right l → Stands at d l
     go true q e = subst (Stands at d) (sym (first-header s l e)) (head (eqb-true at 0 q))
-    go false q e = inner (omega (arith, eqb-false at 0 q)) (goes d s l e)
+    go false q e = further (eqb-false at 0 q) (lets (eqb at 6) d s l e)
 
 pub from-depth : (log : List ℕ) (at d : ℕ) (l : Line) (next : ℕ) → readIn (standing at d) log at ≡ Item l next → readAt log at ≡ Item l next
 unfolding readAt standing
-from-depth log at d l next e = go (eqb at 0) refl (had (pick (eqb at 0) First (Among d)) log at l next e)
+from-depth log at d l next e = go (eqb at 0) refl (had (pick (eqb at 0) First (Among (eqb at 6) d)) log at l next e)
   where
-    go : (b : Bool) → eqb at 0 ≡ b → Had (pick b First (Among d)) log at l next → readIn (pick b First Alone) log at ≡ Item l next
+    go : (b : Bool) → eqb at 0 ≡ b → Had (pick b First (Among (eqb at 6) d)) log at l next → readIn (pick b First (Alone (eqb at 6))) log at ≡ Item l next
     go true q h = item-in First log at l next (h .short) (h .inside) (h .on) (h .found)
-    go false q h = item-in Alone log at l next (h .short) (h .inside) (h .on) (alone d (bytesAt log at) l (h .found))
+    go false q h = item-in (Alone (eqb at 6)) log at l next (h .short) (h .inside) (h .on) (alone (eqb at 6) d (bytesAt log at) l (h .found))
 
 goes-inner : {d : ℕ} → Goes d Header → ⊥
 goes-inner g = go Header g refl
@@ -185,12 +190,12 @@ goes-inner g = go Header g refl
 
 pub to-depth : (log : List ℕ) (at d : ℕ) (l : Line) (next : ℕ) → Goes d l → readAt log at ≡ Item l next → readIn (standing at d) log at ≡ Item l next
 unfolding readAt standing
-to-depth log at d l next g e = go (eqb at 0) (had (pick (eqb at 0) First Alone) log at l next e)
+to-depth log at d l next g e = go (eqb at 0) (had (pick (eqb at 0) First (Alone (eqb at 6))) log at l next e)
   where
-    go : (b : Bool) → Had (pick b First Alone) log at l next → readIn (pick b First (Among d)) log at ≡ Item l next
+    go : (b : Bool) → Had (pick b First (Alone (eqb at 6))) log at l next → readIn (pick b First (Among (eqb at 6) d)) log at ≡ Item l next
     go true h = absurd (goes-inner (subst (Goes d) (first-header (bytesAt log at) l (h .found)) g))
-    go false h = item-in (Among d) log at l next (h .short) (h .inside) (h .on) (tell (Among d) (bytesAt log at) l (had-says h) (goes-may g))
+    go false h = item-in (Among (eqb at 6) d) log at l next (h .short) (h .inside) (h .on) (tell (Among (eqb at 6) d) (bytesAt log at) l (had-says h) (goes-may (eqb at 6) g))
 
-pub had-at : (log : List ℕ) (at : ℕ) (l : Line) (next : ℕ) → readAt log at ≡ Item l next → Had (pick (eqb at 0) First Alone) log at l next
+pub had-at : (log : List ℕ) (at : ℕ) (l : Line) (next : ℕ) → readAt log at ≡ Item l next → Had (pick (eqb at 0) First (Alone (eqb at 6))) log at l next
 unfolding readAt
-had-at log at l next e = had (pick (eqb at 0) First Alone) log at l next e
+had-at log at l next e = had (pick (eqb at 0) First (Alone (eqb at 6))) log at l next e

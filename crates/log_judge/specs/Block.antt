@@ -6,7 +6,7 @@ use mathlib.Core.List.{List}
 use lib.ListN.{length}
 use Rattle.log_line.specs.declared.Act.{Act}
 use Rattle.log_line.specs.declared.Line.{Line}
-use Rattle.log_line.specs.declared.Line.the-variants.{Header, One, Loop, Done, Stop, Bad}
+use Rattle.log_line.specs.declared.Line.the-variants.{Header, Machine, One, Loop, Done, Stop, Bad}
 use Rattle.log_judge.specs.declared.Reading.{Reading}
 use Rattle.log_judge.specs.declared.Reading.the-variants.{Item}
 use Rattle.log_judge.specs.declared.Totals.{Totals}
@@ -39,9 +39,11 @@ pub data Begun : Type 0 where
   whole : Piece → Begun
   opens : ℕ → ℕ → Begun
 
--- the line at `at` says l and is right there, and the next one begins at `next`; no line that is right there says `log=1`, or is at fault
+-- the line at `at` says l and is right there, and the next one begins at `next`; behind a log's head no line that is right there says `log=1` or
+-- `machine=pal`, or is at fault
 unfoldable pub begun : ℕ → ℕ → Line → Begun
 begun at next Header = whole (bad 14 at)
+begun at next Machine = whole (bad 14 at)
 begun at next (One a) = whole (one a next)
 begun at next (Loop n) = opens n next
 begun at next Done = whole (shut at next)

@@ -1,6 +1,7 @@
 -- Helper: nobody has to believe this; what the code answers; proved to be `checkOf` (proofs/CheckLaws).
--- The check as the code makes it, from the block that the lines behind `log=1` came to. That this is `checkOf` is proved.
+-- The check as the code makes it, from the machine and the block that the lines behind the log's head came to. That this is `checkOf` is proved.
 use Prim.Native.Nat.{ℕ}
+use mathlib.Core.Bool.{Bool}
 use lib.Dec.{eqb, ltb}
 use Rattle.arith.specs.Pick.{pick}
 use Rattle.log_judge.specs.declared.Totals.{Totals}
@@ -9,16 +10,16 @@ use Rattle.log_judge.specs.declared.Block.the-variants.{Closed, Stopped}
 use Rattle.log_judge.specs.declared.Checked.{Checked}
 use Rattle.log_judge.specs.Whole.{refusal}
 
-abbrev pub totalled : Totals → Checked
-totalled t = record { number = 0; place = 0; clocks = t .clocks; turns = t .turns; items = t .items }
+abbrev pub totalled : Bool → Totals → Checked
+totalled m t = record { number = 0; place = 0; pal = m; clocks = t .clocks; turns = t .turns; items = t .items }
 
-abbrev pub limited : Totals → ℕ → ℕ → Checked
-limited t p n =
+abbrev pub limited : Bool → Totals → ℕ → ℕ → Checked
+limited m t p n =
     pick (ltb 2000000000 (t .clocks)) (refusal 9 p)
     (pick (ltb 1000000 (t .turns)) (refusal 9 p)
-    (pick (eqb n (t .clocks)) (totalled t) (refusal 10 p)))
+    (pick (eqb n (t .clocks)) (totalled m t) (refusal 10 p)))
 
-abbrev pub closing : ℕ → Block → Checked
-closing length (Closed p q t) = refusal 18 q
-closing length (Stopped p q n t) = pick (ltb q length) (refusal 19 q) (limited t p n)
-closing length (Block.Refused k p) = refusal k p
+abbrev pub closing : Bool → ℕ → Block → Checked
+closing m length (Closed p q t) = refusal 18 q
+closing m length (Stopped p q n t) = pick (ltb q length) (refusal 19 q) (limited m t p n)
+closing m length (Block.Refused k p) = refusal k p

@@ -1,4 +1,5 @@
 pub mod Lines
+pub mod Head
 pub mod Judge
 pub mod Reading
 pub mod Tree

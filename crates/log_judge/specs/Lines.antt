@@ -26,7 +26,3 @@ bytesAt log at = take (lineLen (drop at log)) (drop at log)
 
 unfoldable pub nextLine : List ℕ → ℕ → ℕ
 nextLine log at = at + lineLen (drop at log)
-
--- where the lines behind `log=1` begin
-unfoldable pub startOf : List ℕ → ℕ
-startOf log = nextLine log 0

@@ -40,10 +40,10 @@ readIn st log at =
     (pick (ltb at (length log)) (taken at (nextLine log at) (spotOf st (bytesAt log at)))
     (Refused 18 (length log)))
 
--- how a line stands that begins at a place, with d loops open: first at place 0
+-- how a line stands that begins at a place, with d loops open: first at place 0; second at place 6, behind `log=1` and its line feed
 unfoldable pub standing : ℕ → ℕ → Stand
-standing at d = pick (eqb at 0) First (Among d)
+standing at d = pick (eqb at 0) First (Among (eqb at 6) d)
 
--- at place 0 only `log=1` is an item; further on any line that is right by itself, since no depth is known
+-- at place 0 only `log=1` is an item, and `machine=pal` only at place 6; further on any line that is right by itself, since no depth is known
 unfoldable pub readAt : List ℕ → ℕ → Reading
-readAt log at = readIn (pick (eqb at 0) First Alone) log at
+readAt log at = readIn (pick (eqb at 0) First (Alone (eqb at 6))) log at

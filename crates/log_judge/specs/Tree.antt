@@ -1,11 +1,13 @@
 -- What a log that passes stands for: a tree of acts and loops; its list of acts, loops unrolled; its totals; and its text.
 use Prim.Native.Nat.{ℕ, zero, suc, _+_, _*_, _<_}
 use mathlib.Core.List.{List, [], _∷_, _++_}
+use mathlib.Core.Bool.{Bool}
 use Rattle.bus.specs.declared.Access.{Access}
 use Rattle.log_line.specs.declared.Act.{Act}
 use Rattle.log_line.specs.declared.Act.the-variants.{Wait}
-use Rattle.log_line.specs.declared.Line.the-variants.{Header, One, Loop, Done, Stop}
+use Rattle.log_line.specs.declared.Line.the-variants.{One, Loop, Done, Stop}
 use Rattle.log_line.specs.Printed.{lineText, Printable}
+use Rattle.log_judge.specs.Head.{headText}
 
 -- a block of lines: its end; an act and the rest; a loop of n turns over a body, and the rest
 pub data Tree : Type 0 where
@@ -41,14 +43,14 @@ turns end = 0
 turns (act a t) = 1 + turns t
 turns (loop n b t) = n * (1 + turns b) + turns t
 
--- the text of a block, and of a log
+-- the text of a block, and of a log for a machine
 unfoldable pub text : Tree → List ℕ
 text end = []
 text (act a t) = lineText (One a) ++ text t
 text (loop n b t) = lineText (Loop n) ++ (text b ++ (lineText Done ++ text t))
 
-unfoldable pub logText : Tree → ℕ → List ℕ
-logText t n = lineText Header ++ (text t ++ lineText (Stop n))
+unfoldable pub logText : Bool → Tree → ℕ → List ℕ
+logText m t n = headText m ++ (text t ++ lineText (Stop n))
 
 -- a block whose lines are within document 01's limits, where d loops are open around it
 abbrev pub Within : Tree → ℕ → Type 0

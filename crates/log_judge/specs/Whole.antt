@@ -1,15 +1,16 @@
 -- A whole log: the tree that its lines stand for, and the check.
 use Prim.Native.Nat.{ℕ, _+_}
 use mathlib.Core.List.{List, [], _∷_}
-use mathlib.Core.Bool.{Bool}
+use mathlib.Core.Bool.{Bool, false}
 use lib.ListN.{length}
 use lib.Dec.{eqb, ltb}
 use Rattle.arith.specs.Pick.{pick, either}
 use Rattle.log_line.specs.declared.Line.{Line}
-use Rattle.log_line.specs.declared.Line.the-variants.{Header, One, Loop, Done, Stop, Bad}
+use Rattle.log_line.specs.declared.Line.the-variants.{Header, Machine, One, Loop, Done, Stop, Bad}
 use Rattle.log_line.specs.Said.{lineOf}
 use Rattle.log_judge.specs.declared.Checked.{Checked}
 use Rattle.log_judge.specs.Lines.{linesOf}
+use Rattle.log_judge.specs.Head.{machineOf}
 use Rattle.log_judge.specs.Judge.{Verdict, right, wrong, judged}
 use Rattle.log_judge.specs.Tree.{Tree, end, act, loop, acts, clocks, turns}
 
@@ -24,6 +25,7 @@ grow (Loop n) (b ∷ t ∷ ts) = loop n b t ∷ ts
 grow Done ts = end ∷ ts
 grow (Stop n) ts = end ∷ ts
 grow Header ts = ts
+grow Machine ts = ts
 grow (Bad k) ts = ts
 
 -- the blocks that lines stand for, from the last line to the first
@@ -47,6 +49,7 @@ pub record Stopping : Type 0 where
 unfoldable pub stopHere : ℕ → Line → Stopping → Stopping
 stopHere at (Stop n) s = record { place = at; number = n }
 stopHere at Header s = s
+stopHere at Machine s = s
 stopHere at (One a) s = s
 stopHere at (Loop n) s = s
 stopHere at Done s = s
@@ -61,21 +64,21 @@ stopOf log = stopFrom 0 (linesOf log)
 
 -- "A refusal returns its number and place, .. 0 or no for the rest"
 abbrev pub refusal : ℕ → ℕ → Checked
-refusal k p = record { number = k; place = p; clocks = 0; turns = 0; items = 0 }
+refusal k p = record { number = k; place = p; pal = false; clocks = 0; turns = 0; items = 0 }
 
 -- 0: "done"; the place is "0 otherwise"
-abbrev pub passed : Tree → Checked
-passed t = record { number = 0; place = 0; clocks = clocks t; turns = turns t; items = length (acts t) }
+abbrev pub passed : Bool → Tree → Checked
+passed m t = record { number = 0; place = 0; pal = m; clocks = clocks t; turns = turns t; items = length (acts t) }
 
 -- 9: "over 2,000,000,000 clocks or 1,000,000 turns in all"
 unfoldable pub heavy : Tree → Bool
 heavy t = either (ltb 2000000000 (clocks t)) (ltb 1000000 (turns t))
 
 -- 9, then 10: "`stop` differs from the clocks in all"; "the `stop` line for 9 and 10"
-unfoldable pub weighed : Tree → Stopping → Checked
-weighed t s =
+unfoldable pub weighed : Bool → Tree → Stopping → Checked
+weighed m t s =
     pick (heavy t) (refusal 9 (s .place))
-    (pick (eqb (s .number) (clocks t)) (passed t)
+    (pick (eqb (s .number) (clocks t)) (passed m t)
     (refusal 10 (s .place)))
 
 unfoldable pub unlessWrong : Verdict → Checked → Checked
@@ -86,4 +89,4 @@ unlessWrong (wrong k p) c = refusal k p
 unfoldable pub checkOf : List ℕ → Checked
 checkOf log =
     pick (ltb 60000 (length log)) (refusal 5 0)
-    (unlessWrong (judged log) (weighed (treeOf log) (stopOf log)))
+    (unlessWrong (judged log) (weighed (machineOf log) (treeOf log) (stopOf log)))

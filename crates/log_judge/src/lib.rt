@@ -36,10 +36,11 @@ pub enum Block {
     Refused(u8, usize),
 }
 
-// The answer of the check: 0 and the log's totals, or a refusal's number and place.
+// The answer of the check: 0, whether the log's machine is PAL, and its totals; or a refusal's number and place.
 pub struct Checked {
     pub number: u8,
     pub place: usize,
+    pub pal: bool,
     pub clocks: u64,
     pub turns: u64,
     pub items: u64,

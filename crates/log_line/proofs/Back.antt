@@ -23,7 +23,7 @@ use Rattle.text.proofs.DecimalLaws.{decimal-complete}
 use Rattle.text.proofs.HexLaws.{hex-complete}
 use Rattle.log_line.specs.declared.Act.the-variants.{Wait, Access}
 use Rattle.log_line.specs.declared.Line.{Line}
-use Rattle.log_line.specs.declared.Line.the-variants.{Header, One, Loop, Done, Stop, Bad}
+use Rattle.log_line.specs.declared.Line.the-variants.{Header, Machine, One, Loop, Done, Stop, Bad}
 use Rattle.log_line.specs.Said.{counted, written, writeOf, waitOf, loopOf, stopOf, bodyOf, lineOf}
 use Rattle.log_line.specs.Printed.{actText, ended, lineText, Printable}
 use Rattle.log_line.proofs.BodyLaws.{counted-is, line-feed}
@@ -85,6 +85,10 @@ header-said : bodyOf (bytes "log=1") ≡ Header
 unfolding bodyOf exactly startsWith
 header-said = refl
 
+machine-said : bodyOf (bytes "machine=pal") ≡ Machine
+unfolding bodyOf exactly startsWith
+machine-said = refl
+
 done-said : bodyOf (bytes "done=loop") ≡ Done
 unfolding bodyOf exactly startsWith
 done-said = refl
@@ -92,6 +96,7 @@ done-said = refl
 pub read-back : (l : Line) → Printable l → lineOf (lineText l) ≡ l
 unfolding lineText
 read-back Header p = ended-said _ ∙ header-said
+read-back Machine p = ended-said _ ∙ machine-said
 read-back (One (Wait n)) p = ended-said _ ∙ wait-said n (p .0) (p .1)
 read-back (One (Access (Write r v))) p = ended-said _ ∙ write-said r v (p .0) (p .1)
 read-back (One (Access Read)) p = ended-said _ ∙ read-said

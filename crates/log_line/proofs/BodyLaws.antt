@@ -10,7 +10,7 @@ use Rattle.text.specs.Hex.{hex}
 use Rattle.text.specs.declared.Number.{Number}
 use Rattle.text.specs.declared.Number.the-variants.{Is, None}
 use Rattle.log_line.specs.declared.Line.{Line}
-use Rattle.log_line.specs.declared.Line.the-variants.{Header, One, Loop, Done, Stop, Bad}
+use Rattle.log_line.specs.declared.Line.the-variants.{Header, Machine, One, Loop, Done, Stop, Bad}
 use Rattle.log_line.specs.Said.{counted, written, writeOf, bodyOf, lineOf}
 
 pub counted-is : (f : ℕ → Line) (d : Number) (n : ℕ) → d ≡ Is n → counted f d ≡ f n

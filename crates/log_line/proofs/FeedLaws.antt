@@ -15,7 +15,7 @@ use Rattle.text.specs.Hex.{hexByte, hexText}
 use Rattle.log_line.specs.declared.Act.{Act}
 use Rattle.log_line.specs.declared.Act.the-variants.{Wait, Access}
 use Rattle.log_line.specs.declared.Line.{Line}
-use Rattle.log_line.specs.declared.Line.the-variants.{Header, One, Loop, Done, Stop, Bad}
+use Rattle.log_line.specs.declared.Line.the-variants.{Header, Machine, One, Loop, Done, Stop, Bad}
 use Rattle.log_line.specs.Printed.{actText, ended, lineText, Printable, NoFeed, empty, byte, OneLine}
 
 -- of bytes that are written out, by a test
@@ -82,6 +82,7 @@ ended-line s p = record { body = s; is = refl; clear = p }
 pub text-line : (l : Line) → Printable l → OneLine (lineText l)
 unfolding lineText other
 text-line Header p = ended-line _ (tested (bytes "log=1") refl)
+text-line Machine p = ended-line _ (tested (bytes "machine=pal") refl)
 text-line (One a) p = ended-line _ (act-clear a)
 text-line (Loop n) p = ended-line _ (joined (bytes "loop=") (decimalText n) (tested (bytes "loop=") refl) (decimal-clear n))
 text-line Done p = ended-line _ (tested (bytes "done=loop") refl)

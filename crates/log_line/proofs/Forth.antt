@@ -26,7 +26,7 @@ use Rattle.text.proofs.HexLaws.{hex-sound}
 use Rattle.text.proofs.KeyLaws.{starts-split, exactly-is}
 use Rattle.log_line.specs.declared.Act.the-variants.{Wait, Access}
 use Rattle.log_line.specs.declared.Line.{Line}
-use Rattle.log_line.specs.declared.Line.the-variants.{Header, One, Loop, Done, Stop, Bad}
+use Rattle.log_line.specs.declared.Line.the-variants.{Header, Machine, One, Loop, Done, Stop, Bad}
 use Rattle.log_line.specs.Said.{counted, written, writeOf, waitOf, loopOf, stopOf, bodyOf, lineOf}
 use Rattle.log_line.specs.Printed.{actText, ended, lineText, Printable}
 
@@ -115,7 +115,8 @@ body-found s =
     pick-each (Found (ended s)) (exactly (bytes "read=4015") s) (exact-found (bytes "read=4015") s (One (Access Read)) refl tt) λ e.
     pick-each (Found (ended s)) (startsWith (bytes "loop=") s) (loop-found s) λ e.
     pick-each (Found (ended s)) (exactly (bytes "done=loop") s) (exact-found (bytes "done=loop") s Done refl tt) λ e.
-    pick-each (Found (ended s)) (startsWith (bytes "stop=") s) (stop-found s) λ e. formless (ended s)
+    pick-each (Found (ended s)) (startsWith (bytes "stop=") s) (stop-found s) λ e.
+    pick-each (Found (ended s)) (exactly (bytes "machine=pal") s) (exact-found (bytes "machine=pal") s Machine refl tt) λ e. formless (ended s)
 
 -- a text whose last byte is a line feed
 feed-split : (s : List ℕ) → getD s (length s - 1) 0 ≡ 10 → s ≡ ended (take (length s - 1) s)

@@ -11,7 +11,7 @@ use Rattle.text.specs.Hex.{hexText}
 use Rattle.log_line.specs.declared.Act.{Act}
 use Rattle.log_line.specs.declared.Act.the-variants.{Wait, Access}
 use Rattle.log_line.specs.declared.Line.{Line}
-use Rattle.log_line.specs.declared.Line.the-variants.{Header, One, Loop, Done, Stop, Bad}
+use Rattle.log_line.specs.declared.Line.the-variants.{Header, Machine, One, Loop, Done, Stop, Bad}
 
 -- an act, without its line feed
 unfoldable pub actText : Act → List ℕ
@@ -26,6 +26,7 @@ ended s = s ++ (10 ∷ [])
 -- a line with its line feed; a line at fault has no text
 unfoldable pub lineText : Line → List ℕ
 lineText Header = ended (bytes "log=1")
+lineText Machine = ended (bytes "machine=pal")
 lineText (One a) = ended (actText a)
 lineText (Loop n) = ended (bytes "loop=" ++ decimalText n)
 lineText Done = ended (bytes "done=loop")
@@ -41,6 +42,7 @@ Allowed (Access Read) = Unit {0}
 -- a line within document 01's limits
 abbrev pub Printable : Line → Type 0
 Printable Header = Unit {0}
+Printable Machine = Unit {0}
 Printable (One a) = Allowed a
 Printable (Loop n) = (2 ≤ n) × (n ≤ 255)
 Printable Done = Unit {0}

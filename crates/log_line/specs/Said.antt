@@ -1,5 +1,6 @@
 -- What one line of a log says. Document 01: "Lines end in one line feed. First `log=1`. Then `wait=N` (1..1000000), `write=RRRR:VV`
--- (lower-case hex), `read=4015`, `loop=N` (2..255), `done=loop`. Last `stop=N` (0..2000000000), then nothing."
+-- (lower-case hex), `read=4015`, `loop=N` (2..255), `done=loop`. Last `stop=N` (0..2000000000), then nothing." Change request 9: "A log may have
+-- `machine=pal` as its second line".
 use Prim.Native.Nat.{ℕ, _-_}
 use mathlib.Core.List.{List, [], _∷_}
 use mathlib.Core.Bool.{Bool, true, false}
@@ -17,7 +18,7 @@ use Rattle.text.specs.declared.Number.{Number}
 use Rattle.text.specs.declared.Number.the-variants.{Is, None}
 use Rattle.log_line.specs.declared.Act.the-variants.{Wait, Access}
 use Rattle.log_line.specs.declared.Line.{Line}
-use Rattle.log_line.specs.declared.Line.the-variants.{Header, One, Loop, Done, Stop, Bad}
+use Rattle.log_line.specs.declared.Line.the-variants.{Header, Machine, One, Loop, Done, Stop, Bad}
 
 -- a number that was read as what it stands for; with none the line is not of the form
 unfoldable pub counted : (ℕ → Line) → Number → Line
@@ -58,7 +59,8 @@ bodyOf s =
     (pick (startsWith (bytes "loop=") s) (loopOf (drop 5 s))
     (pick (exactly (bytes "done=loop") s) Done
     (pick (startsWith (bytes "stop=") s) (stopOf (drop 5 s))
-    (Bad 0)))))))
+    (pick (exactly (bytes "machine=pal") s) Machine
+    (Bad 0))))))))
 
 -- "Lines end in one line feed"
 unfoldable pub lineOf : List ℕ → Line

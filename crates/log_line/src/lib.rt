@@ -18,6 +18,7 @@ pub enum Act {
 // it stands (crate spot).
 pub enum Line {
     Header,
+    Machine,
     One(Act),
     Loop(u8),
     Done,
@@ -121,6 +122,9 @@ fn body_of(s: &[u8]) -> Line
     }
     if text::starts(s, b"stop=") {
         return stop_of(text::behind(s, 5));
+    }
+    if text::exact(s, b"machine=pal") {
+        return Line::Machine;
     }
     Line::Bad(0)
 }

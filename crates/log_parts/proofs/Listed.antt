@@ -1,13 +1,14 @@
 -- Item k of a log is the list's. Assumes nothing.
 use mathlib.Core.Path.{_≡_, ap}
 use mathlib.Core.List.{List}
+use mathlib.Core.Bool.{Bool}
 use Prim.Native.Nat.{ℕ, _≤_, _<_}
 use native.Mathlib.Omega.{arith}
 use borrow.Author.Tests.{eq-eqb, ne-eqb, lt-ltb, le-ltb}
 use lib.ListN.{length, getD}
 use Rattle.log_line.specs.declared.Act.the-variants.{Wait}
 use Rattle.log_judge.specs.declared.Checked.{Checked}
-use Rattle.log_judge.specs.Lines.{startOf}
+use Rattle.log_judge.specs.Head.{startOf}
 use Rattle.log_judge.specs.Tree.{Tree, acts, clocks, turns, logText, Within}
 use Rattle.log_judge.specs.Whole.{treeOf, checkOf}
 use Rattle.log_judge.proofs.CheckLaws.{acts-le}
@@ -23,7 +24,7 @@ module _ (log : List ℕ) (k : ℕ) where
   item-refused h = rw (ne-eqb (checkOf log .number) 0 h)
 
   module _ (h : checkOf log .number ≡ 0) where
-    -- the items that the check counts are the list's, and the block behind the header has them
+    -- the items that the check counts are the list's, and the block behind the head has them
     pub items-are : checkOf log .items ≡ length (acts (treeOf log))
     items-are = ap (λ (c : Checked). c .items) (passes (clear log h))
 
@@ -45,7 +46,8 @@ module _ (log : List ℕ) (k : ℕ) where
     pub item-asks : k < checkOf log .items → (k ≤ 1000000) × (k < length (actsAt log (startOf log) 0))
     item-asks p = let q = rw items-are at p in let f = items-few in (omega arith, rw acts-start q)
 
--- item k of a tree's text is the list's k-th
-pub item-text : (t : Tree) (k : ℕ) → Within t 0 → clocks t ≤ 2000000000 → turns t ≤ 1000000 → length (logText t (clocks t)) ≤ 60000 → itemOf (logText t (clocks t)) k ≡ nth (acts t) k
+-- item k of a tree's text, for either machine, is the list's k-th
+pub item-text : (m : Bool) (t : Tree) (k : ℕ) → Within t 0 → clocks t ≤ 2000000000 → turns t ≤ 1000000 → length (logText m t (clocks t)) ≤ 60000
+    → itemOf (logText m t (clocks t)) k ≡ nth (acts t) k
 unfolding itemOf
-item-text t k w c n s = let p = printed t w c n s in rw (p .0, p .1)
+item-text m t k w c n s = let p = printed m t w c n s in rw (p .0, p .1)

@@ -13,20 +13,21 @@ use denote.Enum.Declared.{tagOf}
 use Rattle.arith.specs.Pick.{pick, both}
 use Rattle.arith.proofs.PickLaws.{both-left, both-right}
 use Rattle.log_line.specs.declared.Line.{Line}
-use Rattle.log_line.specs.declared.Line.the-variants.{Header, One, Loop, Done, Stop, Bad}
+use Rattle.log_line.specs.declared.Line.the-variants.{Header, Machine, One, Loop, Done, Stop, Bad}
 use Rattle.log_line.specs.Printed.{lineText}
 use Rattle.log_judge.specs.declared.Reading.{Reading}
 use Rattle.log_judge.specs.declared.Reading.the-variants.{Item, Refused}
 use Rattle.log_judge.specs.declared.Block.{Block}
 use Rattle.log_judge.specs.declared.Totals.{Totals}
 use Rattle.log_judge.specs.declared.Block.the-variants.{Closed}
-use Rattle.log_judge.specs.Lines.{lineLen, nextLine, startOf}
+use Rattle.log_judge.specs.Lines.{lineLen, nextLine}
+use Rattle.log_judge.specs.Head.{machineOf, startOf}
 use Rattle.log_judge.specs.Reading.{readAt}
 use Rattle.log_spot.specs.declared.Stand.{Stand as Standing}
 use Rattle.log_judge.specs.Tree.{Tree, text, Within}
 use Rattle.log_judge.specs.Whole.{checkOf}
 use Rattle.log_judge.specs.Block.{readBlock, totals, answer}
-use Rattle.log_judge.proofs.PlaceLaws.{Had, had-at, had-says, had-text, bytes-long}
+use Rattle.log_judge.proofs.PlaceLaws.{Had, had-at, had-says, had-text, from-depth, bytes-long}
 use Rattle.log_judge.proofs.Descent.{got-behind}
 use Rattle.log_judge.proofs.Derived.{Ending, closes, stops, Reads, an-act, a-loop, a-done, a-stop, block-of}
 use Rattle.log_judge.proofs.JudgeLaws.{linesFrom, lines-at}
@@ -134,11 +135,24 @@ module _ (log : List ℕ) (o n next : ℕ) (b : beginsLine log o ≡ true) (e : 
 
   inside-log : Passing log → Inside log next
   unfolding isLoop
-  inside-log p = go (apart log o 0 Header (startOf log) (had-at log 0 Header (startOf log) (p .header)) b (omega arith))
+  inside-log p = go (apart log o 0 Header 6 (had-at log 0 Header 6 (p .header)) b (omega arith))
     where
-      go : Apart o 0 (startOf log) → Inside log next
-      go (same q) = absurd (differs 0 Header (startOf log) (p .header) q refl)
-      go (past q) = let h = had-at log o (Loop n) next e .inside in let l = p .last in inside-of (p .reads) q (omega arith)
+      behind-head : startOf log ≤ o → Inside log next
+      behind-head q = let h = had-at log o (Loop n) next e .inside in let l = p .last in inside-of (p .reads) q (omega arith)
+
+      second : readAt log 6 ≡ Item Machine (startOf log) → Apart o 6 (startOf log) → Inside log next
+      second r (same q) = absurd (differs 6 Machine (startOf log) r q refl)
+      second r (past q) = behind-head q
+
+      by : (m : Bool) → machineOf log ≡ m → 6 ≤ o → Inside log next
+      by true m q =
+          let r = from-depth log 6 0 Machine (startOf log) (p .pal m) in
+          second r (apart log o 6 Machine (startOf log) (had-at log 6 Machine (startOf log) r) b q)
+      by false m q = behind-head (rw (p .ntsc m) q)
+
+      go : Apart o 0 6 → Inside log next
+      go (same q) = absurd (differs 0 Header 6 (p .header) q refl)
+      go (past q) = by (machineOf log) refl q
 
 -- a body is read the same where fewer loops are open
 lower : {log : List ℕ} {at d p q : ℕ} {t : Tree} (c : ℕ) → 0 < c → c ≤ d → Reads log at d t (closes p q) → Reads log at c t (closes p q)
@@ -195,6 +209,7 @@ here-by : (log : List ℕ) (o : ℕ) (r : Reading) → readAt log o ≡ r → ch
 unfolding readsLoop isLoop
 here-by log o (Item (Loop n) p) e h b k = record { passes = h; begins = b; turns = n; from = p; read = e }
 here-by log o (Item Header p) e h b k = absurd (let z : _≡_ {A = ℕ} 0 1 = cc in omega arith)
+here-by log o (Item Machine p) e h b k = absurd (let z : _≡_ {A = ℕ} 0 1 = cc in omega arith)
 here-by log o (Item (One a) p) e h b k = absurd (let z : _≡_ {A = ℕ} 0 1 = cc in omega arith)
 here-by log o (Item Done p) e h b k = absurd (let z : _≡_ {A = ℕ} 0 1 = cc in omega arith)
 here-by log o (Item (Stop n) p) e h b k = absurd (let z : _≡_ {A = ℕ} 0 1 = cc in omega arith)

@@ -7,7 +7,7 @@ use lib.ListN.{length, getD, take, drop}
 use lib.Dec.{eqb}
 use Rattle.arith.specs.Pick.{pick, both, either}
 use Rattle.log_line.specs.declared.Line.{Line}
-use Rattle.log_line.specs.declared.Line.the-variants.{Header, One, Loop, Done, Stop, Bad}
+use Rattle.log_line.specs.declared.Line.the-variants.{Header, Machine, One, Loop, Done, Stop, Bad}
 use Rattle.log_line.specs.Said.{lineOf}
 use Rattle.log_judge.specs.declared.Reading.{Reading}
 use Rattle.log_judge.specs.declared.Reading.the-variants.{Item, Refused}
@@ -23,6 +23,7 @@ beginsLine log at = either (eqb at 0) (eqb (getD log (at - 1) 0) 10)
 unfoldable pub isLoop : Line → Bool
 isLoop (Loop n) = true
 isLoop Header = false
+isLoop Machine = false
 isLoop (One a) = false
 isLoop Done = false
 isLoop (Stop n) = false
@@ -48,6 +49,7 @@ bodyCheckOf log at =
 unfoldable pub isDone : Line → Bool
 isDone Done = true
 isDone Header = false
+isDone Machine = false
 isDone (One a) = false
 isDone (Loop n) = false
 isDone (Stop n) = false
@@ -57,6 +59,7 @@ unfoldable pub inner : ℕ → Line → ℕ
 inner d (Loop n) = d + 1
 inner d Done = d - 1
 inner d Header = d
+inner d Machine = d
 inner d (One a) = d
 inner d (Stop n) = d
 inner d (Bad k) = d

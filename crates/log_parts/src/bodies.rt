@@ -25,6 +25,7 @@ fn is_loop(l: Line) -> bool
     match l {
         Line::Loop(_) => true,
         Line::Header => false,
+        Line::Machine => false,
         Line::One(_) => false,
         Line::Done => false,
         Line::Stop(_) => false,

@@ -1,4 +1,5 @@
--- A log that passes: how it is read, that it is the text of exactly one tree with its `stop`, and that every such text passes. Assumes nothing.
+-- A log that passes: how it is read, that it is the text of exactly one machine and tree with its `stop`, and that every such text passes. Assumes
+-- nothing.
 use mathlib.Core.Path.{_≡_, refl, ap, ap₂, sym, _∙_}
 use mathlib.Core.List.{List, [], _∷_, _++_, append-assoc, append-nil}
 use mathlib.Core.Bool.{Bool, true, false}
@@ -10,7 +11,7 @@ use lib.ListN.{length, drop, drop-of-length-le}
 use lib.Dec.{eqb, ltb}
 use Rattle.arith.specs.Pick.{pick, either}
 use Rattle.log_line.specs.declared.Line.{Line}
-use Rattle.log_line.specs.declared.Line.the-variants.{Header, One, Loop, Done, Stop, Bad}
+use Rattle.log_line.specs.declared.Line.the-variants.{Header, Machine, One, Loop, Done, Stop, Bad}
 use Rattle.log_line.specs.Said.{lineOf}
 use Rattle.log_line.specs.Printed.{lineText, Printable}
 use Rattle.log_spot.specs.declared.Stand.the-variants.{First, Among}
@@ -20,17 +21,19 @@ use Rattle.log_spot.specs.Fault.{spotOf}
 use Rattle.log_spot.specs.declared.Stand.{Stand as Standing}
 use Rattle.log_spot.proofs.Standing.{bounded, first-header}
 use Rattle.log_judge.specs.declared.Reading.the-variants.{Item}
-use Rattle.log_judge.specs.Lines.{linesOf, bytesAt, nextLine, startOf}
-use Rattle.log_judge.specs.Reading.{taken, readIn, readAt}
-use Rattle.log_judge.specs.Judge.{Verdict, right, wrong, Stand, first, among, over, placed, verdict, behind, ending, unless, judge, judged}
+use Rattle.log_judge.specs.Lines.{linesOf, bytesAt, nextLine}
+use Rattle.log_judge.specs.Head.{headText, machineOf, startOf}
+use Rattle.log_judge.specs.Reading.{standing, readIn, readAt}
+use Rattle.log_judge.specs.Judge.{Verdict, right, wrong, Stand, first, second, among, over, placed, verdict, behind, ending, unless, judge, judged}
 use Rattle.log_judge.specs.Tree.{Tree, clocks, turns, text, logText, Within}
-use Rattle.log_judge.specs.Whole.{grow, blocks, innermost, treeOf, Stopping, stopHere, stopFrom, stopOf, refusal, passed, heavy, weighed, unlessWrong, checkOf}
+use Rattle.log_judge.specs.Whole.{innermost, treeOf, Stopping, stopOf, refusal, passed, heavy, weighed, unlessWrong, checkOf}
 use Rattle.log_judge.specs.Block.{Got, closed, stopped, refused, readBlock}
-use Rattle.log_judge.proofs.PlaceLaws.{Had, had-at, had-text, line-split, next-pos, next-le, read-some}
+use Rattle.log_judge.proofs.PlaceLaws.{Had, had-at, had-text, line-split, read-some}
 use Rattle.log_judge.proofs.Derived.{Ending, closes, stops, Reads, an-act, a-loop, a-done, a-stop, Derived, derived, inside-loop}
-use Rattle.log_judge.proofs.JudgeLaws.{linesFrom, judgeAt, after, bridge}
-use Rattle.log_judge.proofs.CheckLaws.{blocks-at, stop-at, blocks-of, stop-of, over-at, judged-first}
-use Rattle.log_passing.proofs.TextLaws.{judged-text, tree-text, stop-is}
+use Rattle.log_judge.proofs.JudgeLaws.{judgeAt, after}
+use Rattle.log_judge.proofs.HeadLaws.{first-next, ntsc-start, pal-start, head-split, read-second}
+use Rattle.log_judge.proofs.CheckLaws.{blocks-of, stop-of, over-at, judged-first, behind-head}
+use Rattle.log_passing.proofs.TextLaws.{judged-text, machine-text, tree-text, stop-is}
 
 -- a refusal has a number
 
@@ -46,7 +49,8 @@ placed-numbered st at l (Wrong k i) e = let h = bounded st l k i e .low in omega
 verdict-numbered : (s : Stand) (at : ℕ) (l : List ℕ) → Numbered (verdict s at l)
 unfolding verdict
 verdict-numbered first at l = placed-numbered First at l (spotOf First l) refl
-verdict-numbered (among d) at l = placed-numbered (Among d) at l (spotOf (Among d) l) refl
+verdict-numbered second at l = placed-numbered (Among true 0) at l (spotOf (Among true 0) l) refl
+verdict-numbered (among d) at l = placed-numbered (Among false d) at l (spotOf (Among false d) l) refl
 verdict-numbered over at l = omega arith
 
 unless-numbered : (v w : Verdict) → Numbered v → Numbered w → Numbered (unless v w)
@@ -57,6 +61,7 @@ unless-numbered (wrong n p) w h k = h
 ending-numbered : (s : Stand) (at : ℕ) → Numbered (ending s at)
 unfolding ending
 ending-numbered first at = omega arith
+ending-numbered second at = omega arith
 ending-numbered (among d) at = omega arith
 ending-numbered over at = tt
 
@@ -92,20 +97,20 @@ unfolding checkOf unlessWrong weighed
 clear log h = long (ltb 60000 (length log)) refl h
   where
     same : length log ≤ 60000 → judged log ≡ right → heavy (treeOf log) ≡ false → (b : Bool) → eqb (stopOf log .number) (clocks (treeOf log)) ≡ b
-        → pick b (passed (treeOf log)) (refusal 10 (stopOf log .place)) .number ≡ 0 → Clear log
+        → pick b (passed (machineOf log) (treeOf log)) (refusal 10 (stopOf log .place)) .number ≡ 0 → Clear log
     same s f w true e h = record { short = s; fine = f; in-clocks = heavy-not (treeOf log) w .0; in-turns = heavy-not (treeOf log) w .1; number = eqb-true (stopOf log .number) (clocks (treeOf log)) e }
     same s f w false e h = absurd (omega arith)
 
     weigh : length log ≤ 60000 → judged log ≡ right → (b : Bool) → heavy (treeOf log) ≡ b
-        → pick b (refusal 9 (stopOf log .place)) (pick (eqb (stopOf log .number) (clocks (treeOf log))) (passed (treeOf log)) (refusal 10 (stopOf log .place))) .number ≡ 0 → Clear log
+        → pick b (refusal 9 (stopOf log .place)) (pick (eqb (stopOf log .number) (clocks (treeOf log))) (passed (machineOf log) (treeOf log)) (refusal 10 (stopOf log .place))) .number ≡ 0 → Clear log
     weigh s f true e h = absurd (omega arith)
     weigh s f false e h = same s f e (eqb (stopOf log .number) (clocks (treeOf log))) refl h
 
-    sound : length log ≤ 60000 → (v : Verdict) → judged log ≡ v → Numbered v → unlessWrong v (weighed (treeOf log) (stopOf log)) .number ≡ 0 → Clear log
+    sound : length log ≤ 60000 → (v : Verdict) → judged log ≡ v → Numbered v → unlessWrong v (weighed (machineOf log) (treeOf log) (stopOf log)) .number ≡ 0 → Clear log
     sound s right e k h = weigh s e (heavy (treeOf log)) refl h
     sound s (wrong n p) e k h = absurd (omega arith)
 
-    long : (b : Bool) → ltb 60000 (length log) ≡ b → pick b (refusal 5 0) (unlessWrong (judged log) (weighed (treeOf log) (stopOf log))) .number ≡ 0 → Clear log
+    long : (b : Bool) → ltb 60000 (length log) ≡ b → pick b (refusal 5 0) (unlessWrong (judged log) (weighed (machineOf log) (treeOf log) (stopOf log))) .number ≡ 0 → Clear log
     long true e h = absurd (omega arith)
     long false e h = sound (ltb-false 60000 (length log) e) (judged log) refl (numbered log) h
 
@@ -113,8 +118,8 @@ not-heavy : (t : Tree) → clocks t ≤ 2000000000 → turns t ≤ 1000000 → h
 unfolding heavy
 not-heavy t h k = rw (le-ltb 2000000000 (clocks t) h, le-ltb 1000000 (turns t) k)
 
--- and there the answer holds the tree's totals, whole and exact
-pub passes : {log : List ℕ} → Clear log → checkOf log ≡ passed (treeOf log)
+-- and there the answer holds the machine and the tree's totals, whole and exact
+pub passes : {log : List ℕ} → Clear log → checkOf log ≡ passed (machineOf log) (treeOf log)
 unfolding checkOf unlessWrong weighed
 passes {log} c =
     rw (le-ltb 60000 (length log) (c .short), c .fine, not-heavy (treeOf log) (c .in-clocks) (c .in-turns), eq-eqb (stopOf log .number) (clocks (treeOf log)) (c .number))
@@ -122,7 +127,10 @@ passes {log} c =
 -- how a log that passes is read
 
 pub record Passing (log : List ℕ) : Type 0 where
-  pub header : readAt log 0 ≡ Item Header (startOf log)
+  pub header : readAt log 0 ≡ Item Header 6
+  pub ntsc : machineOf log ≡ false → startOf log ≡ 6
+  pub pal : machineOf log ≡ true → readIn (standing 6 0) log 6 ≡ Item Machine (startOf log)
+  pub head : log ≡ headText (machineOf log) ++ drop (startOf log) log
   pub place : ℕ
   pub behind : ℕ
   pub reads : Reads log (startOf log) 0 (treeOf log) (stops place behind (clocks (treeOf log)))
@@ -140,7 +148,7 @@ module _ (log : List ℕ) (c : Clear log) where
       go [] h = absurd (not-right h)
       go (b ∷ s) h = omega arith
 
-  first-line : (f : Found) → spotOf First (bytesAt log 0) ≡ f → unless (placed 0 f) (judgeAt log (among 0) (nextLine log 0)) ≡ right
+  first-line : (f : Found) → spotOf First (bytesAt log 0) ≡ f → unless (placed 0 f) (judgeAt log second (nextLine log 0)) ≡ right
       → spotOf First (bytesAt log 0) ≡ Right Header
   unfolding placed unless
   first-line (Right l) e h = e ∙ ap Right (first-header (bytesAt log 0) l e)
@@ -149,24 +157,13 @@ module _ (log : List ℕ) (c : Clear log) where
   headed : spotOf First (bytesAt log 0) ≡ Right Header
   headed = first-line (spotOf First (bytesAt log 0)) refl (sym (judged-first log (c .short) some) ∙ c .fine)
 
-  at-header : readAt log 0 ≡ Item Header (startOf log)
-  unfolding startOf readAt
-  at-header = read-some First log 0 (c .short) some ∙ ap (taken 0 (nextLine log 0)) headed
+  at-header : readAt log 0 ≡ Item Header 6
+  unfolding readAt
+  at-header = read-some First log 0 (c .short) some ∙ rw (headed, first-next log headed)
 
-  -- the lines behind it come to a block that `stop` ends
+  -- the lines behind the head come to a block that `stop` ends
   after-is : after log 0 (readBlock log (startOf log) 0) ≡ right
-  unfolding placed unless startOf
-  after-is =
-      sym (bridge log (nextLine log 0) 0 (c .short) (next-pos log 0 some) (next-le log 0 (omega arith)))
-      ∙ rw headed at (sym (judged-first log (c .short) some) ∙ c .fine)
-
-  tree-behind : treeOf log ≡ innermost (blocks (linesFrom log (startOf log)))
-  unfolding treeOf grow
-  tree-behind = ap innermost (blocks-at (had-at log 0 Header (startOf log) at-header))
-
-  stop-behind : stopOf log ≡ stopFrom (startOf log) (linesFrom log (startOf log))
-  unfolding stopOf stopHere
-  stop-behind = stop-at (had-at log 0 Header (startOf log) at-header)
+  after-is = sym (behind-head log (c .short) some headed .found) ∙ c .fine
 
   last-of : (q : ℕ) (b : Bool) → ltb q (length log) ≡ b → pick b (wrong 19 q) right ≡ right → length log ≤ q
   last-of q true e h = absurd (not-right h)
@@ -177,10 +174,14 @@ module _ (log : List ℕ) (c : Clear log) where
   passing-of (closed t p q) r h = absurd (let z = inside-loop r in omega arith)
   passing-of (refused k p) r h = absurd (not-right h)
   passing-of (stopped t p q n) r h =
-      let same : treeOf log ≡ t = tree-behind ∙ ap innermost (blocks-of r) in
-      let num : n ≡ clocks (treeOf log) = sym (ap (λ (s : Stopping). s .number) (stop-behind ∙ stop-of r)) ∙ c .number in
+      let b = behind-head log (c .short) some headed in
+      let same : treeOf log ≡ t = b .tree ∙ ap innermost (blocks-of r) in
+      let num : n ≡ clocks (treeOf log) = sym (ap (λ (s : Stopping). s .number) (b .stop ∙ stop-of r)) ∙ c .number in
       record {
         header = at-header;
+        ntsc = ntsc-start log headed;
+        pal = λ m. rw (pal-start log headed m) (read-second log (c .short) m);
+        head = head-split log headed (machineOf log) refl;
         place = p;
         behind = q;
         reads = rw (← num) (rw same r);
@@ -222,13 +223,13 @@ module _ (log : List ℕ) where
   stop-within (a-loop l i k r r′) = stop-within r′
   stop-within {at} (a-stop l) = had-text (had-at log at _ _ l) .1
 
--- a log is the text of a tree within the limits and its `stop`
-pub record Stands (log : List ℕ) (t : Tree) (n : ℕ) : Type 0 where
-  pub is-text : log ≡ logText t n
+-- a log is the text of a machine, a tree within the limits and its `stop`
+pub record Stands (log : List ℕ) (m : Bool) (t : Tree) (n : ℕ) : Type 0 where
+  pub is-text : log ≡ logText m t n
   pub within : Within t 0
   pub stop : Printable (Stop n)
 
-pub stands : (log : List ℕ) → checkOf log .number ≡ 0 → Stands log (treeOf log) (clocks (treeOf log))
+pub stands : (log : List ℕ) → checkOf log .number ≡ 0 → Stands log (machineOf log) (treeOf log) (clocks (treeOf log))
 unfolding logText
 stands log h =
     let p = passing log (clear log h) in
@@ -237,30 +238,32 @@ stands log h =
     let end-is : drop (startOf log) log ≡ text t ++ lineText (Stop n) =
     text-of log (p .reads) ∙ ap (λ (s : List ℕ). text t ++ s) (rw (drop-of-length-le log (p .last)) (append-nil (lineText (Stop n)))) in
     record {
-      is-text = had-split log (had-at log 0 Header (startOf log) (p .header)) ∙ ap (λ (s : List ℕ). lineText Header ++ s) end-is;
+      is-text = p .head ∙ ap (λ (s : List ℕ). headText (machineOf log) ++ s) end-is;
       within = within-of log (p .reads);
       stop = stop-within log (p .reads);
     }
 
 -- and of no other
-pub only : {log : List ℕ} {t u : Tree} {n m : ℕ} → Stands log t n → Stands log u m → (t ≡ u) × (n ≡ m)
-only {log} {t} {u} {n} {m} a b =
-    let e : logText t n ≡ logText u m = sym (a .is-text) ∙ b .is-text in (
-      sym (tree-text t n (a .within) (a .stop)) ∙ (ap treeOf e ∙ tree-text u m (b .within) (b .stop)),
-      ap (λ (s : Stopping). s .number) (sym (stop-is t n (a .within) (a .stop)) ∙ (ap stopOf e ∙ stop-is u m (b .within) (b .stop))),
+pub only : {log : List ℕ} {m k : Bool} {t u : Tree} {n o : ℕ} → Stands log m t n → Stands log k u o → (m ≡ k) × (t ≡ u) × (n ≡ o)
+only {log} {m} {k} {t} {u} {n} {o} a b =
+    let e : logText m t n ≡ logText k u o = sym (a .is-text) ∙ b .is-text in (
+      sym (machine-text m t n) ∙ (ap machineOf e ∙ machine-text k u o),
+      sym (tree-text m t n (a .within) (a .stop)) ∙ (ap treeOf e ∙ tree-text k u o (b .within) (b .stop)),
+      ap (λ (s : Stopping). s .number) (sym (stop-is m t n (a .within) (a .stop)) ∙ (ap stopOf e ∙ stop-is k u o (b .within) (b .stop))),
     )
 
--- every such text within the limits of a whole log passes, and stands for its tree
-pub printed : (t : Tree) → Within t 0 → clocks t ≤ 2000000000 → turns t ≤ 1000000 → length (logText t (clocks t)) ≤ 60000
-    → (checkOf (logText t (clocks t)) ≡ passed t) × (treeOf (logText t (clocks t)) ≡ t)
-printed t w h k s =
-    let log = logText t (clocks t) in
-    let e : treeOf log ≡ t = tree-text t (clocks t) w h in
+-- every such text within the limits of a whole log passes, and stands for its machine and tree
+pub printed : (m : Bool) (t : Tree) → Within t 0 → clocks t ≤ 2000000000 → turns t ≤ 1000000 → length (logText m t (clocks t)) ≤ 60000
+    → (checkOf (logText m t (clocks t)) ≡ passed m t) × (treeOf (logText m t (clocks t)) ≡ t) × (machineOf (logText m t (clocks t)) ≡ m)
+printed m t w h k s =
+    let log = logText m t (clocks t) in
+    let e : treeOf log ≡ t = tree-text m t (clocks t) w h in
     let c : Clear log = record {
       short = s;
-      fine = judged-text t (clocks t) w h;
+      fine = judged-text m t (clocks t) w h;
       in-clocks = rw e h;
       in-turns = rw e k;
-      number = ap (λ (x : Stopping). x .number) (stop-is t (clocks t) w h) ∙ sym (ap clocks e);
+      number = ap (λ (x : Stopping). x .number) (stop-is m t (clocks t) w h) ∙ sym (ap clocks e);
     } in
-    (passes c ∙ ap passed e, e)
+    let i : machineOf log ≡ m = machine-text m t (clocks t) in
+    (passes c ∙ ap₂ passed i e, e, i)

@@ -5,6 +5,7 @@ use Prim.Native.Nat.{ℕ, _+_, _≤_, _<_}
 use native.Mathlib.Omega.{arith}
 use lib.ListN.{length, drop, length-append}
 use lib.Seq.{drop-at, take-at}
+use lib.Dec.{eqb}
 use Rattle.log_line.specs.declared.Line.{Line}
 use Rattle.log_line.specs.declared.Line.the-variants.{One, Loop, Done}
 use Rattle.log_line.specs.Said.{lineOf}
@@ -50,10 +51,11 @@ module _ (log pre rest : List ℕ) (i : ℕ) (l : Line) (p : Printable l) (long 
   -- reading there finds it
   pub read-text : (d : ℕ) → Goes d l → readAt log i ≡ Item l (i + length (lineText l))
   read-text d g =
+      let st = Among (eqb i 6) d in
       from-depth log i d l (i + length (lineText l))
-      (rw (standing-on i d z) (read-some (Among d) log i short inside
-      ∙ (ap (λ (x : List ℕ). taken i (nextLine log i) (spotOf (Among d) x)) bytes-are
-      ∙ (ap (taken i (nextLine log i)) (line-right (Among d) l (goes-may g) p) ∙ ap (λ (n : ℕ). Item l n) next-is))))
+      (rw (standing-on i d z) (read-some st log i short inside
+      ∙ (ap (λ (x : List ℕ). taken i (nextLine log i) (spotOf st x)) bytes-are
+      ∙ (ap (taken i (nextLine log i)) (line-right st l (goes-may (eqb i 6) g) p) ∙ ap (λ (n : ℕ). Item l n) next-is))))
 
   -- the log behind it
   behind : log ≡ (pre ++ lineText l) ++ rest

@@ -1,14 +1,19 @@
 -- What is written is read: the text of a tree within the limits stands for that tree, whatever stands before and behind it. Assumes nothing.
 use mathlib.Core.Path.{_≡_, refl, ap, sym, _∙_}
 use mathlib.Core.List.{List, [], _∷_, _++_, append-assoc, append-nil}
+use mathlib.Core.Bool.{Bool, true, false}
 use Prim.Native.Nat.{ℕ, suc, _+_, _-_}
 use native.Mathlib.Omega.{arith}
-use borrow.Author.Tests.{ne-eqb, lt-ltb}
+use borrow.Author.Tests.{eq-eqb, ne-eqb, lt-ltb}
 use lib.ListN.{length, length-append}
+use Rattle.bus.specs.declared.Access.the-variants.{Write, Read}
+use Rattle.text.specs.Key.{startsWith}
+use Rattle.text.proofs.KeyLaws.{starts-joined}
 use Rattle.log_line.specs.declared.Act.{Act}
+use Rattle.log_line.specs.declared.Act.the-variants.{Wait, Access}
 use Rattle.log_line.specs.declared.Line.{Line}
-use Rattle.log_line.specs.declared.Line.the-variants.{Header, One, Loop, Done, Stop}
-use Rattle.log_line.specs.Printed.{lineText, Printable, NoFeed, empty, byte}
+use Rattle.log_line.specs.declared.Line.the-variants.{Header, Machine, One, Loop, Done, Stop}
+use Rattle.log_line.specs.Printed.{actText, ended, lineText, Printable, NoFeed, empty, byte}
 use Rattle.log_line.proofs.LineLaws.{printed-read, one-line}
 use Rattle.log_spot.specs.declared.Stand.the-variants.{First, Among}
 use Rattle.log_spot.specs.declared.Found.{Found}
@@ -19,7 +24,8 @@ use Rattle.log_spot.specs.Begins.{keysOf}
 use Rattle.log_spot.proofs.FaultLaws.{line-right}
 use Rattle.log_spot.proofs.Standing.{Goes, act as acts-on, opens as opened-on, closes as closes-on, ends as ends-on, goes-may}
 use Rattle.log_judge.specs.Lines.{onto, linesOf, lineLen}
-use Rattle.log_judge.specs.Judge.{right, first, among, placed, verdict, leaves, behind, ending, unless, judge, judged}
+use Rattle.log_judge.specs.Judge.{right, first, second, among, placed, verdict, leaves, behind, ending, unless, judge, judged}
+use Rattle.log_judge.specs.Head.{headText, machineOf}
 use Rattle.log_judge.specs.Tree.{Tree, end, act, loop, text, logText, Within}
 use Rattle.log_judge.specs.Whole.{grow, blocks, innermost, treeOf, Stopping, stopHere, stopFrom, stopOf}
 
@@ -53,9 +59,14 @@ module _ (l : Line) (rest : List ℕ) (p : Printable l) where
 
   pub judge-line : (at d : ℕ) → Goes d l → judge (among d) at (linesOf (lineText l ++ rest)) ≡ judge (leaves d l) (at + length (lineText l)) (linesOf rest)
   unfolding judge verdict behind placed unless
-  judge-line at d g = rw (lines-text, line-right (Among d) l (goes-may g) p, printed-read l p)
+  judge-line at d g = rw (lines-text, line-right (Among false d) l (goes-may false g) p, printed-read l p)
 
-pub judge-head : (rest : List ℕ) (at : ℕ) → judge first at (linesOf (lineText Header ++ rest)) ≡ judge (among 0) (at + length (lineText Header)) (linesOf rest)
+  -- as the second line it leaves what it leaves further down
+  pub judge-second : (at : ℕ) → allowed (keysOf (Among true 0)) l ≡ true → judge second at (linesOf (lineText l ++ rest)) ≡ judge (leaves 0 l) (at + length (lineText l)) (linesOf rest)
+  unfolding judge verdict behind placed unless
+  judge-second at a = rw (lines-text, line-right (Among true 0) l a p, printed-read l p)
+
+pub judge-head : (rest : List ℕ) (at : ℕ) → judge first at (linesOf (lineText Header ++ rest)) ≡ judge second (at + length (lineText Header)) (linesOf rest)
 unfolding judge verdict behind placed unless allowed keysOf
 judge-head rest at = rw (lines-text Header rest tt, line-right First Header refl tt)
 
@@ -112,6 +123,18 @@ judge-text (loop n b t) at d rest w =
     (judge-text t k d rest (w .3)
     ∙ ap (λ (i : ℕ). judge (among d) i (linesOf rest)) (let h = loop-long n b t in omega arith)))))
 
+-- the first of them, or the `stop` behind none, may be the second line of a log
+second-goes : (l : Line) (rest : List ℕ) (at : ℕ) → Printable l → Goes 0 l
+    → judge second at (linesOf (lineText l ++ rest)) ≡ judge (among 0) at (linesOf (lineText l ++ rest))
+second-goes l rest at p g = judge-second l rest p at (goes-may true g) ∙ sym (judge-line l rest p at 0 g)
+
+pub second-text : (t : Tree) (n at : ℕ) → Within t 0 → Printable (Stop n)
+    → judge second at (linesOf (text t ++ lineText (Stop n))) ≡ judge (among 0) at (linesOf (text t ++ lineText (Stop n)))
+unfolding text
+second-text end n at w p = rw (← append-nil (lineText (Stop n))) (second-goes (Stop n) [] at p (ends-on refl))
+second-text (act a t) n at w p = rw (act-text a t (lineText (Stop n))) (second-goes (One a) _ at (w .0) acts-on)
+second-text (loop m b t) n at w p = rw (loop-text m b t (lineText (Stop n))) (second-goes (Loop m) _ at (w .0) (opened-on (w .1)))
+
 -- they stand for that block, in front of the block behind them
 pub blocks-text : (t u : Tree) (us : List Tree) (d : ℕ) (rest : List ℕ) → Within t d → blocks (linesOf rest) ≡ u ∷ us → blocks (linesOf (text t ++ rest)) ≡ joined t u ∷ us
 unfolding text joined grow
@@ -151,12 +174,59 @@ stop-text (loop n b t) at d rest w =
 abbrev stopping : ℕ → ℕ → Stopping
 stopping i n = record { place = i; number = n }
 
-module _ (t : Tree) (n : ℕ) (w : Within t 0) (s : Printable (Stop n)) where
-  pub judged-text : judged (logText t n) ≡ right
-  unfolding judged logText leaves linesOf judge ending
+-- the head of a log: its lines, and that they are in front of no block and no `stop`
+
+head-judged : (m : Bool) (rest : List ℕ) → (judge second (length (headText false)) (linesOf rest) ≡ judge (among 0) (length (headText false)) (linesOf rest))
+    → judged (headText m ++ rest) ≡ judge (among 0) (length (headText m)) (linesOf rest)
+unfolding judged allowed keysOf leaves
+head-judged true rest e =
+    ap (λ (s : List ℕ). judge first 0 (linesOf s)) (append-assoc (lineText Header) (lineText Machine) rest)
+    ∙ (judge-head (lineText Machine ++ rest) 0
+    ∙ (judge-second Machine rest tt _ refl
+    ∙ ap (λ (i : ℕ). judge (among 0) i (linesOf rest)) (let h = length-append (lineText Header) (lineText Machine) in omega arith)))
+head-judged false rest e = judge-head rest 0 ∙ (ap (λ (i : ℕ). judge second i (linesOf rest)) (omega arith) ∙ e)
+
+head-blocks : (m : Bool) (rest : List ℕ) → blocks (linesOf (headText m ++ rest)) ≡ blocks (linesOf rest)
+unfolding grow
+head-blocks true rest =
+    ap (λ (s : List ℕ). blocks (linesOf s)) (append-assoc (lineText Header) (lineText Machine) rest)
+    ∙ (blocks-line Header (lineText Machine ++ rest) tt ∙ blocks-line Machine rest tt)
+head-blocks false rest = blocks-line Header rest tt
+
+head-stop : (m : Bool) (rest : List ℕ) → stopFrom 0 (linesOf (headText m ++ rest)) ≡ stopFrom (length (headText m)) (linesOf rest)
+unfolding stopHere
+head-stop true rest =
+    ap (λ (s : List ℕ). stopFrom 0 (linesOf s)) (append-assoc (lineText Header) (lineText Machine) rest)
+    ∙ (stop-line Header (lineText Machine ++ rest) tt 0
+    ∙ (stop-line Machine rest tt _
+    ∙ ap (λ (i : ℕ). stopFrom i (linesOf rest)) (let h = length-append (lineText Header) (lineText Machine) in omega arith)))
+head-stop false rest = stop-line Header rest tt 0 ∙ ap (λ (i : ℕ). stopFrom i (linesOf rest)) (omega arith)
+
+-- no line of a block, and no `stop`, is `machine=pal`
+turns-machine : (t : Tree) (n : ℕ) → startsWith (lineText Machine) (text t ++ lineText (Stop n)) ≡ false
+unfolding startsWith lineText actText ended text
+turns-machine end n = refl
+turns-machine (act (Wait k) t) n = refl
+turns-machine (act (Access (Write r v)) t) n = refl
+turns-machine (act (Access Read) t) n = refl
+turns-machine (loop k b t) n = refl
+
+starts-behind : (k j s : List ℕ) → startsWith (k ++ j) (k ++ s) ≡ startsWith j s
+unfolding startsWith
+starts-behind [] j s = refl
+starts-behind (c ∷ k) j s = rw (eq-eqb c c refl) (starts-behind k j s)
+
+pub machine-text : (m : Bool) (t : Tree) (n : ℕ) → machineOf (logText m t n) ≡ m
+unfolding machineOf logText
+machine-text true t n = starts-joined (headText true) (text t ++ lineText (Stop n))
+machine-text false t n = starts-behind (lineText Header) (lineText Machine) (text t ++ lineText (Stop n)) ∙ turns-machine t n
+
+module _ (m : Bool) (t : Tree) (n : ℕ) (w : Within t 0) (s : Printable (Stop n)) where
+  pub judged-text : judged (logText m t n) ≡ right
+  unfolding logText leaves linesOf judge ending
   judged-text =
-      let at : ℕ = 0 + length (lineText Header) in
-      judge-head (text t ++ lineText (Stop n)) 0
+      let at : ℕ = length (headText m) in
+      head-judged m (text t ++ lineText (Stop n)) (second-text t n _ w s)
       ∙ (judge-text t at 0 (lineText (Stop n)) w
       ∙ (ap (λ (r : List ℕ). judge (among 0) (at + length (text t)) (linesOf r)) (sym (append-nil (lineText (Stop n))))
       ∙ judge-line (Stop n) [] s (at + length (text t)) 0 (ends-on refl)))
@@ -166,19 +236,19 @@ module _ (t : Tree) (n : ℕ) (w : Within t 0) (s : Printable (Stop n)) where
   unfolding blocks linesOf grow
   last-blocks = ap (λ (r : List ℕ). blocks (linesOf r)) (sym (append-nil (lineText (Stop n)))) ∙ blocks-line (Stop n) [] s
 
-  pub tree-text : treeOf (logText t n) ≡ t
-  unfolding treeOf logText innermost grow
+  pub tree-text : treeOf (logText m t n) ≡ t
+  unfolding treeOf logText innermost
   tree-text =
       ap innermost
-      (blocks-line Header (text t ++ lineText (Stop n)) tt
+      (head-blocks m (text t ++ lineText (Stop n))
       ∙ blocks-text t end [] 0 (lineText (Stop n)) w last-blocks)
       ∙ joined-end t
 
-  pub stop-is : stopOf (logText t n) ≡ record { place = length (lineText Header) + length (text t); number = n }
+  pub stop-is : stopOf (logText m t n) ≡ record { place = length (headText m) + length (text t); number = n }
   unfolding stopOf logText stopHere
   stop-is =
-      let at : ℕ = 0 + length (lineText Header) in
-      stop-line Header (text t ++ lineText (Stop n)) tt 0
+      let at : ℕ = length (headText m) in
+      head-stop m (text t ++ lineText (Stop n))
       ∙ (stop-text t at 0 (lineText (Stop n)) w
       ∙ (ap (λ (r : List ℕ). stopFrom (at + length (text t)) (linesOf r)) (sym (append-nil (lineText (Stop n))))
-      ∙ (stop-line (Stop n) [] s (at + length (text t)) ∙ ap (λ (i : ℕ). stopping i n) (omega arith))))
+      ∙ stop-line (Stop n) [] s (at + length (text t))))

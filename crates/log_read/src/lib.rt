@@ -5,7 +5,8 @@ use log_spot::Stand;
 ghost use mathlib.Core.Path.{_≡_};
 ghost use Prim.Native.Nat.{_+_, _≤_};
 ghost use lib.ListN.{length, drop};
-ghost use Rattle.log_judge.specs.Lines.{lineLen, startOf};
+ghost use Rattle.log_judge.specs.Lines.{lineLen};
+ghost use Rattle.log_judge.specs.Head.{machineOf, startOf};
 ghost use Rattle.log_judge.specs.Reading.{numberOf, placeOf, taken, Reaches, standing, readIn, readAt};
 
 // The number of a reading: 0, or the refusal's.
@@ -43,11 +44,22 @@ fn line_end(log: &[u8], at: usize) -> usize
     i
 }
 
-// Where the lines behind `log=1` begin.
+// Whether a log is for a PAL machine.
+pub fn is_pal(log: &[u8]) -> bool
+    ensures { λ r. ⌜ r ≡ machineOf (now (log .entry)) ⌝ }
+{
+    text::starts(log, b"log=1\nmachine=pal\n")
+}
+
+// Where the lines behind the log's head begin.
 pub fn start(log: &[u8]) -> usize
     ensures { λ r. ⌜ r ≡ startOf (now (log .entry)) ⌝ }
 {
-    line_end(log, 0)
+    let second = line_end(log, 0);
+    if is_pal(log) {
+        return line_end(log, second);
+    }
+    second
 }
 
 // A line that is right is an item; the place of a fault is behind the line's own.
@@ -82,7 +94,7 @@ pub fn read(log: &[u8], at: usize) -> Reading
     if at == 0 {
         return read_in(log, at, Stand::First);
     }
-    read_in(log, at, Stand::Alone)
+    read_in(log, at, Stand::Alone(at == 6))
 }
 
 // How a line stands that begins at a place, with so many loops open.
@@ -92,7 +104,7 @@ fn stand_of(at: usize, depth: u64) -> Stand
     if at == 0 {
         Stand::First
     } else {
-        Stand::Among(depth)
+        Stand::Among(at == 6, depth)
     }
 }
 

@@ -11,7 +11,7 @@ use Rattle.text.specs.Ascii.{bytes}
 use Rattle.text.specs.Decimal.{decimalText}
 use Rattle.log_line.specs.declared.Act.the-variants.{Wait, Access}
 use Rattle.log_line.specs.declared.Line.{Line}
-use Rattle.log_line.specs.declared.Line.the-variants.{Header, One, Loop, Done, Stop, Bad}
+use Rattle.log_line.specs.declared.Line.the-variants.{Header, Machine, One, Loop, Done, Stop, Bad}
 use Rattle.log_line.specs.Printed.{actText, ended, lineText, Printable}
 use Rattle.log_spot.specs.declared.Keys.{Keys}
 use Rattle.log_spot.specs.Begins.{along, nothing, number, any, begins}
@@ -96,6 +96,8 @@ module _ (k : Keys) (s : List ℕ) where
       any-each (Fronts k s) _ _
       (λ e. fixed-sound (ended (bytes "log=1")) Header refl refl tt (both-left (k .log) _ e) (both-right (k .log) _ e))
       (any-each (Fronts k s) _ _
+      (λ e. fixed-sound (ended (bytes "machine=pal")) Machine refl refl tt (both-left (k .machine) _ e) (both-right (k .machine) _ e))
+      (any-each (Fronts k s) _ _
       (λ e. keyed-sound (bytes "wait=") 1 1000000 wait-wide (λ n. One (Wait n)) refl (λ n. refl) (λ n a b. (a, b)) (λ n. both-left (k .acts) _ e) (both-right (k .acts) _ e))
       (any-each (Fronts k s) _ _
       (λ e. write-sound (both-left (k .acts) _ e) (both-right (k .acts) _ e))
@@ -107,7 +109,7 @@ module _ (k : Keys) (s : List ℕ) where
       (λ e. fixed-sound (ended (bytes "done=loop")) Done refl refl tt (both-left (k .done) _ e) (both-right (k .done) _ e))
       (any-each (Fronts k s) _ _
       (λ e. keyed-sound (bytes "stop=") 0 2000000000 stop-wide Stop refl (λ n. refl) (λ n a b. b) (λ n. both-left (k .stop) _ e) (both-right (k .stop) _ e))
-      (any-none (Fronts k s))))))))
+      (any-none (Fronts k s)))))))))
 
   -- the other way round
 
@@ -125,23 +127,24 @@ module _ (k : Keys) (s : List ℕ) where
   complete : (l : Line) → allowed k l ≡ true → RightForm l → (rest : List ℕ) → s ++ rest ≡ lineText l → begins k s ≡ true
   unfolding begins plain lineText actText ended allowed
   complete Header a r rest e = any-here _ _ (both-true _ _ a (fixed-complete (ended (bytes "log=1")) rest refl e))
+  complete Machine a r rest e = any-later _ _ (any-here _ _ (both-true _ _ a (fixed-complete (ended (bytes "machine=pal")) rest refl e)))
   complete (One (Wait n)) a r rest e =
-      any-later _ _ (any-here _ _ (both-true _ _ a (keyed-complete (bytes "wait=") rest 1 1000000 n wait-wide refl (r .0) (r .1) e)))
+      any-later _ _ (any-later _ _ (any-here _ _ (both-true _ _ a (keyed-complete (bytes "wait=") rest 1 1000000 n wait-wide refl (r .0) (r .1) e))))
   complete (One (Access (Write x v))) a r rest e =
-      any-later _ _ (any-later _ _ (any-here _ _ (both-true _ _ a
+      any-later _ _ (any-later _ _ (any-later _ _ (any-here _ _ (both-true _ _ a
       (onward-along (ended (bytes "write=####:##")) nothing Nothing onward-nothing .complete s rest
-      (subst (Met (ended (bytes "write=####:##")) Nothing) (sym e) (text-write x v))))))
+      (subst (Met (ended (bytes "write=####:##")) Nothing) (sym e) (text-write x v)))))))
   complete (One (Access Read)) a r rest e =
-      any-later _ _ (any-later _ _ (any-later _ _ (any-here _ _ (both-true _ _ a (fixed-complete (ended (bytes "read=4015")) rest refl e)))))
+      any-later _ _ (any-later _ _ (any-later _ _ (any-later _ _ (any-here _ _ (both-true _ _ a (fixed-complete (ended (bytes "read=4015")) rest refl e))))))
   complete (Loop n) a r rest e =
-      any-later _ _ (any-later _ _ (any-later _ _ (any-later _ _ (any-here _ _
-      (both-true _ _ a (keyed-complete (bytes "loop=") rest 2 255 n loop-wide refl (r .0) (r .1) e))))))
-  complete Done a r rest e =
       any-later _ _ (any-later _ _ (any-later _ _ (any-later _ _ (any-later _ _ (any-here _ _
-      (both-true _ _ a (fixed-complete (ended (bytes "done=loop")) rest refl e)))))))
-  complete (Stop n) a r rest e =
+      (both-true _ _ a (keyed-complete (bytes "loop=") rest 2 255 n loop-wide refl (r .0) (r .1) e)))))))
+  complete Done a r rest e =
       any-later _ _ (any-later _ _ (any-later _ _ (any-later _ _ (any-later _ _ (any-later _ _ (any-here _ _
-      (both-true _ _ a (keyed-complete (bytes "stop=") rest 0 2000000000 n stop-wide refl (omega arith) r e))))))))
+      (both-true _ _ a (fixed-complete (ended (bytes "done=loop")) rest refl e))))))))
+  complete (Stop n) a r rest e =
+      any-later _ _ (any-later _ _ (any-later _ _ (any-later _ _ (any-later _ _ (any-later _ _ (any-later _ _ (any-here _ _
+      (both-true _ _ a (keyed-complete (bytes "stop=") rest 0 2000000000 n stop-wide refl (omega arith) r e)))))))))
   complete (Bad n) a r rest e = absurd r
 
   pub begins-complete : Fronts k s → begins k s ≡ true

@@ -12,7 +12,7 @@ use lib.Dec.{eqb, ltb}
 use Rattle.arith.specs.Pick.{pick, both, either}
 use Rattle.arith.proofs.PickLaws.{pick-each, both-left, both-right}
 use Rattle.log_line.specs.declared.Line.{Line}
-use Rattle.log_line.specs.declared.Line.the-variants.{Header, One, Loop, Done, Stop, Bad}
+use Rattle.log_line.specs.declared.Line.the-variants.{Header, Machine, One, Loop, Done, Stop, Bad}
 use Rattle.log_line.specs.Said.{lineOf}
 use Rattle.log_line.specs.Printed.{ended, lineText, Printable}
 use Rattle.log_line.proofs.BodyLaws.{line-other}
@@ -73,6 +73,7 @@ neither false n e = zero-one (cc)
 pub starts : (k : Keys) (l : Line) (n : ℕ) → wholeOf k l ≡ Start n → Starts k l n
 unfolding wholeOf
 starts k Header n e = absurd (neither (k .log) n e)
+starts k Machine n e = absurd (neither (k .machine) n e)
 starts k (One a) n e = absurd (neither (k .acts) n e)
 starts k (Loop m) n e = go (k .loops) (k .log) refl refl e
   where
@@ -120,6 +121,11 @@ fair k Header e = go (k .log) refl e
     go : (b : Bool) → k .log ≡ b → pick b Fine Other ≡ Fine → Fair k Header
     go true q e = record { may = q; sound = λ n z. zero-one (cc) }
     go false q e = zero-one (cc)
+fair k Machine e = go (k .machine) refl e
+  where
+    go : (b : Bool) → k .machine ≡ b → pick b Fine Other ≡ Fine → Fair k Machine
+    go true q e = record { may = q; sound = λ n z. zero-one (cc) }
+    go false q e = zero-one (cc)
 fair k (One a) e = go (k .acts) refl e
   where
     go : (b : Bool) → k .acts ≡ b → pick b Fine Other ≡ Fine → Fair k (One a)
@@ -152,6 +158,7 @@ fair k (Bad m) e = go (both (eqb m 4) (k .acts)) e
 pub may-fine : (k : Keys) (l : Line) → allowed k l ≡ true → wholeOf k l ≡ Fine
 unfolding wholeOf allowed
 may-fine k Header e = rw e
+may-fine k Machine e = rw e
 may-fine k (One a) e = rw e
 may-fine k (Loop n) e = rw e
 may-fine k Done e = rw e
@@ -196,8 +203,10 @@ pub record FirstByte (k : Keys) (s : List ℕ) (i : ℕ) : Type 0 where
 begins-none : (st : Stand) → begins (keysOf st) [] ≡ true
 unfolding keysOf begins any along ended
 begins-none First = refl
-begins-none (Among d) = refl
-begins-none Alone = refl
+begins-none (Among true d) = refl
+begins-none (Among false d) = refl
+begins-none (Alone true) = refl
+begins-none (Alone false) = refl
 
 pub first-byte : (st : Stand) (s : List ℕ) → (reach (begins (keysOf st)) s ≡ length s → ⊥) → FirstByte (keysOf st) s (reach (begins (keysOf st)) s)
 first-byte st s h =
@@ -308,36 +317,37 @@ pub record Four (k : Keys) (s : List ℕ) (i : ℕ) : Type 0 where
 
 pub record Seven (st : Stand) (s : List ℕ) (i : ℕ) : Type 0 where
   pub place : i ≡ 0
+  pub second : Bool
   pub depth : ℕ
-  pub stands : st ≡ Among depth
+  pub stands : st ≡ Among second depth
   pub full : 8 ≤ depth
   pub turns : ℕ
   pub loops : lineOf s ≡ Loop turns
 
 pub data Eight (st : Stand) (s : List ℕ) (i : ℕ) : Type 0 where
-  done : i ≡ 0 → st ≡ Among 0 → lineOf s ≡ Done → Eight st s i
-  stop : i ≡ 0 → (d n : ℕ) → st ≡ Among d → 0 < d → lineOf s ≡ Stop n → Eight st s i
+  done : i ≡ 0 → (second : Bool) → st ≡ Among second 0 → lineOf s ≡ Done → Eight st s i
+  stop : i ≡ 0 → (second : Bool) (d n : ℕ) → st ≡ Among second d → 0 < d → lineOf s ≡ Stop n → Eight st s i
 
 ninth : (st : Stand) (s : List ℕ) (n : ℕ) → lineOf s ≡ Loop n → keysOf st .loops ≡ false → keysOf st .log ≡ false → Seven st s 0
 unfolding keysOf
 ninth First s n l a b = zero-one (cc)
-ninth (Among d) s n l a b = record { place = refl; depth = d; stands = refl; full = ltb-false d 8 a; turns = n; loops = l }
-ninth Alone s n l a b = zero-one (cc)
+ninth (Among m d) s n l a b = record { place = refl; second = m; depth = d; stands = refl; full = ltb-false d 8 a; turns = n; loops = l }
+ninth (Alone m) s n l a b = zero-one (cc)
 
 no-loop : (st : Stand) (s : List ℕ) → lineOf s ≡ Done → keysOf st .done ≡ false → keysOf st .log ≡ false → Eight st s 0
 unfolding keysOf
 no-loop First s l a b = zero-one (cc)
-no-loop (Among d) s l a b =
+no-loop (Among m d) s l a b =
     let z = ltb-false 0 d a in
     let q : d ≡ 0 = omega arith in
-    done refl (ap Among q) l
-no-loop Alone s l a b = zero-one (cc)
+    done refl m (ap (Among m) q) l
+no-loop (Alone m) s l a b = zero-one (cc)
 
 open-loop : (st : Stand) (s : List ℕ) (n : ℕ) → lineOf s ≡ Stop n → keysOf st .stop ≡ false → keysOf st .log ≡ false → Eight st s 0
 unfolding keysOf
 open-loop First s n l a b = zero-one (cc)
-open-loop (Among d) s n l a b = stop refl d n refl (omega (arith, eqb-false d 0 a)) l
-open-loop Alone s n l a b = zero-one (cc)
+open-loop (Among m d) s n l a b = stop refl m d n refl (omega (arith, eqb-false d 0 a)) l
+open-loop (Alone m) s n l a b = zero-one (cc)
 
 module _ (st : Stand) (s : List ℕ) (i : ℕ) where
   -- an answer by a number up to 8 is by the whole line
@@ -394,17 +404,17 @@ module _ (s : List ℕ) where
   unfolding spotOf spotted wholeOf
   line-four st a e = rw (e, a)
 
-  pub line-seven : (d n : ℕ) → 8 ≤ d → lineOf s ≡ Loop n → spotOf (Among d) s ≡ Wrong 7 0
+  pub line-seven : (m : Bool) (d n : ℕ) → 8 ≤ d → lineOf s ≡ Loop n → spotOf (Among m d) s ≡ Wrong 7 0
   unfolding spotOf spotted wholeOf keysOf
-  line-seven d n h e = rw (e, le-ltb d 8 h)
+  line-seven m d n h e = rw (e, le-ltb d 8 h)
 
-  pub line-done : lineOf s ≡ Done → spotOf (Among 0) s ≡ Wrong 8 0
+  pub line-done : (m : Bool) → lineOf s ≡ Done → spotOf (Among m 0) s ≡ Wrong 8 0
   unfolding spotOf spotted wholeOf keysOf
-  line-done e = rw e
+  line-done m e = rw e
 
-  pub line-stop : (d n : ℕ) → 0 < d → lineOf s ≡ Stop n → spotOf (Among d) s ≡ Wrong 8 0
+  pub line-stop : (m : Bool) (d n : ℕ) → 0 < d → lineOf s ≡ Stop n → spotOf (Among m d) s ≡ Wrong 8 0
   unfolding spotOf spotted wholeOf keysOf
-  line-stop d n h e = rw (e, ne-eqb d 0 (λ z. more z))
+  line-stop m d n h e = rw (e, ne-eqb d 0 (λ z. more z))
     where
       more : d ≡ 0 → ⊥
       more z = omega arith

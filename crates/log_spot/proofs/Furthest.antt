@@ -35,6 +35,7 @@ module _ (b : Bool) where
 abbrev tests : Keys → List (List ℕ → Bool)
 tests k =
     (λ t. both (k .log) (along (ended (bytes "log=1")) nothing t))
+    ∷ (λ t. both (k .machine) (along (ended (bytes "machine=pal")) nothing t))
     ∷ (λ t. both (k .acts) (along (bytes "wait=") (number 1 1000000) t))
     ∷ (λ t. both (k .acts) (along (ended (bytes "write=####:##")) nothing t))
     ∷ (λ t. both (k .acts) (along (ended (bytes "read=4015")) nothing t))
@@ -46,12 +47,13 @@ tests k =
 each : (k : Keys) → Each (tests k)
 each k =
     form-also (k .log) (ended (bytes "log=1"))
+    (form-also (k .machine) (ended (bytes "machine=pal"))
     (keyed-also (k .acts) (bytes "wait=") 1 1000000 wait-wide
     (form-also (k .acts) (ended (bytes "write=####:##"))
     (form-also (k .acts) (ended (bytes "read=4015"))
     (keyed-also (k .loops) (bytes "loop=") 2 255 loop-wide
     (form-also (k .done) (ended (bytes "done=loop"))
-    (keyed-also (k .stop) (bytes "stop=") 0 2000000000 stop-wide end))))))
+    (keyed-also (k .stop) (bytes "stop=") 0 2000000000 stop-wide end)))))))
 
 begins-tests : (k : Keys) (t : List ℕ) → begins k t ≡ anyOf (tests k) t
 unfolding begins any anyOf
@@ -63,23 +65,25 @@ max-none n = omega arith
 pub reach-begins : (k : Keys) (s : List ℕ)
     → reach (begins k) s
     ≡ max (pick (k .log) (common (ended (bytes "log=1")) s) 0)
+    (max (pick (k .machine) (common (ended (bytes "machine=pal")) s) 0)
     (max (pick (k .acts) (reach (along (bytes "wait=") (number 1 1000000)) s) 0)
     (max (pick (k .acts) (common (ended (bytes "write=####:##")) s) 0)
     (max (pick (k .acts) (common (ended (bytes "read=4015")) s) 0)
     (max (pick (k .loops) (reach (along (bytes "loop=") (number 2 255)) s) 0)
     (max (pick (k .done) (common (ended (bytes "done=loop")) s) 0)
-    (pick (k .stop) (reach (along (bytes "stop=") (number 0 2000000000)) s) 0))))))
+    (pick (k .stop) (reach (along (bytes "stop=") (number 0 2000000000)) s) 0)))))))
 unfolding most
 reach-begins k s =
     reach-same (begins k) (anyOf (tests k)) s (begins-tests k)
     ∙ (reach-any (each k) s
     ∙ ap₂ max (form-reach (k .log) (ended (bytes "log=1")) s)
+    (ap₂ max (form-reach (k .machine) (ended (bytes "machine=pal")) s)
     (ap₂ max (reach-both (k .acts) (along (bytes "wait=") (number 1 1000000)) s)
     (ap₂ max (form-reach (k .acts) (ended (bytes "write=####:##")) s)
     (ap₂ max (form-reach (k .acts) (ended (bytes "read=4015")) s)
     (ap₂ max (reach-both (k .loops) (along (bytes "loop=") (number 2 255)) s)
     (ap₂ max (form-reach (k .done) (ended (bytes "done=loop")) s)
-    (max-none _ ∙ reach-both (k .stop) (along (bytes "stop=") (number 0 2000000000)) s)))))))
+    (max-none _ ∙ reach-both (k .stop) (along (bytes "stop=") (number 0 2000000000)) s))))))))
 
 -- `begins` holds of the beginnings of what it holds of
 pub begins-closed : (k : Keys) → Closed (begins k)

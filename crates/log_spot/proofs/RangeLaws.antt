@@ -19,7 +19,7 @@ use Rattle.text.proofs.KeyLaws.{starts-split, starts-length}
 use Rattle.text.proofs.DecimalLaws.{decimal-sound}
 use Rattle.log_line.specs.declared.Act.the-variants.{Wait, Access}
 use Rattle.log_line.specs.declared.Line.{Line}
-use Rattle.log_line.specs.declared.Line.the-variants.{Header, One, Loop, Done, Stop, Bad}
+use Rattle.log_line.specs.declared.Line.the-variants.{Header, Machine, One, Loop, Done, Stop, Bad}
 use Rattle.log_line.specs.Said.{lineOf}
 use Rattle.log_line.specs.Printed.{actText, ended, lineText}
 use Rattle.log_spot.specs.declared.Stand.{Stand}
@@ -62,6 +62,7 @@ module _ (k : Keys) where
   wait-only : (l : Line) (x : List ℕ) → bytes "wait=" ++ x ≡ lineText l → allowed k l ≡ true → k .acts ≡ true
   unfolding lineText ended allowed
   wait-only Header x e a = absurd (let z : _≡_ {A = ℕ} 119 108 = cc in omega arith)
+  wait-only Machine x e a = absurd (let z : _≡_ {A = ℕ} 119 109 = cc in omega arith)
   wait-only (One b) x e a = a
   wait-only (Loop n) x e a = absurd (let z : _≡_ {A = ℕ} 119 108 = cc in omega arith)
   wait-only Done x e a = absurd (let z : _≡_ {A = ℕ} 119 100 = cc in omega arith)
@@ -71,6 +72,7 @@ module _ (k : Keys) where
   loop-only : (l : Line) (x : List ℕ) → bytes "loop=" ++ x ≡ lineText l → allowed k l ≡ true → k .loops ≡ true
   unfolding lineText actText ended allowed
   loop-only Header x e a = absurd (let z : _≡_ {A = ℕ} 111 103 = cc in omega arith)
+  loop-only Machine x e a = absurd (let z : _≡_ {A = ℕ} 108 109 = cc in omega arith)
   loop-only (One (Wait n)) x e a = absurd (let z : _≡_ {A = ℕ} 108 119 = cc in omega arith)
   loop-only (One (Access (Write r v))) x e a = absurd (let z : _≡_ {A = ℕ} 108 119 = cc in omega arith)
   loop-only (One (Access Read)) x e a = absurd (let z : _≡_ {A = ℕ} 108 114 = cc in omega arith)
@@ -82,6 +84,7 @@ module _ (k : Keys) where
   stop-only : (l : Line) (x : List ℕ) → bytes "stop=" ++ x ≡ lineText l → allowed k l ≡ true → k .stop ≡ true
   unfolding lineText actText ended allowed
   stop-only Header x e a = absurd (let z : _≡_ {A = ℕ} 115 108 = cc in omega arith)
+  stop-only Machine x e a = absurd (let z : _≡_ {A = ℕ} 115 109 = cc in omega arith)
   stop-only (One (Wait n)) x e a = absurd (let z : _≡_ {A = ℕ} 115 119 = cc in omega arith)
   stop-only (One (Access (Write r v))) x e a = absurd (let z : _≡_ {A = ℕ} 115 119 = cc in omega arith)
   stop-only (One (Access Read)) x e a = absurd (let z : _≡_ {A = ℕ} 115 114 = cc in omega arith)

@@ -8,7 +8,7 @@ use borrow.Author.Tests.{ltb-true, eqb-true, lt-ltb, eq-eqb}
 use lib.ListN.{length}
 use Rattle.log_line.specs.declared.Act.{Act}
 use Rattle.log_line.specs.declared.Line.{Line}
-use Rattle.log_line.specs.declared.Line.the-variants.{Header, One, Loop, Done, Stop, Bad}
+use Rattle.log_line.specs.declared.Line.the-variants.{Header, Machine, One, Loop, Done, Stop, Bad}
 use Rattle.log_line.specs.Said.{lineOf}
 use Rattle.log_spot.specs.declared.Stand.{Stand}
 use Rattle.log_spot.specs.declared.Stand.the-variants.{First, Among, Alone}
@@ -52,28 +52,40 @@ pub data Goes (d : ℕ) : Line → Type 0 where
   closes : 0 < d → Goes d Done
   ends : {n : ℕ} → d ≡ 0 → Goes d (Stop n)
 
-goes-by : (d : ℕ) (l : Line) → allowed (keysOf (Among d)) l ≡ true → Goes d l
-unfolding keysOf allowed
-goes-by d Header a = absurd (false≢true a)
-goes-by d (One x) a = act
-goes-by d (Loop n) a = opens (ltb-true d 8 a)
-goes-by d Done a = closes (ltb-true 0 d a)
-goes-by d (Stop n) a = ends (eqb-true d 0 a)
-goes-by d (Bad n) a = absurd (false≢true a)
+-- behind the first line: the machine, as the second; or one of those
+pub data Lets (second : Bool) (d : ℕ) : Line → Type 0 where
+  pal : second ≡ true → Lets second d Machine
+  turn : {l : Line} → Goes d l → Lets second d l
 
-pub goes : (d : ℕ) (s : List ℕ) (l : Line) → spotOf (Among d) s ≡ Right l → Goes d l
-goes d s l e = goes-by d l (told (Among d) s l e .may)
-
-pub goes-may : {d : ℕ} {l : Line} → Goes d l → allowed (keysOf (Among d)) l ≡ true
+lets-by : (m : Bool) (d : ℕ) (l : Line) → allowed (keysOf (Among m d)) l ≡ true → Lets m d l
 unfolding keysOf allowed
-goes-may act = refl
-goes-may {d} (opens h) = lt-ltb d 8 h
-goes-may {d} (closes h) = lt-ltb 0 d h
-goes-may {d} (ends h) = eq-eqb d 0 h
+lets-by m d Header a = absurd (false≢true a)
+lets-by m d Machine a = pal a
+lets-by m d (One x) a = turn act
+lets-by m d (Loop n) a = turn (opens (ltb-true d 8 a))
+lets-by m d Done a = turn (closes (ltb-true 0 d a))
+lets-by m d (Stop n) a = turn (ends (eqb-true d 0 a))
+lets-by m d (Bad n) a = absurd (false≢true a)
+
+pub lets : (m : Bool) (d : ℕ) (s : List ℕ) (l : Line) → spotOf (Among m d) s ≡ Right l → Lets m d l
+lets m d s l e = lets-by m d l (told (Among m d) s l e .may)
+
+-- `machine=pal` is right as the second line only
+pub second-only : (d : ℕ) (s : List ℕ) → spotOf (Among false d) s ≡ Right Machine → ⊥
+unfolding keysOf allowed
+second-only d s e = false≢true (told (Among false d) s Machine e .may)
+
+pub goes-may : (m : Bool) {d : ℕ} {l : Line} → Goes d l → allowed (keysOf (Among m d)) l ≡ true
+unfolding keysOf allowed
+goes-may m act = refl
+goes-may m {d} (opens h) = lt-ltb d 8 h
+goes-may m {d} (closes h) = lt-ltb 0 d h
+goes-may m {d} (ends h) = eq-eqb d 0 h
 
 first-by : (l : Line) → allowed (keysOf First) l ≡ true → l ≡ Header
 unfolding keysOf allowed
 first-by Header a = refl
+first-by Machine a = absurd (false≢true a)
 first-by (One x) a = absurd (false≢true a)
 first-by (Loop n) a = absurd (false≢true a)
 first-by Done a = absurd (false≢true a)
@@ -83,16 +95,17 @@ first-by (Bad n) a = absurd (false≢true a)
 pub first-header : (s : List ℕ) (l : Line) → spotOf First s ≡ Right l → l ≡ Header
 first-header s l e = first-by l (told First s l e .may)
 
-alone-by : (d : ℕ) (l : Line) → Goes d l → allowed (keysOf Alone) l ≡ true
+alone-by : (m : Bool) (d : ℕ) (l : Line) → Lets m d l → allowed (keysOf (Alone m)) l ≡ true
 unfolding keysOf allowed
-alone-by d l act = refl
-alone-by d l (opens h) = refl
-alone-by d l (closes h) = refl
-alone-by d l (ends h) = refl
+alone-by m d l (pal h) = h
+alone-by m d l (turn act) = refl
+alone-by m d l (turn (opens h)) = refl
+alone-by m d l (turn (closes h)) = refl
+alone-by m d l (turn (ends h)) = refl
 
 -- what is right at some depth is right where none is known
-pub alone : (d : ℕ) (s : List ℕ) (l : Line) → spotOf (Among d) s ≡ Right l → spotOf Alone s ≡ Right l
-alone d s l e = tell Alone s l (told (Among d) s l e .says) (alone-by d l (goes d s l e))
+pub alone : (m : Bool) (d : ℕ) (s : List ℕ) (l : Line) → spotOf (Among m d) s ≡ Right l → spotOf (Alone m) s ≡ Right l
+alone m d s l e = tell (Alone m) s l (told (Among m d) s l e .says) (alone-by m d l (lets m d s l e))
 
 -- a fault's number and byte are within bounds
 

@@ -24,7 +24,7 @@ use Rattle.text.proofs.HexLaws.{hex-complete, hex-sound}
 use Rattle.text.proofs.KeyLaws.{starts-split}
 use Rattle.log_line.specs.declared.Act.the-variants.{Wait, Access}
 use Rattle.log_line.specs.declared.Line.{Line}
-use Rattle.log_line.specs.declared.Line.the-variants.{Header, One, Loop, Done, Stop, Bad}
+use Rattle.log_line.specs.declared.Line.the-variants.{Header, Machine, One, Loop, Done, Stop, Bad}
 use Rattle.log_line.specs.Said.{counted, written, writeOf, waitOf, loopOf, stopOf, bodyOf, lineOf}
 use Rattle.log_line.specs.Printed.{actText, ended, lineText, Printable, NoFeed, empty, byte, OneLine}
 use Rattle.log_line.proofs.BodyLaws.{line-feed}
@@ -64,6 +64,7 @@ pub data Reads : Line → Line → Type 0 where
 pub reads : (l : Line) → RightForm l → Reads l (lineOf (lineText l))
 unfolding written
 reads Header p = subst (Reads Header) (sym (printed-read Header p)) (itself p)
+reads Machine p = subst (Reads Machine) (sym (printed-read Machine p)) (itself p)
 reads (One (Wait n)) p = subst (Reads (One (Wait n))) (sym (printed-read (One (Wait n)) p)) (itself p)
 reads (One (Access (Write r v))) p =
     subst (Reads (One (Access (Write r v)))) (sym (write-said r v (p .0) (p .1)))
@@ -94,6 +95,7 @@ write-clear r v =
 pub form-line : (l : Line) → RightForm l → OneLine (lineText l)
 unfolding lineText ended
 form-line Header p = one-line Header p
+form-line Machine p = one-line Machine p
 form-line (One (Wait n)) p = one-line (One (Wait n)) p
 form-line (One (Access (Write r v))) p = record { body = actText (Access (Write r v)); is = refl; clear = write-clear r v }
 form-line (One (Access Read)) p = one-line (One (Access Read)) p
@@ -195,7 +197,8 @@ module _ (s : List ℕ) where
       pick-each Four (exactly (bytes "read=4015") t) (λ e. plain-four (One (Access Read)) (λ z. cc)) λ e.
       pick-each Four (startsWith (bytes "loop=") t) (λ e. counted-four Loop (λ n z. absurd (let w : _≡_ {A = ℕ} 0 1 = cc in omega arith)) _) λ e.
       pick-each Four (exactly (bytes "done=loop") t) (λ e. plain-four Done (λ z. cc)) λ e.
-      pick-each Four (startsWith (bytes "stop=") t) (λ e. counted-four Stop (λ n z. absurd (let w : _≡_ {A = ℕ} 0 1 = cc in omega arith)) _) λ e. formless-four
+      pick-each Four (startsWith (bytes "stop=") t) (λ e. counted-four Stop (λ n z. absurd (let w : _≡_ {A = ℕ} 0 1 = cc in omega arith)) _) λ e.
+      pick-each Four (exactly (bytes "machine=pal") t) (λ e. plain-four Machine (λ z. cc)) λ e. formless-four
 
   pub line-four : lineOf s ≡ Bad 4 → WriteOf s
   unfolding lineOf
@@ -219,6 +222,7 @@ register-fits r e = go (both (leb 0x4000 r) (leb r 0x4013)) refl (eqb r 0x4015) 
 
 pub printable-form : (l : Line) → Printable l → RightForm l
 printable-form Header p = p
+printable-form Machine p = p
 printable-form (One (Wait n)) p = p
 printable-form (One (Access (Write r v))) p = (register-fits r (p .0), p .1)
 printable-form (One (Access Read)) p = p

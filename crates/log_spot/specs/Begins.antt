@@ -14,11 +14,12 @@ use Rattle.log_spot.specs.declared.Stand.{Stand}
 use Rattle.log_spot.specs.declared.Stand.the-variants.{First, Among, Alone}
 use Rattle.log_spot.specs.declared.Keys.{Keys}
 
--- first only `log=1`; then `loop` inside fewer than eight, `done` inside one or more, `stop` inside none; where no depth is known, each of them
+-- first only `log=1`; then `loop` inside fewer than eight, `done` inside one or more, `stop` inside none; where no depth is known, each of them.
+-- Change request 9: "A log may have `machine=pal` as its second line; .. anywhere else that key is unknown"
 unfoldable pub keysOf : Stand → Keys
-keysOf First = record { log = true; acts = false; loops = false; done = false; stop = false }
-keysOf (Among d) = record { log = false; acts = true; loops = ltb d 8; done = ltb 0 d; stop = eqb d 0 }
-keysOf Alone = record { log = false; acts = true; loops = true; done = true; stop = true }
+keysOf First = record { log = true; machine = false; acts = false; loops = false; done = false; stop = false }
+keysOf (Among second d) = record { log = false; machine = second; acts = true; loops = ltb d 8; done = ltb 0 d; stop = eqb d 0 }
+keysOf (Alone second) = record { log = false; machine = second; acts = true; loops = true; done = true; stop = true }
 
 -- a byte that a form asks for: # (35) stands for any lower-case hex digit
 unfoldable pub suits : ℕ → ℕ → Bool
@@ -56,6 +57,7 @@ unfoldable pub begins : Keys → List ℕ → Bool
 begins k s =
     any
     (both (k .log) (along (ended (bytes "log=1")) nothing s)
+    ∷ both (k .machine) (along (ended (bytes "machine=pal")) nothing s)
     ∷ both (k .acts) (along (bytes "wait=") (number 1 1000000) s)
     ∷ both (k .acts) (along (ended (bytes "write=####:##")) nothing s)
     ∷ both (k .acts) (along (ended (bytes "read=4015")) nothing s)

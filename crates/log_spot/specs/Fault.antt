@@ -11,7 +11,7 @@ use Rattle.text.specs.Decimal.{decimal}
 use Rattle.text.specs.declared.Number.{Number}
 use Rattle.text.specs.declared.Number.the-variants.{Is, None}
 use Rattle.log_line.specs.declared.Line.{Line}
-use Rattle.log_line.specs.declared.Line.the-variants.{Header, One, Loop, Done, Stop, Bad}
+use Rattle.log_line.specs.declared.Line.the-variants.{Header, Machine, One, Loop, Done, Stop, Bad}
 use Rattle.log_line.specs.Said.{lineOf}
 use Rattle.log_spot.specs.declared.Stand.{Stand}
 use Rattle.log_spot.specs.declared.Keys.{Keys}
@@ -24,6 +24,7 @@ use Rattle.log_spot.specs.Begins.{keysOf, begins, reach}
 -- a whole line of right form: right where it is allowed, or 4; "past the first line" one that is not allowed is 7 or 8
 unfoldable pub wholeOf : Keys → Line → Whole
 wholeOf k Header = pick (k .log) Fine Other
+wholeOf k Machine = pick (k .machine) Fine Other
 wholeOf k (One a) = pick (k .acts) Fine Other
 wholeOf k (Loop n) = pick (k .loops) Fine (pick (not (k .log)) (Start 7) Other)
 wholeOf k Done = pick (k .done) Fine (pick (not (k .log)) (Start 8) Other)

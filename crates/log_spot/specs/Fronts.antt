@@ -6,12 +6,13 @@ use mathlib.Core.List.{List, _++_}
 use Rattle.bus.specs.declared.Access.the-variants.{Write, Read}
 use Rattle.log_line.specs.declared.Act.the-variants.{Wait, Access}
 use Rattle.log_line.specs.declared.Line.{Line}
-use Rattle.log_line.specs.declared.Line.the-variants.{Header, One, Loop, Done, Stop, Bad}
+use Rattle.log_line.specs.declared.Line.the-variants.{Header, Machine, One, Loop, Done, Stop, Bad}
 use Rattle.log_line.specs.Printed.{lineText, Printable}
 use Rattle.log_spot.specs.declared.Keys.{Keys}
 
 unfoldable pub allowed : Keys → Line → Bool
 allowed k Header = k .log
+allowed k Machine = k .machine
 allowed k (One a) = k .acts
 allowed k (Loop n) = k .loops
 allowed k Done = k .done
@@ -21,6 +22,7 @@ allowed k (Bad n) = false
 -- within document 01's limits, but for a write's register, which is any of four hex digits
 abbrev pub RightForm : Line → Type 0
 RightForm Header = Printable Header
+RightForm Machine = Printable Machine
 RightForm (One (Wait n)) = Printable (One (Wait n))
 RightForm (One (Access (Write r v))) = (r ≤ 0xffff) × (v ≤ 255)
 RightForm (One (Access Read)) = Printable (One (Access Read))

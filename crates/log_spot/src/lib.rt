@@ -11,16 +11,18 @@ ghost use Rattle.log_spot.specs.Fault.{wholeOf, keyed, unfed, said, coun
 ghost use Rattle.log_spot.specs.Matching.{common, allDigits};
 use log_line::Line;
 
-// Where a line stands: first; behind the first with so many loops open; or alone, behind the first with no depth known.
+// Where a line stands: first; behind the first, with so many loops open; or alone, behind the first with no depth known. Behind the first: whether it
+// is the second.
 pub enum Stand {
     First,
-    Among(u64),
-    Alone,
+    Among(bool, u64),
+    Alone(bool),
 }
 
-// Which lines may stand at a place: `log=1`; `wait`, `write` and `read`; `loop`; `done`; `stop`.
+// Which lines may stand at a place: `log=1`; `machine=pal`; `wait`, `write` and `read`; `loop`; `done`; `stop`.
 pub struct Keys {
     pub log: bool,
+    pub machine: bool,
     pub acts: bool,
     pub loops: bool,
     pub done: bool,
@@ -46,20 +48,23 @@ fn keys_of(stand: Stand) -> Keys
     match stand {
         Stand::First => Keys {
             log: true,
+            machine: false,
             acts: false,
             loops: false,
             done: false,
             stop: false,
         },
-        Stand::Among(d) => Keys {
+        Stand::Among(second, d) => Keys {
             log: false,
+            machine: second,
             acts: true,
             loops: d < 8,
             done: 0 < d,
             stop: d == 0,
         },
-        Stand::Alone => Keys {
+        Stand::Alone(second) => Keys {
             log: false,
+            machine: second,
             acts: true,
             loops: true,
             done: true,
@@ -214,19 +219,16 @@ fn right_bytes(l: &[u8], k: Keys) -> usize
     ensures { λ r. ⌜ r ≡ reach (begins k) (now (l .entry)) ⌝ }
 {
     let log = if_allowed(k.log, common_bytes(l, b"log=1\n"));
+    let machine = if_allowed(k.machine, common_bytes(l, b"machine=pal\n"));
     let wait = if_allowed(k.acts, keyed_bytes(l, b"wait=", 1, 1000000));
     let write = if_allowed(k.acts, common_bytes(l, b"write=####:##\n"));
     let read = if_allowed(k.acts, common_bytes(l, b"read=4015\n"));
     let again = if_allowed(k.loops, keyed_bytes(l, b"loop=", 2, 255));
     let done = if_allowed(k.done, common_bytes(l, b"done=loop\n"));
     let stop = if_allowed(k.stop, keyed_bytes(l, b"stop=", 0, 2000000000));
-    larger(
-        log,
-        larger(
-            wait,
-            larger(write, larger(read, larger(again, larger(done, stop)))),
-        ),
-    )
+    let blocks = larger(again, larger(done, stop));
+    let turns = larger(wait, larger(write, larger(read, blocks)));
+    larger(log, larger(machine, turns))
 }
 
 // Whether `=` stands in s.
@@ -344,6 +346,7 @@ fn as_whole(k: Keys, l: Line) -> Whole
 {
     match l {
         Line::Header => fine_if(k.log, Whole::Other),
+        Line::Machine => fine_if(k.machine, Whole::Other),
         Line::One(_) => fine_if(k.acts, Whole::Other),
         Line::Loop(_) => fine_if(k.loops, start_if(!k.log, 7)),
         Line::Done => fine_if(k.done, start_if(!k.log, 8)),

@@ -66,6 +66,7 @@ fn any_line(out: &mut [u8], at: usize, l: Line) -> usize
 {
     match l {
         Line::Header => text_print::fixed(out, at, b"log=1\n"),
+        Line::Machine => text_print::fixed(out, at, b"machine=pal\n"),
         Line::One(a) => act_line(out, at, a),
         Line::Loop(n) => keyed(out, at, b"loop=", n as u64),
         Line::Done => text_print::fixed(out, at, b"done=loop\n"),
@@ -98,6 +99,7 @@ pub fn line_length(l: Line) -> usize
 {
     match l {
         Line::Header => 6,
+        Line::Machine => 12,
         Line::One(a) => act_length(a),
         Line::Loop(n) => 6 + text_print::width(n as u64),
         Line::Done => 10,

@@ -2,6 +2,7 @@
 use Prim.Native.Nat.{ℕ, _+_, _≤_}
 use mathlib.Core.Path.{_≡_, ap, _∙_}
 use mathlib.Core.List.{List, _++_}
+use mathlib.Core.Bool.{Bool}
 use native.Mathlib.Omega.{arith}
 use borrow.Author.Tests.{eq-eqb, ne-eqb}
 use lib.Dec.{eqb}
@@ -16,7 +17,7 @@ use Rattle.log_judge.specs.declared.Checked.{Checked}
 use Rattle.log_judge.specs.Whole.{checkOf}
 use Rattle.perch_place.specs.Place.{lineNumber, column}
 use Rattle.perch_check.specs.Reasons.{reasonText}
-use Rattle.perch_check.specs.Report.{numberLine, passedText, refusedLine, reasonLine, refusedText, outcomeText, checkText}
+use Rattle.perch_check.specs.Report.{numberLine, machineLine, passedText, refusedLine, reasonLine, refusedText, outcomeText, checkText}
 use Rattle.perch_place.proofs.Sizes.{UpTo, line-size, mark-size, text-taken}
 
 reason-size : (n : ℕ) → UpTo 60 (reasonText n)
@@ -36,9 +37,13 @@ reason-size n =
     (pick-both (UpTo 60) (eqb n 19) (omega arith)
     (omega arith))))))))))))
 
-passed-size : (clocks turns items : ℕ) → UpTo 60 (passedText clocks turns items)
+machine-size : (pal : Bool) → UpTo 12 (machineLine pal)
+unfolding machineLine
+machine-size pal = pick-both (UpTo 12) pal (omega arith) (omega arith)
+
+passed-size : (pal : Bool) (clocks turns items : ℕ) → UpTo 72 (passedText pal clocks turns items)
 unfolding passedText numberLine
-passed-size clocks turns items = simp length-append (omega (arith, decimal-ten clocks, decimal-ten turns, decimal-ten items))
+passed-size pal clocks turns items = simp length-append (omega (arith, machine-size pal, decimal-ten clocks, decimal-ten turns, decimal-ten items))
 
 refused-size : (log : List ℕ) (number place : ℕ) → UpTo 640 (refusedText log number place)
 unfolding refusedText refusedLine reasonLine
@@ -49,7 +54,7 @@ refused-size log number place =
 outcome-size : (log : List ℕ) (c : Checked) → UpTo 640 (outcomeText log c)
 unfolding outcomeText
 outcome-size log c =
-    pick-both (UpTo 640) (eqb (c .number) 0) (omega (arith, passed-size (c .clocks) (c .turns) (c .items))) (refused-size log (c .number) (c .place))
+    pick-both (UpTo 640) (eqb (c .number) 0) (omega (arith, passed-size (c .pal) (c .clocks) (c .turns) (c .items))) (refused-size log (c .number) (c .place))
 
 -- 700 bytes hold the text about any bytes
 pub check-size : (log : List ℕ) → length (checkText log) ≤ 700
@@ -58,7 +63,7 @@ check-size log = rw length-append (omega (arith, outcome-size log (checkOf log))
 
 -- the two outcomes
 module _ (log : List ℕ) (c : Checked) where
-  pub text-passed : checkOf log ≡ c → c .number ≡ 0 → checkText log ≡ bytes "check=1\n" ++ passedText (c .clocks) (c .turns) (c .items)
+  pub text-passed : checkOf log ≡ c → c .number ≡ 0 → checkText log ≡ bytes "check=1\n" ++ passedText (c .pal) (c .clocks) (c .turns) (c .items)
   unfolding checkText outcomeText
   text-passed e h = rw (e, eq-eqb _ _ h)
 

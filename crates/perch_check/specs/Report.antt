@@ -1,6 +1,7 @@
 -- What `perch check` writes about a log.
 use Prim.Native.Nat.{ℕ}
-use mathlib.Core.List.{List, _++_}
+use mathlib.Core.List.{List, [], _++_}
+use mathlib.Core.Bool.{Bool}
 use lib.Dec.{eqb}
 use Rattle.arith.specs.Pick.{pick}
 use Rattle.text.specs.Ascii.{bytes}
@@ -15,12 +16,17 @@ use Rattle.perch_place.specs.Shown.{shownLine, markLine}
 unfoldable pub numberLine : List ℕ → ℕ → List ℕ
 numberLine key n = key ++ (decimalText n ++ bytes "\n")
 
--- the totals of a log that passes
-unfoldable pub passedText : ℕ → ℕ → ℕ → List ℕ
-passedText clocks turns items =
-    numberLine (bytes "clocks=") clocks
+-- the machine, if it is PAL
+unfoldable pub machineLine : Bool → List ℕ
+machineLine pal = pick pal (bytes "machine=pal\n") []
+
+-- the machine and the totals of a log that passes
+unfoldable pub passedText : Bool → ℕ → ℕ → ℕ → List ℕ
+passedText pal clocks turns items =
+    machineLine pal
+    ++ (numberLine (bytes "clocks=") clocks
     ++ (numberLine (bytes "turns=") turns
-    ++ numberLine (bytes "items=") items)
+    ++ numberLine (bytes "items=") items))
 
 -- `refused=NUMBER:PLACE`
 unfoldable pub refusedLine : ℕ → ℕ → List ℕ
@@ -49,7 +55,7 @@ refusedText log number place =
 unfoldable pub outcomeText : List ℕ → Checked → List ℕ
 outcomeText log c =
     pick (eqb (c .number) 0)
-    (passedText (c .clocks) (c .turns) (c .items))
+    (passedText (c .pal) (c .clocks) (c .turns) (c .items))
     (refusedText log (c .number) (c .place))
 
 -- the whole text; each of its lines ends in one line feed

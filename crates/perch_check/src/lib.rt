@@ -6,7 +6,7 @@ ghost use Prim.Native.Nat.{_+_, _≤_};
 ghost use lib.ListN.{length};
 ghost use lib.Seq.{sets};
 ghost use Rattle.text_print.specs.Printed.{printed, placed};
-ghost use Rattle.perch_check.specs.Report.{numberLine, passedText, refusedLine, reasonLine, refusedText, checkText};
+ghost use Rattle.perch_check.specs.Report.{numberLine, machineLine, passedText, refusedLine, reasonLine, refusedText, checkText};
 use perch_place::column;
 use perch_place::line_number;
 use perch_place::mark_line;
@@ -24,15 +24,28 @@ fn number_line(out: &mut [u8], at: usize, key: &[u8], n: u64) -> usize
     text_print::fixed(out, b, b"\n")
 }
 
-// The totals of a log that passes.
-fn passed(out: &mut [u8], at: usize, clocks: u64, turns: u64, items: u64) -> usize
-    requires { ⌜ at + length (passedText clocks turns items) ≤ length (now out) ⌝ }
-    ensures { λ r. ⌜ r ≡ at + length (passedText clocks turns items) ⌝ }
-    ensures { λ r. ⌜ now (out .exit) ≡ sets (now (out .entry)) at (passedText clocks turns items) ⌝ }
+// `machine=pal`, or nothing.
+fn machine_line(out: &mut [u8], at: usize, pal: bool) -> usize
+    requires { ⌜ at + length (machineLine pal) ≤ length (now out) ⌝ }
+    ensures { λ r. ⌜ r ≡ at + length (machineLine pal) ⌝ }
+    ensures { λ r. ⌜ now (out .exit) ≡ sets (now (out .entry)) at (machineLine pal) ⌝ }
 {
-    let a = number_line(out, at, b"clocks=", clocks);
-    let b = number_line(out, a, b"turns=", turns);
-    number_line(out, b, b"items=", items)
+    if pal {
+        return text_print::fixed(out, at, b"machine=pal\n");
+    }
+    at
+}
+
+// The machine and the totals of a log that passes.
+fn passed(out: &mut [u8], at: usize, pal: bool, clocks: u64, turns: u64, items: u64) -> usize
+    requires { ⌜ at + length (passedText pal clocks turns items) ≤ length (now out) ⌝ }
+    ensures { λ r. ⌜ r ≡ at + length (passedText pal clocks turns items) ⌝ }
+    ensures { λ r. ⌜ now (out .exit) ≡ sets (now (out .entry)) at (passedText pal clocks turns items) ⌝ }
+{
+    let a = machine_line(out, at, pal);
+    let b = number_line(out, a, b"clocks=", clocks);
+    let c = number_line(out, b, b"turns=", turns);
+    number_line(out, c, b"items=", items)
 }
 
 // `refused=NUMBER:PLACE`.
@@ -84,7 +97,7 @@ fn whole(out: &mut [u8], log: &[u8]) -> usize
     let c = log_check::check(log);
     let a = text_print::fixed(out, 0, b"check=1\n");
     if c.number == 0 {
-        return passed(out, a, c.clocks, c.turns, c.items);
+        return passed(out, a, c.pal, c.clocks, c.turns, c.items);
     }
     refused(out, a, log, c.number, c.place)
 }

@@ -9,28 +9,33 @@ returns c = rw (c .enum-told .given .1)
 
 returns-2 : tie.Need-returns-2
 unfolding stepAnswer begun partAnswer
-returns-2 c = rw (c .before .before .l .given .1, c .single .ensures)
+returns-2 c = rw (c .enum-told2 .given .1)
 
 returns-3 : tie.Need-returns-3
 unfolding stepAnswer begun partAnswer
-returns-3 c = rw (c .before .l2 .given .1)
+returns-3 c = rw (c .before .before .l .given .1, c .single .ensures)
 
 returns-4 : tie.Need-returns-4
 unfolding stepAnswer begun partAnswer
-returns-4 c = rw (c .enum-told2 .given .1)
+returns-4 c = rw (c .before .l2 .given .1)
 
 returns-5 : tie.Need-returns-5
 unfolding stepAnswer begun partAnswer
-returns-5 c = rw (c .before .l3 .given .1)
+returns-5 c = rw (c .enum-told3 .given .1)
 
 returns-6 : tie.Need-returns-6
 unfolding stepAnswer begun partAnswer
-returns-6 c = rw (c .before .l4 .given .1)
+returns-6 c = rw (c .before .l3 .given .1)
+
+returns-7 : tie.Need-returns-7
+unfolding stepAnswer begun partAnswer
+returns-7 c = rw (c .before .l4 .given .1)
 
 pub opened-spec : {M : Type 1} → statement M
 opened-spec =
     tie.close
     (tie.spec
+    (λ c. search needs)
     (λ c. search needs)
     (λ c. search needs)
     (λ c κs. search needs)
@@ -43,4 +48,5 @@ opened-spec =
     returns-3
     returns-4
     returns-5
-    returns-6)
+    returns-6
+    returns-7)

@@ -13,9 +13,9 @@ returns c =
 
 returns-2 : tie.Need-returns-2
 returns-2 c =
-    let g = c .before .before .before .enum-told .given .1 in
-    let h = rw g at (rw (← c .before .before .before .before .before .read .ensures) at (checked-by (now (c .before .before .before .before .before .before .before .args .log)))) in
-    c .closed .ensures ∙ rw (c .before .read-block .ensures, c .before .before .start .ensures) h
+    let g = c .before .before .before .before .enum-told .given .1 in
+    let h = rw g at (rw (← c .before .before .before .before .before .before .read .ensures) at (checked-by (now (c .before .before .before .before .before .before .before .before .args .log)))) in
+    c .closed .ensures ∙ rw (c .before .read-block .ensures, c .before .before .start .ensures, c .before .before .before .is-pal .ensures) h
 
 pub check-spec : {M : Type 1} → statement M
 check-spec =
@@ -28,6 +28,7 @@ check-spec =
     (λ c κs. search needs)
     (λ c κs. search needs)
     returns
+    (λ c κs. search needs)
     (λ c κs. search needs)
     (λ c κs. search needs)
     (λ c κs. search needs)

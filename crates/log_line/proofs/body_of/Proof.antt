@@ -99,7 +99,8 @@ returns-7 c =
 returns-8 : tie.Need-returns-8
 unfolding bodyOf
 returns-8 c =
-    let p7 = c in
+    let p8 = c in
+    let p7 = p8 .before .before .before in
     let p6 = p7 .before .before .before in
     let p5 = p6 .before .before .before in
     let p4 = p5 .before .before .before in
@@ -113,7 +114,29 @@ returns-8 c =
     let e5 = sym (p5 .before .starts3 .ensures) ∙ p5 .if5 .left in
     let e6 = sym (p6 .before .exact3 .ensures) ∙ p6 .if6 .left in
     let e7 = sym (p7 .before .starts4 .ensures) ∙ p7 .if7 .left in
-    rw (e1, e2, e3, e4, e5, e6, e7)
+    let e8 = sym (p8 .before .exact4 .ensures) ∙ p8 .if8 .taken in
+    rw (e1, e2, e3, e4, e5, e6, e7, e8)
+
+returns-9 : tie.Need-returns-9
+unfolding bodyOf
+returns-9 c =
+    let p8 = c in
+    let p7 = p8 .before .before .before in
+    let p6 = p7 .before .before .before in
+    let p5 = p6 .before .before .before in
+    let p4 = p5 .before .before .before in
+    let p3 = p4 .before .before .before in
+    let p2 = p3 .before .before .before in
+    let p1 = p2 .before .before .before in
+    let e1 = sym (p1 .before .exact .ensures) ∙ p1 .if1 .left in
+    let e2 = sym (p2 .before .starts .ensures) ∙ p2 .if2 .left in
+    let e3 = sym (p3 .before .starts2 .ensures) ∙ p3 .if3 .left in
+    let e4 = sym (p4 .before .exact2 .ensures) ∙ p4 .if4 .left in
+    let e5 = sym (p5 .before .starts3 .ensures) ∙ p5 .if5 .left in
+    let e6 = sym (p6 .before .exact3 .ensures) ∙ p6 .if6 .left in
+    let e7 = sym (p7 .before .starts4 .ensures) ∙ p7 .if7 .left in
+    let e8 = sym (p8 .before .exact4 .ensures) ∙ p8 .if8 .left in
+    rw (e1, e2, e3, e4, e5, e6, e7, e8)
 
 pub body-of-spec : {M : Type 1} → statement M
 body-of-spec =
@@ -148,4 +171,7 @@ body-of-spec =
     (λ c κs. tt)
     (λ c κs. tt)
     returns-7
-    returns-8)
+    (λ c. search needs)
+    (λ c κs. tt)
+    returns-8
+    returns-9)

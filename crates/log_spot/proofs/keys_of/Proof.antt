@@ -14,7 +14,7 @@ returns-2 c = rw (c .before .stand .given .1)
 
 returns-3 : tie.Need-returns-3
 unfolding keysOf
-returns-3 c = rw (c .enum-told2 .given .1)
+returns-3 c = rw (c .before .stand2 .given .1)
 
 pub keys-of-spec : {M : Type 1} → statement M
 keys-of-spec = tie.close (tie.spec (λ c. search needs) (λ c. search needs) (λ c. search needs) returns returns-2 returns-3)

@@ -9,28 +9,31 @@ use Rattle.log_spot.proofs.right_bytes.Tie as tie
 returns : tie.Need-returns
 unfolding ended
 returns c =
-    let a = c .before .before .before .before .before .before .before .before .before .before .before .before .before .before .before .before .before .before .before .before .before .before .before .before .before .before .before .before .args in
+    let a = c .before .before .before .before .before .before .before .before .before .before .before .before .before .before .before .before .before .before .before .before .before .before .before .before .before .before .before .before .before .before .before .before .args in
     simp (
-      c .larger6 .ensures,
-      c .before .larger5 .ensures,
-      c .before .before .larger4 .ensures,
-      c .before .before .before .larger3 .ensures,
-      c .before .before .before .before .larger2 .ensures,
-      c .before .before .before .before .before .larger .ensures,
-      c .before .before .before .before .before .before .if-allowed7 .ensures,
-      c .before .before .before .before .before .before .before .keyed-bytes3 .ensures,
-      c .before .before .before .before .before .before .before .before .before .if-allowed6 .ensures,
-      c .before .before .before .before .before .before .before .before .before .before .common-bytes4 .ensures,
-      c .before .before .before .before .before .before .before .before .before .before .before .before .if-allowed5 .ensures,
-      c .before .before .before .before .before .before .before .before .before .before .before .before .before .keyed-bytes2 .ensures,
-      c .before .before .before .before .before .before .before .before .before .before .before .before .before .before .before .if-allowed4 .ensures,
-      c .before .before .before .before .before .before .before .before .before .before .before .before .before .before .before .before .common-bytes3 .ensures,
-      c .before .before .before .before .before .before .before .before .before .before .before .before .before .before .before .before .before .before .if-allowed3 .ensures,
-      c .before .before .before .before .before .before .before .before .before .before .before .before .before .before .before .before .before .before .before .common-bytes2 .ensures,
-      c .before .before .before .before .before .before .before .before .before .before .before .before .before .before .before .before .before .before .before .before .before .if-allowed2 .ensures,
-      c .before .before .before .before .before .before .before .before .before .before .before .before .before .before .before .before .before .before .before .before .before .before .keyed-bytes .ensures,
-      c .before .before .before .before .before .before .before .before .before .before .before .before .before .before .before .before .before .before .before .before .before .before .before .before .if-allowed .ensures,
-      c .before .before .before .before .before .before .before .before .before .before .before .before .before .before .before .before .before .before .before .before .before .before .before .before .before .common-bytes .ensures,
+      c .larger7 .ensures,
+      c .before .larger6 .ensures,
+      c .before .before .larger5 .ensures,
+      c .before .before .before .larger4 .ensures,
+      c .before .before .before .before .larger3 .ensures,
+      c .before .before .before .before .before .larger2 .ensures,
+      c .before .before .before .before .before .before .larger .ensures,
+      c .before .before .before .before .before .before .before .if-allowed8 .ensures,
+      c .before .before .before .before .before .before .before .before .keyed-bytes3 .ensures,
+      c .before .before .before .before .before .before .before .before .before .before .if-allowed7 .ensures,
+      c .before .before .before .before .before .before .before .before .before .before .before .common-bytes5 .ensures,
+      c .before .before .before .before .before .before .before .before .before .before .before .before .before .if-allowed6 .ensures,
+      c .before .before .before .before .before .before .before .before .before .before .before .before .before .before .keyed-bytes2 .ensures,
+      c .before .before .before .before .before .before .before .before .before .before .before .before .before .before .before .before .if-allowed5 .ensures,
+      c .before .before .before .before .before .before .before .before .before .before .before .before .before .before .before .before .before .common-bytes4 .ensures,
+      c .before .before .before .before .before .before .before .before .before .before .before .before .before .before .before .before .before .before .before .if-allowed4 .ensures,
+      c .before .before .before .before .before .before .before .before .before .before .before .before .before .before .before .before .before .before .before .before .common-bytes3 .ensures,
+      c .before .before .before .before .before .before .before .before .before .before .before .before .before .before .before .before .before .before .before .before .before .before .if-allowed3 .ensures,
+      c .before .before .before .before .before .before .before .before .before .before .before .before .before .before .before .before .before .before .before .before .before .before .before .keyed-bytes .ensures,
+      c .before .before .before .before .before .before .before .before .before .before .before .before .before .before .before .before .before .before .before .before .before .before .before .before .before .if-allowed2 .ensures,
+      c .before .before .before .before .before .before .before .before .before .before .before .before .before .before .before .before .before .before .before .before .before .before .before .before .before .before .common-bytes2 .ensures,
+      c .before .before .before .before .before .before .before .before .before .before .before .before .before .before .before .before .before .before .before .before .before .before .before .before .before .before .before .before .if-allowed .ensures,
+      c .before .before .before .before .before .before .before .before .before .before .before .before .before .before .before .before .before .before .before .before .before .before .before .before .before .before .before .before .before .common-bytes .ensures,
     )
     (sym (reach-begins (a .k) (now (a .l))))
 
@@ -57,6 +60,10 @@ right-bytes-spec =
     (λ c κs. tt)
     (λ c κs. tt)
     (λ c. search needs)
+    (λ c κs. tt)
+    (λ c κs. tt)
+    (λ c. search needs)
+    (λ c κs. tt)
     (λ c κs. tt)
     (λ c κs. tt)
     (λ c κs. tt)

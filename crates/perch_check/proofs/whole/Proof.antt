@@ -28,7 +28,7 @@ passed-requires c κs =
     let v = c .before .before .before .before .before .before .before .before .check in
     let k = v .result in
     let w = c .before .before .before .before .before .fixed in
-    let t = passedText (k .clocks) (k .turns) (k .items) in
+    let t = passedText (k .pal) (k .clocks) (k .turns) (k .items) in
     let e : checkText (a .log .now) ≡ bytes "check=1\n" ++ t = text-passed (a .log .now) k (sym (v .ensures)) (c .before .if1 .taken) in
     let room : 0 + length (bytes "check=1\n" ++ t) ≤ length (a .out .now) = rw e at (whole-room (a .log .now) (a .out .now) (c .before .before .before .before .before .before .before .before .before .before .before .pre)) in
     let one = put-last (a .out .now) 0 (bytes "check=1\n") (w .last .0) (w .result) (room-first (a .out .now) 0 (bytes "check=1\n") t room) (w .ensures .0) (w .ensures .1) in
@@ -43,7 +43,7 @@ returns c =
     let v = c .before .before .before .before .before .before .before .before .before .before .before .check in
     let k = v .result in
     let w = c .before .before .before .before .before .before .before .before .fixed in
-    let t = passedText (k .clocks) (k .turns) (k .items) in
+    let t = passedText (k .pal) (k .clocks) (k .turns) (k .items) in
     let e : checkText (a .log .now) ≡ bytes "check=1\n" ++ t = text-passed (a .log .now) k (sym (v .ensures)) (c .before .before .before .before .if1 .taken) in
     let room : 0 + length (bytes "check=1\n" ++ t) ≤ length (a .out .now) = rw e at (whole-room (a .log .now) (a .out .now) (c .before .before .before .before .before .before .before .before .before .before .before .before .before .before .pre)) in
     let one = put-last (a .out .now) 0 (bytes "check=1\n") (w .last .0) (w .result) (room-first (a .out .now) 0 (bytes "check=1\n") t room) (w .ensures .0) (w .ensures .1) in

@@ -27,10 +27,15 @@ returns-6 : tie.Need-returns-6
 unfolding isLoop
 returns-6 c = rw (c .enum-told6 .given .1)
 
+returns-7 : tie.Need-returns-7
+unfolding isLoop
+returns-7 c = rw (c .enum-told7 .given .1)
+
 pub is-loop-spec : {M : Type 1} → statement M
 is-loop-spec =
     tie.close
     (tie.spec
+    (λ c. search needs)
     (λ c. search needs)
     (λ c. search needs)
     (λ c. search needs)
@@ -42,4 +47,5 @@ is-loop-spec =
     returns-3
     returns-4
     returns-5
-    returns-6)
+    returns-6
+    returns-7)
