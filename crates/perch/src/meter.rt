@@ -49,7 +49,7 @@ fn poured(out: &[u8], at: usize) -> usize
 fn pour(log: &[u8], memory: &[u8], out: &mut [u8])
     requires { ⌜ 64 ≤ length (now out) ⌝ }
 {
-    let mut g = play_meter::waits::start();
+    let mut g = play_meter::waits::start(log);
     let mut at: usize = 0;
     let mut left: u32 = 2000002;
     while 0 < left {

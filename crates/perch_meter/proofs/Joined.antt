@@ -29,7 +29,7 @@ module _ (log memory : List ℕ) where
 
   -- what the program writes for a log that passes: the text, and then the lines of its steps
   pub joined : length memory ≡ 32768 → Bytes memory → checkOf log .number ≡ 0
-      → meterText log memory ++ stepsText log memory 2000002 gaugeStart ≡ meterWaitsText log memory
+      → meterText log memory ++ stepsText log memory 2000002 (gaugeStart log) ≡ meterWaitsText log memory
   unfolding meterWaitsText
   joined long bytes fine =
       let none : logMeter log memory .number ≡ 0 = ap (λ (a : Answer). a .number) (meter-is log memory long fine) in

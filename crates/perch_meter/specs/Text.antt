@@ -6,6 +6,7 @@ use lib.Dec.{eqb}
 use Rattle.arith.specs.Pick.{pick}
 use Rattle.text.specs.Ascii.{bytes}
 use Rattle.text.specs.Decimal.{decimalText}
+use Rattle.log_judge.specs.Head.{machineOf}
 use Rattle.log_judge.specs.Tree.{acts}
 use Rattle.log_judge.specs.Whole.{treeOf}
 use Rattle.chip.specs.Range.{powerOn}
@@ -62,7 +63,7 @@ waitsText (x ∷ l) = waitLine (x .time) (x .clocks) (x .meter) ++ waitsText l
 unfoldable pub meterWaitsText : List ℕ → List ℕ → List ℕ
 meterWaitsText log memory =
     meterText log memory
-    ++ pick (eqb (logMeter log memory .number) 0) (waitsText (waitsFrom memory (acts (treeOf log)) 0 powerOn)) []
+    ++ pick (eqb (logMeter log memory .number) 0) (waitsText (waitsFrom memory (acts (treeOf log)) 0 (powerOn (machineOf log)))) []
 
 -- what is written of a step: a wait's line
 unfoldable pub nextText : Next → List ℕ

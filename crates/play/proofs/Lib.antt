@@ -1,2 +1,3 @@
 pub mod LoopLaws
+pub mod MachineLaws
 pub mod Whole

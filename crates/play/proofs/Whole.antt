@@ -9,6 +9,7 @@ use lib.Dec.{leb}
 use lib.ListN.{length, take, length-append}
 use borrow.Author.Tests.{eq-eqb, leb-true}
 use Rattle.arith.specs.Pick.{pick}
+use Rattle.log_judge.specs.Head.{machineOf}
 use Rattle.log_judge.specs.Tree.{acts}
 use Rattle.log_judge.specs.Whole.{treeOf, checkOf}
 use Rattle.chip_api.specs.Answer.{isMemory}
@@ -35,7 +36,7 @@ module _ (log memory : List ℕ) where
     pub within : ℕ
     pub told : Told log memory q rest within
     pub low : within < 4000010
-    pub whole : notesOf memory (acts (treeOf log)) ≡ written ++ rest
+    pub whole : notesOf (machineOf log) memory (acts (treeOf log)) ≡ written ++ rest
     pub said : text ≡ notesText written
     pub fine : inRange (q .state) ≡ true
     pub done : o ≡ true → rest ≡ []
@@ -122,24 +123,24 @@ module _ (log memory : List ℕ) where
       by false e z = absurd (let y : _≡_ {A = ℕ} 1 0 = z in omega arith)
 
   module _ (h : playNumber log memory ≡ 0) where
-    part-of : {text : List ℕ} {n : ℕ} {q : Player} {o : Bool} → Calls log memory freshPlayer text n q o → Part text n q o
+    part-of : {text : List ℕ} {n : ℕ} {q : Player} {o : Bool} → Calls log memory (freshPlayer (machineOf log)) text n q o → Part text n q o
     unfolding freshPlayer
     part-of none =
         record {
           written = [];
-          rest = notesOf memory (acts (treeOf log));
+          rest = notesOf (machineOf log) memory (acts (treeOf log));
           within = 1;
-          told = fresh-told log memory (passing h .1);
+          told = fresh-told log memory (passing h .1) (machineOf log);
           low = omega arith;
           whole = refl;
           said = sym notes-none;
-          fine = power-on-in;
+          fine = power-on-in (machineOf log);
           done = λ e. absurd (let y : _≡_ {A = ℕ} 0 1 = cc in omega arith);
           count = λ e. omega arith;
         }
     part-of (call {text = text} {n = n} {q = q} before after r c pl) = next text n q (passing h .0) (part-of c) before after r pl .part
 
-    text-is : playText log memory ≡ notesText (notesOf memory (acts (treeOf log)))
+    text-is : playText log memory ≡ notesText (notesOf (machineOf log) memory (acts (treeOf log)))
     unfolding playText
     text-is = rw (eq-eqb (playNumber log memory) 0 h)
 
@@ -149,7 +150,7 @@ module _ (log memory : List ℕ) where
       pub joined : playText log memory ≡ text ++ rest
       pub all : o ≡ true → playText log memory ≡ text
 
-    pub pieces-whole : {text : List ℕ} {n : ℕ} {q : Player} {o : Bool} → Calls log memory freshPlayer text n q o → Beginning text o
+    pub pieces-whole : {text : List ℕ} {n : ℕ} {q : Player} {o : Bool} → Calls log memory (freshPlayer (machineOf log)) text n q o → Beginning text o
     pieces-whole {text = text} c =
         let p = part-of c in
         let j : playText log memory ≡ text ++ notesText (p .rest) =
@@ -161,19 +162,19 @@ module _ (log memory : List ℕ) where
         }
 
     -- NO CALL IS REFUSED
-    pub never-halted : {text : List ℕ} {n : ℕ} {q : Player} → Calls log memory freshPlayer text n q false → (before after : List ℕ) (r : Played) → PlayedOn log memory q before after r
+    pub never-halted : {text : List ℕ} {n : ℕ} {q : Player} → Calls log memory (freshPlayer (machineOf log)) text n q false → (before after : List ℕ) (r : Played) → PlayedOn log memory q before after r
         → (r .number ≡ 0) × (r .place ≡ 0)
     never-halted {text = text} {n = n} {q = q} c before after r pl =
         let i = next text n q (passing h .0) (part-of c) before after r pl in
         (i .number, i .place)
 
     -- A BUFFER OF 23 BYTES OR MORE GETS A LINE, OR THE PLAYER IS OVER
-    pub gets-line : {text : List ℕ} {n : ℕ} {q : Player} → Calls log memory freshPlayer text n q false → (before after : List ℕ) (r : Played) → PlayedOn log memory q before after r
+    pub gets-line : {text : List ℕ} {n : ℕ} {q : Player} → Calls log memory (freshPlayer (machineOf log)) text n q false → (before after : List ℕ) (r : Played) → PlayedOn log memory q before after r
         → 23 ≤ length before → r .over ≡ false → 0 < r .length
     gets-line {text = text} {n = n} {q = q} c before after r pl = next text n q (passing h .0) (part-of c) before after r pl .line
 
     -- SO IT COMES TO ITS END: behind more such buffers than the text has lines the last call said over
-    pub comes-to-end : {text : List ℕ} {n : ℕ} {q : Player} (o : Bool) → Calls log memory freshPlayer text n q o → length (notesOf memory (acts (treeOf log))) < n → o ≡ true
+    pub comes-to-end : {text : List ℕ} {n : ℕ} {q : Player} (o : Bool) → Calls log memory (freshPlayer (machineOf log)) text n q o → length (notesOf (machineOf log) memory (acts (treeOf log))) < n → o ≡ true
     comes-to-end true c b = refl
     comes-to-end false c b =
         let p = part-of c in

@@ -4,6 +4,7 @@ use mathlib.Core.List.{List}
 use lib.Dec.{eqb}
 use Rattle.arith.specs.Pick.{pick}
 use Rattle.chip_api.specs.Answer.{isMemory}
+use Rattle.log_judge.specs.Head.{machineOf}
 use Rattle.log_judge.specs.Tree.{acts}
 use Rattle.log_judge.specs.Whole.{treeOf, checkOf}
 use Rattle.play_text.specs.Notes.{notesText, refusalText}
@@ -18,18 +19,18 @@ playNumber log memory = pick (isMemory memory) (checkOf log .number) 1
 unfoldable pub playPlace : List ℕ → List ℕ → ℕ
 playPlace log memory = pick (isMemory memory) (checkOf log .place) 0
 
--- WHAT IS WRITTEN
+-- WHAT IS WRITTEN, on the log's machine
 unfoldable pub playText : List ℕ → List ℕ → List ℕ
 playText log memory =
     pick (eqb (playNumber log memory) 0)
-    (notesText (notesOf memory (acts (treeOf log))))
+    (notesText (notesOf (machineOf log) memory (acts (treeOf log))))
     (refusalText (playNumber log memory) (playPlace log memory))
 
--- WHAT `begin` ANSWERS: the player at the beginning; refused, one that is over
+-- WHAT `begin` ANSWERS: the player at the beginning, on the log's machine; refused, one that is over
 unfoldable pub begunOf : List ℕ → List ℕ → Begun
 begunOf log memory =
     record {
       number = playNumber log memory;
       place = playPlace log memory;
-      player = pick (eqb (playNumber log memory) 0) freshPlayer endedPlayer;
+      player = pick (eqb (playNumber log memory) 0) (freshPlayer (machineOf log)) endedPlayer;
     }

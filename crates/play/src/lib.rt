@@ -29,11 +29,11 @@ pub struct Played {
     pub over: bool,
 }
 
-// A number and a place, with the player at the beginning; refused, a player that is over.
-fn opening(number: u8, place: usize) -> Begun
-    ensures { λ r. ⌜ r ≡ record { number = number; place = place; player = pick (eqb number 0) freshPlayer endedPlayer } ⌝ }
+// A number and a place, with the player at the beginning of a log for a machine; refused, a player that is over.
+fn opening(number: u8, place: usize, pal: bool) -> Begun
+    ensures { λ r. ⌜ r ≡ record { number = number; place = place; player = pick (eqb number 0) (freshPlayer pal) endedPlayer } ⌝ }
 {
-    let p = play_turn::first(number == 0);
+    let p = play_turn::first(number == 0, pal);
     Begun {
         number: number,
         place: place,
@@ -41,15 +41,15 @@ fn opening(number: u8, place: usize) -> Begun
     }
 }
 
-// Whether the log and the memory can be played, with the player at the beginning; refused, a player that is over.
+// Whether the log and the memory can be played, with the player at the beginning, on the log's machine; refused, a player that is over.
 pub fn begin(log: &[u8], memory: &[u8]) -> Begun
     ensures { λ r. ⌜ r ≡ begunOf (now (log .entry)) (now (memory .entry)) ⌝ }
 {
     if memory.len() != 32768 {
-        return opening(1, 0);
+        return opening(1, 0, false);
     }
     let k = log_check::check(log);
-    opening(k.number, k.place)
+    opening(k.number, k.place, k.pal)
 }
 
 // A refusal: the player as it came.

@@ -12,6 +12,7 @@ use Rattle.bus.specs.declared.Access.the-variants as bus
 use Rattle.log_line.specs.declared.Act.{Act}
 use Rattle.log_line.specs.declared.Act.the-variants.{Wait, Access}
 use Rattle.log_line.specs.Printed.{Allowed}
+use Rattle.log_judge.specs.Head.{machineOf}
 use Rattle.log_judge.specs.Tree.{acts, actClocks}
 use Rattle.log_judge.specs.Whole.{treeOf, checkOf}
 use Rattle.log_passing.proofs.ActLaws.{Every, every-acts, clocksIn, clocks-listed}
@@ -76,8 +77,8 @@ module _ (log memory : List ℕ) (long : length memory ≡ 32768) (bytes : Bytes
       (acts-said g t (accessedBy x s) (w .1) (access-ranged x s (w .0) h) (omega arith)) p
 
   -- in 2,000,002 steps at most
-  pub waits-said : checkOf log .number ≡ 0 → Gives (passOf log memory) gaugeStart (waitsFrom memory (acts (treeOf log)) 0 powerOn) 2000002
+  pub waits-said : checkOf log .number ≡ 0 → Gives (passOf log memory) (gaugeStart log) (waitsFrom memory (acts (treeOf log)) 0 (powerOn (machineOf log))) 2000002
   waits-said h =
       let c = clear log h .in-clocks in
       let d = clocks-listed (treeOf log) in
-      acts-said (cursor-gives log h) 0 powerOn (every-acts (treeOf log) 0 (stands log h .within)) power-on-in (omega arith)
+      acts-said (cursor-gives log h) 0 (powerOn (machineOf log)) (every-acts (treeOf log) 0 (stands log h .within)) (power-on-in (machineOf log)) (omega arith)

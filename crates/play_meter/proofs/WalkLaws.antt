@@ -13,6 +13,7 @@ use Rattle.arith.specs.Pick.{pick}
 use Rattle.bus.specs.declared.Access.the-variants as bus
 use Rattle.log_line.specs.declared.Act.{Act}
 use Rattle.log_line.specs.declared.Act.the-variants.{Wait, Access}
+use Rattle.log_judge.specs.Head.{machineOf}
 use Rattle.log_judge.specs.Tree.{acts, actClocks}
 use Rattle.log_judge.specs.Whole.{treeOf, checkOf}
 use Rattle.log_judge.specs.declared.Checked.{Checked}
@@ -151,11 +152,11 @@ module _ (log memory : List ℕ) where
   pub walk-left : {A : Type 0} (cursor : Cursor) (m : Moment) (left : ℕ) → Walking log memory cursor m left → left ≡ 0 → A
   walk-left cursor m left w z = absurd (none-left (w .gives) z)
 
-  pub walk-start : checkOf log .number ≡ 0 → Walking log memory beginning (momentOf false powerOn (spanAt (stateLevel powerOn))) 2000002
+  pub walk-start : checkOf log .number ≡ 0 → Walking log memory beginning (momentOf false (powerOn (machineOf log)) (spanAt (stateLevel (powerOn (machineOf log))))) 2000002
   unfolding spanOf
   walk-start h =
       record {
-        ranged = power-on-in;
+        ranged = power-on-in (machineOf log);
         time = 0;
         rest = acts (treeOf log);
         gives = cursor-gives log h;
@@ -163,11 +164,11 @@ module _ (log memory : List ℕ) where
       }
 
   -- what is told from the lowest and the highest of all is the meter of the log's lines
-  pub told-whole : (span : Span) → span ≡ spanOf log memory → toldOf (span .low) (span .high) ≡ actsMeter memory (acts (treeOf log))
+  pub told-whole : (span : Span) → span ≡ spanOf log memory → toldOf (span .low) (span .high) ≡ actsMeter (machineOf log) memory (acts (treeOf log))
   unfolding spanOf spanFor actsMeter notesOf levelsOf
   told-whole span e =
       ap (λ (s : Span). toldOf (s .low) (s .high)) e
-      ∙ told-is (stateLevel powerOn) (levelsOf (notesFrom memory 0 (stateLevel powerOn) powerOn (acts (treeOf log))))
+      ∙ told-is (stateLevel (powerOn (machineOf log))) (levelsOf (notesFrom memory 0 (stateLevel (powerOn (machineOf log))) (powerOn (machineOf log)) (acts (treeOf log))))
 
   -- the answer, by its tests
   pub refused-one : (length memory ≡ 32768 → ⊥) → refusedAnswer 1 0 ≡ logMeter log memory
@@ -179,6 +180,6 @@ module _ (log memory : List ℕ) where
     unfolding logMeter
     refused-log k e h = rw (eq-eqb (length memory) 32768 long, ← e, ne-eqb (k .number) 0 h)
 
-    pub meter-is : checkOf log .number ≡ 0 → logMeter log memory ≡ record { number = 0; place = 0; meter = actsMeter memory (acts (treeOf log)) }
+    pub meter-is : checkOf log .number ≡ 0 → logMeter log memory ≡ record { number = 0; place = 0; meter = actsMeter (machineOf log) memory (acts (treeOf log)) }
     unfolding logMeter
     meter-is fine = rw (eq-eqb (length memory) 32768 long, eq-eqb (checkOf log .number) 0 fine)

@@ -1,6 +1,7 @@
 -- The meter of what a log sounds like, and of each of its waits. Request 11: "silent at all of them; steady, with its level; or moving, with
 -- lowest and highest".
 use Prim.Native.Nat.{ℕ, _+_}
+use mathlib.Core.Bool.{Bool}
 use mathlib.Core.List.{List, [], _∷_}
 use lib.Dec.{eqb}
 use Rattle.arith.specs.Iterate.{iterate}
@@ -9,6 +10,7 @@ use Rattle.bus.specs.declared.Access as busAccess
 use Rattle.bus.specs.declared.Access.the-variants as bus
 use Rattle.log_line.specs.declared.Act.{Act}
 use Rattle.log_line.specs.declared.Act.the-variants.{Wait, Access}
+use Rattle.log_judge.specs.Head.{machineOf}
 use Rattle.log_judge.specs.Tree.{acts}
 use Rattle.log_judge.specs.Whole.{treeOf, checkOf}
 use Rattle.chip.specs.Clock.{chipClock}
@@ -33,19 +35,19 @@ levelsOf (Level t v ∷ l) = v ∷ levelsOf l
 levelsOf (Read t v ∷ l) = levelsOf l
 levelsOf (Stop t ∷ l) = levelsOf l
 
--- the meter of all that the player's lines for the acts say
-unfoldable pub actsMeter : List ℕ → List Act → Measured
-actsMeter memory l = measureOf (levelsOf (notesOf memory l))
+-- the meter of all that the player's lines for the acts say, on the machine (true is PAL)
+unfoldable pub actsMeter : Bool → List ℕ → List Act → Measured
+actsMeter pal memory l = measureOf (levelsOf (notesOf pal memory l))
 
 -- refused: no levels
 abbrev pub refusedAnswer : ℕ → ℕ → Answer
 refusedAnswer number place = record { number = number; place = place; meter = NoLevels }
 
--- THE METER OF A LOG. 1: "sample memory isn't 32,768 bytes", at 0; then the log's own refusals
+-- THE METER OF A LOG, on its machine. 1: "sample memory isn't 32,768 bytes", at 0; then the log's own refusals
 unfoldable pub logMeter : List ℕ → List ℕ → Answer
 logMeter log memory =
     pick (isMemory memory)
-    (pick (eqb (checkOf log .number) 0) (record { number = 0; place = 0; meter = actsMeter memory (acts (treeOf log)) })
+    (pick (eqb (checkOf log .number) 0) (record { number = 0; place = 0; meter = actsMeter (machineOf log) memory (acts (treeOf log)) })
     (refusedAnswer (checkOf log .number) (checkOf log .place)))
     (refusedAnswer 1 0)
 

@@ -7,6 +7,7 @@ use Rattle.arith.specs.Iterate.{iterate}
 use Rattle.arith.specs.Pick.{pick, both}
 use Rattle.log_line.specs.declared.Act.{Act}
 use Rattle.log_line.specs.declared.Act.the-variants.{Wait, Access}
+use Rattle.log_judge.specs.Head.{machineOf}
 use Rattle.log_cursor.specs.declared.Cursor.{Cursor}
 use Rattle.log_cursor.specs.declared.Found.{Found}
 use Rattle.log_cursor.specs.Stepping.{beginning, stepOf, told}
@@ -30,9 +31,9 @@ go w g = record { said = w; state = g }
 abbrev pub gaugeOf : ℕ → State → Cursor → Gauge
 gaugeOf t s c = record { time = t; state = s; cursor = c }
 
--- at a log's beginning
-abbrev pub gaugeStart : Gauge
-gaugeStart = gaugeOf 0 powerOn beginning
+-- at a log's beginning, on its machine
+abbrev pub gaugeStart : List ℕ → Gauge
+gaugeStart log = gaugeOf 0 (powerOn (machineOf log)) beginning
 
 -- an act: a wait is said with its meter
 unfoldable pub actPass : List ℕ → Gauge → Cursor → Act → Go

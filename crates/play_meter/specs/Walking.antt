@@ -9,6 +9,7 @@ use Rattle.arith.specs.Pick.{pick}
 use Rattle.bus.specs.declared.Access as busAccess
 use Rattle.log_line.specs.declared.Act.{Act}
 use Rattle.log_line.specs.declared.Act.the-variants.{Wait, Access}
+use Rattle.log_judge.specs.Head.{machineOf}
 use Rattle.log_judge.specs.Tree.{acts}
 use Rattle.log_judge.specs.Whole.{treeOf}
 use Rattle.log_cursor.specs.declared.Cursor.{Cursor}
@@ -65,7 +66,7 @@ spanFor memory l t s span = spanOver span (levelsOf (notesFrom memory t (stateLe
 
 -- those of a whole log
 unfoldable pub spanOf : List ℕ → List ℕ → Span
-spanOf log memory = spanFor memory (acts (treeOf log)) 0 powerOn (spanAt (stateLevel powerOn))
+spanOf log memory = spanFor memory (acts (treeOf log)) 0 (powerOn (machineOf log)) (spanAt (stateLevel (powerOn (machineOf log))))
 
 -- on the way: the acts that the cursor still gives, within `left` steps, lead to what the whole log leads to
 pub record Walking (log memory : List ℕ) (cursor : Cursor) (m : Moment) (left : ℕ) : Type 0 where

@@ -4,6 +4,7 @@ ghost use mathlib.Core.Bool.{true, false};
 ghost use Prim.Native.Nat.{_≤_};
 ghost use lib.ListN.{length};
 ghost use Rattle.chip.specs.Range.{inRange};
+ghost use Rattle.log_judge.specs.Head.{machineOf};
 ghost use Rattle.log_judge.specs.Tree.{acts};
 ghost use Rattle.log_judge.specs.Whole.{treeOf, checkOf};
 ghost use Rattle.play_to.specs.Walking.{portion};
@@ -151,14 +152,14 @@ fn found_on(m: Moment, memory: &[u8], f: Found, words: &mut [u32]) -> Moment
     }
 }
 
-// A log that passes, from its beginning to its end, within as many steps as the cursor takes at most.
+// A log that passes, from its beginning to its end, on its machine, within as many steps as the cursor takes at most.
 fn walk(log: &[u8], memory: &[u8], words: &mut [u32]) -> Measured
     requires { ⌜ (checkOf (now log) .number ≡ 0) × (length (now memory) ≡ 32768) ⌝ }
     requires { ⌜ 2 ≤ length (now words) ⌝ }
-    ensures { λ r. ⌜ r ≡ actsMeter (now (memory .entry)) (acts (treeOf (now (log .entry)))) ⌝ }
+    ensures { λ r. ⌜ r ≡ actsMeter (machineOf (now (log .entry))) (now (memory .entry)) (acts (treeOf (now (log .entry)))) ⌝ }
 {
     let mut cursor = log_cursor::start();
-    let first = chip::power_on();
+    let first = chip::power_on(log_read::is_pal(log));
     let mut m = moment_of(false, first, run_meter::at_level(first.level() as u32));
     let mut left: u32 = 2000002;
     while 0 < left {
@@ -176,7 +177,7 @@ fn walk(log: &[u8], memory: &[u8], words: &mut [u32]) -> Measured
     run_meter::told(span)
 }
 
-// The meter of what a log sounds like, from power-on. Refused: 1 at 0, and then what the log's check refuses.
+// The meter of what a log sounds like, from power-on of its machine. Refused: 1 at 0, and then what the log's check refuses.
 pub fn whole(log: &[u8], memory: &[u8]) -> Answer
     ensures { λ r. ⌜ r ≡ logMeter (now (log .entry)) (now (memory .entry)) ⌝ }
 {

@@ -44,11 +44,11 @@ fn gauge_of(time: u64, s: State, c: Cursor) -> Gauge
     }
 }
 
-// At a log's beginning.
-pub fn start() -> Gauge
-    ensures { λ r. ⌜ r ≡ gaugeStart ⌝ }
+// At a log's beginning, on its machine.
+pub fn start(log: &[u8]) -> Gauge
+    ensures { λ r. ⌜ r ≡ gaugeStart (now (log .entry)) ⌝ }
 {
-    let s = chip::power_on();
+    let s = chip::power_on(log_read::is_pal(log));
     let c = log_cursor::start();
     gauge_of(0, s, c)
 }

@@ -135,20 +135,21 @@ module _ (log memory : List ℕ) where
       by-tell (turnOf log memory) (2 * f) (turn-act t (stateLevel s) s c (line.Access bus.Read) e ∙ acted-read (playerOf 2 0 t (stateLevel s) s c) (stepOf log c .state)) told (omega arith)
 
   -- the first two lines
-  turn-play : turnOf log memory freshPlayer ≡ go (says Play) (playerOf 1 0 0 0 powerOn beginning)
+  turn-play : (pal : Bool) → turnOf log memory (freshPlayer pal) ≡ go (says Play) (playerOf 1 0 0 0 (powerOn pal) beginning)
   unfolding freshPlayer phaseTurn
-  turn-play = turn-phase log memory freshPlayer (λ e. absurd (let z : _≡_ {A = ℕ} 0 2 = e in omega arith))
+  turn-play pal = turn-phase log memory (freshPlayer pal) (λ e. absurd (let z : _≡_ {A = ℕ} 0 2 = e in omega arith))
 
-  turn-level : turnOf log memory (playerOf 1 0 0 0 powerOn beginning) ≡ go (says (Level 0 (stateLevel powerOn))) (playerOf 2 0 0 (stateLevel powerOn) powerOn beginning)
+  turn-level : (pal : Bool)
+      → turnOf log memory (playerOf 1 0 0 0 (powerOn pal) beginning) ≡ go (says (Level 0 (stateLevel (powerOn pal)))) (playerOf 2 0 0 (stateLevel (powerOn pal)) (powerOn pal) beginning)
   unfolding phaseTurn
-  turn-level = turn-phase log memory (playerOf 1 0 0 0 powerOn beginning) (λ e. absurd (let z : _≡_ {A = ℕ} 1 2 = e in omega arith))
+  turn-level pal = turn-phase log memory (playerOf 1 0 0 0 (powerOn pal) beginning) (λ e. absurd (let z : _≡_ {A = ℕ} 1 2 = e in omega arith))
 
-  -- A PLAYER AT THE BEGINNING SAYS THE WHOLE OF IT
-  pub fresh-told : checkOf log .number ≡ 0 → Told freshPlayer (notesOf memory (acts (treeOf log))) 1
+  -- A PLAYER AT THE BEGINNING SAYS THE WHOLE OF IT, on either machine
+  pub fresh-told : checkOf log .number ≡ 0 → (pal : Bool) → Told (freshPlayer pal) (notesOf pal memory (acts (treeOf log))) 1
   unfolding notesOf
-  fresh-told h =
+  fresh-told h pal =
       let few = clear log h .in-clocks in
       let sum = clocks-listed (treeOf log) in
-      by-tell (turnOf log memory) 1 turn-play
-      (by-tell (turnOf log memory) 1 turn-level (acts-told (cursor-gives log h) (omega arith) 0 powerOn (every-acts (treeOf log) 0 (stands log h .within)) (omega arith)) (omega arith))
+      by-tell (turnOf log memory) 1 (turn-play pal)
+      (by-tell (turnOf log memory) 1 (turn-level pal) (acts-told (cursor-gives log h) (omega arith) 0 (powerOn pal) (every-acts (treeOf log) 0 (stands log h .within)) (omega arith)) (omega arith))
       (omega arith)

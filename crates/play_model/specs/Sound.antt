@@ -1,5 +1,6 @@
 -- What a log sounds like, line by line. Document 01, "The log": the program's lines. Clocks are worked one by one.
 use Prim.Native.Nat.{ℕ, zero, suc, _+_}
+use mathlib.Core.Bool.{Bool}
 use mathlib.Core.List.{List, [], _∷_, _++_}
 use lib.Dec.{eqb}
 use Rattle.arith.specs.Pick.{pick}
@@ -34,6 +35,6 @@ notesFrom memory t last s (Access (bus.Write r v) ∷ acts) =
 notesFrom memory t last s (Access bus.Read ∷ acts) =
     Read t (statusByte s) ∷ (heard t last (statusRead s) ++ notesFrom memory t (stateLevel (statusRead s)) (statusRead s) acts)
 
--- `play=1`, the first level at 0, and then what the acts bring, from power-on
-unfoldable pub notesOf : List ℕ → List Act → List Note
-notesOf memory acts = Play ∷ Level 0 (stateLevel powerOn) ∷ notesFrom memory 0 (stateLevel powerOn) powerOn acts
+-- `play=1`, the first level at 0, and then what the acts bring, from power-on of the machine (true is PAL)
+unfoldable pub notesOf : Bool → List ℕ → List Act → List Note
+notesOf pal memory acts = Play ∷ Level 0 (stateLevel (powerOn pal)) ∷ notesFrom memory 0 (stateLevel (powerOn pal)) (powerOn pal) acts

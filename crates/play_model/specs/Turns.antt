@@ -1,6 +1,7 @@
 -- The player as a machine that says lines, one small step at a time, for any player and any bytes.
 use Prim.Native.Nat.{ℕ, suc, _+_, _-_}
 use mathlib.Core.Path.{_≡_}
+use mathlib.Core.Bool.{Bool, false}
 use mathlib.Core.List.{List, [], _∷_}
 use lib.Dec.{eqb, leb}
 use Rattle.arith.specs.Pick.{pick}
@@ -32,13 +33,13 @@ go w p = record { said = w; state = p }
 abbrev pub playerOf : ℕ → ℕ → ℕ → ℕ → State → Cursor → Player
 playerOf phase wait time last s c = record { phase = phase; wait = wait; time = time; last = last; state = s; cursor = c }
 
--- a player at the beginning of a log
-unfoldable pub freshPlayer : Player
-freshPlayer = playerOf 0 0 0 0 powerOn beginning
+-- a player at the beginning of a log for the machine (true is PAL)
+unfoldable pub freshPlayer : Bool → Player
+freshPlayer pal = playerOf 0 0 0 0 (powerOn pal) beginning
 
 -- a player with nothing to play
 unfoldable pub endedPlayer : Player
-endedPlayer = playerOf 3 0 0 0 powerOn beginning
+endedPlayer = playerOf 3 0 0 0 (powerOn false) beginning
 
 -- behind an access that led to the state s: a line where the level is other than the last written
 unfoldable pub accessed : Player → State → Cursor → Go

@@ -13,6 +13,7 @@ use Rattle.arith.specs.Pick.{pick}
 use Rattle.bus.specs.declared.Access.the-variants as bus
 use Rattle.log_line.specs.declared.Act.{Act}
 use Rattle.log_line.specs.declared.Act.the-variants.{Wait, Access}
+use Rattle.log_judge.specs.Head.{machineOf}
 use Rattle.log_judge.specs.Tree.{acts, actClocks, clocks}
 use Rattle.log_judge.specs.Whole.{treeOf, checkOf}
 use Rattle.log_passing.proofs.ActLaws.{clocksIn, clocks-listed}
@@ -119,11 +120,11 @@ module _ (log memory : List ℕ) (c : ℕ) (long : length memory ≡ 32768) (fin
   pub clock-is : stateAt log memory c .clock ≡ pick (ltb c (clocks (treeOf log))) c (clocks (treeOf log))
   clock-is =
       ap (λ (a : At). a .clock) (at-is log memory c long fine)
-      ∙ (reached-clock memory c (acts (treeOf log)) 0 powerOn (omega arith)
+      ∙ (reached-clock memory c (acts (treeOf log)) 0 (powerOn (machineOf log)) (omega arith)
       ∙ rw (zero-add, clocks-listed (treeOf log)) refl)
 
   -- THE PLAYER'S LINES behind what is reached are those of the state reached, at the clock reached, for the acts that are left
-  pub player-passes : Passes memory c (notesOf memory (acts (treeOf log))) (stateAt log memory c) (behind memory c (acts (treeOf log)) 0)
+  pub player-passes : Passes memory c (notesOf (machineOf log) memory (acts (treeOf log))) (stateAt log memory c) (behind memory c (acts (treeOf log)) 0)
   unfolding notesOf
   player-passes =
-      rw (at-is log memory c long fine) (more memory c (Play ∷ Level 0 (stateLevel powerOn) ∷ []) (passes memory c (acts (treeOf log)) 0 powerOn (omega arith)))
+      rw (at-is log memory c long fine) (more memory c (Play ∷ Level 0 (stateLevel (powerOn (machineOf log))) ∷ []) (passes memory c (acts (treeOf log)) 0 (powerOn (machineOf log)) (omega arith)))

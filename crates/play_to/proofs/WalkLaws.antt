@@ -12,6 +12,7 @@ use Rattle.arith.specs.Pick.{pick}
 use Rattle.bus.specs.declared.Access.the-variants as bus
 use Rattle.log_line.specs.declared.Act.{Act}
 use Rattle.log_line.specs.declared.Act.the-variants.{Wait, Access}
+use Rattle.log_judge.specs.Head.{machineOf}
 use Rattle.log_judge.specs.Tree.{acts}
 use Rattle.log_judge.specs.Whole.{treeOf, checkOf}
 use Rattle.log_judge.specs.declared.Checked.{Checked}
@@ -90,7 +91,7 @@ module _ (memory : List ℕ) (c : ℕ) where
 
 -- one step of the walk: it is over with the answer, or the walk goes on
 pub record Onward (log memory : List ℕ) (c : ℕ) (cursor : Cursor) (m : Moment) (left : ℕ) : Type 0 where
-  pub over : m .over ≡ true → atOf (m .time) (m .state) ≡ reached memory c (acts (treeOf log)) 0 powerOn
+  pub over : m .over ≡ true → atOf (m .time) (m .state) ≡ reached memory c (acts (treeOf log)) 0 (powerOn (machineOf log))
   pub on : m .over ≡ false → Walking log memory c cursor m (left - 1)
 
 less : (k f : ℕ) → k < f → k ≤ f - 1
@@ -101,7 +102,7 @@ false-true e = let x : _≡_ {A = ℕ} 0 1 = cc in absurd (omega arith)
 
 module _ (log memory : List ℕ) (c : ℕ) where
   abbrev Whole : At
-  Whole = reached memory c (acts (treeOf log)) 0 powerOn
+  Whole = reached memory c (acts (treeOf log)) 0 (powerOn (machineOf log))
 
   -- by what the cursor's step says
   step-on : {cursor : Cursor} {rest : List Act} {left : ℕ} → Gives (stepOf log) cursor rest left → (m : Moment)
@@ -143,10 +144,10 @@ module _ (log memory : List ℕ) (c : ℕ) where
   pub walk-left : {A : Type 0} (cursor : Cursor) (m : Moment) (left : ℕ) → Walking log memory c cursor m left → left ≡ 0 → A
   walk-left cursor m left w z = absurd (none-left (w .gives) z)
 
-  pub walk-start : checkOf log .number ≡ 0 → Walking log memory c beginning (momentOf false 0 powerOn) 2000002
+  pub walk-start : checkOf log .number ≡ 0 → Walking log memory c beginning (momentOf false 0 (powerOn (machineOf log))) 2000002
   walk-start h =
       record {
-        fine = record { early = omega arith; ranged = power-on-in };
+        fine = record { early = omega arith; ranged = power-on-in (machineOf log) };
         rest = acts (treeOf log);
         gives = cursor-gives log h;
         same = refl;
@@ -163,6 +164,6 @@ module _ (log memory : List ℕ) (c : ℕ) where
     unfolding stateAt
     refused-log k e h = rw (eq-eqb (length memory) 32768 long, ← e, ne-eqb (k .number) 0 h)
 
-    pub at-is : checkOf log .number ≡ 0 → stateAt log memory c ≡ reached memory c (acts (treeOf log)) 0 powerOn
+    pub at-is : checkOf log .number ≡ 0 → stateAt log memory c ≡ reached memory c (acts (treeOf log)) 0 (powerOn (machineOf log))
     unfolding stateAt
     at-is fine = rw (eq-eqb (length memory) 32768 long, eq-eqb (checkOf log .number) 0 fine)

@@ -10,6 +10,7 @@ use Rattle.bus.specs.declared.Access as busAccess
 use Rattle.bus.specs.declared.Access.the-variants as bus
 use Rattle.log_line.specs.declared.Act.{Act}
 use Rattle.log_line.specs.declared.Act.the-variants.{Wait, Access}
+use Rattle.log_judge.specs.Head.{machineOf}
 use Rattle.log_judge.specs.Tree.{acts}
 use Rattle.log_judge.specs.Whole.{treeOf}
 use Rattle.log_cursor.specs.declared.Cursor.{Cursor}
@@ -64,4 +65,4 @@ pub record Walking (log memory : List ℕ) (c : ℕ) (cursor : Cursor) (m : Mome
   pub fine : Fine c m
   pub rest : List Act
   pub gives : Gives (stepOf log) cursor rest left
-  pub same : reached memory c rest (m .time) (m .state) ≡ reached memory c (acts (treeOf log)) 0 powerOn
+  pub same : reached memory c rest (m .time) (m .state) ≡ reached memory c (acts (treeOf log)) 0 (powerOn (machineOf log))

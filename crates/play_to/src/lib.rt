@@ -6,6 +6,7 @@ ghost use lib.ListN.{length};
 ghost use Rattle.arith.specs.Iterate.{iterate};
 ghost use Rattle.chip.specs.Clock.{chipClock};
 ghost use Rattle.chip.specs.Range.{inRange, powerOn};
+ghost use Rattle.log_judge.specs.Head.{machineOf};
 ghost use Rattle.log_judge.specs.Tree.{acts};
 ghost use Rattle.log_judge.specs.Whole.{treeOf, checkOf};
 ghost use Rattle.play_to.specs.Reached.{atOf, refusedAt, reached, stateAt};
@@ -15,7 +16,7 @@ use chip::State;
 use log_cursor::Found;
 use log_line::Act;
 
-// The answer: the clock that was reached, and the state there; refused, a number and its place, clock 0 and the state at power-on.
+// The answer: the clock that was reached, and the state there; refused, a number and its place, clock 0 and the state at power-on (NTSC's).
 pub struct At {
     pub number: u8,
     pub place: usize,
@@ -54,7 +55,7 @@ fn at_of(time: u64, s: State) -> At
 fn refused_at(number: u8, place: usize) -> At
     ensures { λ r. ⌜ r ≡ refusedAt number place ⌝ }
 {
-    let s = chip::power_on();
+    let s = chip::power_on(false);
     At {
         number: number,
         place: place,
@@ -172,15 +173,15 @@ fn found_to(m: Moment, memory: &[u8], clock: u64, f: Found, words: &mut [u32]) -
     }
 }
 
-// A log that passes, from its beginning to the clock or its end, within as many steps as the cursor takes at most.
+// A log that passes, from its beginning, on its machine, to the clock or its end, within as many steps as the cursor takes at most.
 fn walk(log: &[u8], memory: &[u8], clock: u64, words: &mut [u32]) -> At
     requires { ⌜ (checkOf (now log) .number ≡ 0) × (length (now memory) ≡ 32768) ⌝ }
     requires { ⌜ 2 ≤ length (now words) ⌝ }
-    ensures { λ r. ⌜ r ≡ reached (now (memory .entry)) clock (acts (treeOf (now (log .entry)))) 0 powerOn ⌝ }
+    ensures { λ r. ⌜ r ≡ reached (now (memory .entry)) clock (acts (treeOf (now (log .entry)))) 0 (powerOn (machineOf (now (log .entry)))) ⌝ }
     ensures { λ r. ⌜ inRange (r .state) ≡ true ⌝ }
 {
     let mut cursor = log_cursor::start();
-    let mut m = moment_of(false, 0, chip::power_on());
+    let mut m = moment_of(false, 0, chip::power_on(log_read::is_pal(log)));
     let mut left: u32 = 2000002;
     while 0 < left {
         let s = log_cursor::step(log, cursor);

@@ -26,11 +26,11 @@ pub struct Went {
     pub player: Player,
 }
 
-// The player at a log's beginning.
-fn fresh() -> Player
-    ensures { λ r. ⌜ r ≡ freshPlayer ⌝ }
+// The player at the beginning of a log for a machine.
+fn fresh(pal: bool) -> Player
+    ensures { λ r. ⌜ r ≡ freshPlayer pal ⌝ }
 {
-    let s = chip::power_on();
+    let s = chip::power_on(pal);
     let c = log_cursor::start();
     Player {
         phase: 0,
@@ -46,16 +46,16 @@ fn fresh() -> Player
 fn ended() -> Player
     ensures { λ r. ⌜ r ≡ endedPlayer ⌝ }
 {
-    let mut p = fresh();
+    let mut p = fresh(false);
     p.phase = 3;
     p
 }
 
-// The player that a log begins with: at its beginning where it can be played, else one with nothing to play.
-pub fn first(passes: bool) -> Player
-    ensures { λ r. ⌜ r ≡ pick passes freshPlayer endedPlayer ⌝ }
+// The player that a log for a machine begins with: at its beginning where it can be played, else one with nothing to play.
+pub fn first(passes: bool, pal: bool) -> Player
+    ensures { λ r. ⌜ r ≡ pick passes (freshPlayer pal) endedPlayer ⌝ }
 {
-    if passes { fresh() } else { ended() }
+    if passes { fresh(pal) } else { ended() }
 }
 
 // Behind an access that led to the state s.

@@ -1,5 +1,6 @@
 use borrow.Author.Needs.{needs}
 use mathlib.Core.Path.{_≡_, sym, ap, _∙_}
+use mathlib.Core.Bool.{false}
 use native.Mathlib.Omega.{arith}
 use Rattle.chip.specs.Range.{inRange}
 use Rattle.chip.proofs.RangeLaws.{power-on-in}
@@ -14,14 +15,14 @@ returns : tie.Need-returns
 returns c =
     let a = c .before .before .before .before .args in
     let e = c .refused-at .ensures in
-    (e ∙ refused-one (a .log .now) (a .memory .now) (a .clock) (c .before .if1 .taken), ap (λ (r : At). inRange (r .state)) e ∙ power-on-in)
+    (e ∙ refused-one (a .log .now) (a .memory .now) (a .clock) (c .before .if1 .taken), ap (λ (r : At). inRange (r .state)) e ∙ power-on-in false)
 
 returns-2 : tie.Need-returns-2
 returns-2 c =
     let a = c .before .before .before .before .before .before .before .args in
     let e = c .refused-at2 .ensures in
     let k = c .before .before .before .check in
-    (e ∙ refused-log (a .log .now) (a .memory .now) (a .clock) (c .before .before .before .before .if1 .left) (k .result) (k .ensures) (c .before .if2 .taken), ap (λ (r : At). inRange (r .state)) e ∙ power-on-in)
+    (e ∙ refused-log (a .log .now) (a .memory .now) (a .clock) (c .before .before .before .before .if1 .left) (k .result) (k .ensures) (c .before .if2 .taken), ap (λ (r : At). inRange (r .state)) e ∙ power-on-in false)
 
 walk-requires : tie.Need-walk-requires
 walk-requires c κs =

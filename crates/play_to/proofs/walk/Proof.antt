@@ -15,13 +15,13 @@ abbrev μ-loop : tie.MeasureT-loop
 
 loop-holds : tie.Need-loop-holds Inv-loop μ-loop
 loop-holds c =
-    let s = c .before .before .before .before .before .before in
+    let s = c .before .before .before .before .before .before .before in
     let a = s .args in
-    (rw (c .moment-of .ensures, c .before .power-on .ensures, c .before .before .start .ensures) (walk-start (a .log .now) (a .memory .now) (a .clock) (s .pre .0 .0)), refl)
+    (rw (c .moment-of .ensures, c .before .power-on .ensures, c .before .before .is-pal .ensures, c .before .before .before .start .ensures) (walk-start (a .log .now) (a .memory .now) (a .clock) (s .pre .0 .0)), refl)
 
 found-to-requires : tie.Need-found-to-requires Inv-loop μ-loop
 found-to-requires c κs =
-    let s = c .before .before .before .before .before .before .before .before .before .before .before in
+    let s = c .before .before .before .before .before .before .before .before .before .before .before .before in
     let l = c .before .before .before .before .loop in
     ((s .pre .0 .1, l .inv .0 .fine), omega (arith, l .inv .1, s .pre .1))
 
@@ -30,7 +30,7 @@ same-length c = omega (arith, c .before .before .before .before .words .given, c
 
 returns : tie.Need-returns Inv-loop μ-loop
 returns c =
-    let a = c .before .before .before .before .before .before .before .before .before .before .before .before .before .before .before .before .before .args in
+    let a = c .before .before .before .before .before .before .before .before .before .before .before .before .before .before .before .before .before .before .args in
     let l = c .before .before .before .before .before .before .before .before .before .before .loop in
     let p = c .before .before .before .before .before .before .before .before .step in
     let f = c .before .before .before .before .before .found-to in
@@ -45,7 +45,7 @@ loop-less c = omega (arith, c .before .before .before .before .before .before .b
 
 loop-again : tie.Need-loop-again Inv-loop μ-loop
 loop-again c =
-    let a = c .before .before .before .before .before .before .before .before .before .before .before .before .before .before .before .args in
+    let a = c .before .before .before .before .before .before .before .before .before .before .before .before .before .before .before .before .args in
     let l = c .before .before .before .before .before .before .before .before .loop in
     let p = c .before .before .before .before .before .before .step in
     let f = c .before .before .before .found-to in
@@ -57,7 +57,7 @@ same-length-2 c = c .before .before .before .loop .inv .1
 
 returns-2 : tie.Need-returns-2 Inv-loop μ-loop
 returns-2 c =
-    let a = c .before .before .before .before .before .before .before .before .before .before .args in
+    let a = c .before .before .before .before .before .before .before .before .before .before .before .args in
     let l = c .before .before .before .loop in
     walk-left (a .log .now) (a .memory .now) (a .clock) (l .cursor) (l .m) (l .left) (l .inv .0) (omega (arith, c .before .before .loop-test .left))
 
@@ -67,6 +67,7 @@ walk-spec =
     (tie.spec
     Inv-loop
     μ-loop
+    (λ c κs. tt)
     (λ c κs. tt)
     (λ c κs. tt)
     (λ c κs. tt)
