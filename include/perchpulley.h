@@ -14,9 +14,10 @@
  * 14 to 19 the first line at fault wins, before 9 to 12.
  *
  * A state is PERCH_STATE_SIZE bytes: the fields in the order in which document 01, "State, ranges and power-on", names
- * them. Period, timer, shift register, address, remaining and clock number take two bytes, low first, every other field one;
- * a flag is 0 or 1. Bytes of another length, or with a flag above 1, or with a field outside its range, or with disable
- * and the frame's interrupt both set, are no state in range (PERCH_REFUSED_STATE).
+ * them, then the machine. Period, timer, shift register, address, remaining and clock number take two bytes, low first,
+ * every other field one; a flag is 0 or 1, the machine PERCH_NTSC or PERCH_PAL. Bytes of another length, or with a flag above
+ * 1, or with no machine, or with a field outside its range on that machine, or with disable and the frame's interrupt both
+ * set, are no state in range (PERCH_REFUSED_STATE).
  *
  *   byte   0  square 1: duty, loop, constant, n, sweep enable, negate, P, S, sweep-written, sweep divider, period (2),
  *             timer (2), half, position, envelope start, envelope divider, envelope counter, length, enabled
@@ -27,6 +28,7 @@
  *         67  DMC: interrupt enable, loop, index, timer (2), level, address byte, length byte, address (2),
  *             remaining (2), buffer, full, shift byte, bits, silence, interrupt
  *         85  frame: mode, disable, clock number (2), interrupt
+ *         90  machine
  */
 #ifndef PERCHPULLEY_H
 #define PERCHPULLEY_H
@@ -38,16 +40,19 @@
 extern "C" {
 #endif
 
-#define PERCH_VERSION 3            /* of this header; perch_version() is the library's */
-#define PERCH_STATE_SIZE 90        /* bytes of a state; perch_state_size() at run time */
+#define PERCH_VERSION 4            /* of this header; perch_version() is the library's */
+#define PERCH_STATE_SIZE 91        /* bytes of a state; perch_state_size() at run time */
 #define PERCH_MEMORY_SIZE 32768    /* bytes of sample memory, $8000 to $FFFF */
 #define PERCH_MOST_CLOCKS 1000000  /* clocks that one run may be asked for */
 #define PERCH_MOST_SHEET 4081      /* bytes that one sheet may be asked for */
-#define PERCH_PLAYER_SIZE 189      /* bytes of a player; perch_player_size() at run time */
+#define PERCH_PLAYER_SIZE 190      /* bytes of a player; perch_player_size() at run time */
 #define PERCH_PLAYER_TIME 5        /* the first of the four bytes of a player that tell its time */
 #define PERCH_CURSOR_SIZE 88       /* bytes of a cursor; perch_cursor_size() at run time */
 #define PERCH_LONGEST_LINE 23      /* bytes of the longest line that a player writes, with its line feed */
 #define PERCH_REFUSAL_SIZE 40      /* bytes in which the text of any refusal fits */
+
+#define PERCH_NTSC 0 /* the machines */
+#define PERCH_PAL 1
 
 #define PERCH_DONE 0
 #define PERCH_REFUSED_MEMORY 1    /* sample memory isn't PERCH_MEMORY_SIZE bytes */
@@ -93,8 +98,9 @@ uint32_t perch_version(void);
 /* How many bytes a state is. */
 size_t perch_state_size(void);
 
-/* Makes the n bytes the state at power-on, whatever they held. Refused: n isn't the size of a state (2). */
-uint64_t perch_power_on(uint8_t *state, size_t n);
+/* Makes the n bytes the state of a machine at power-on, whatever they held; no access changes the machine. Refused: n isn't
+ * the size of a state, or the machine is neither PERCH_NTSC nor PERCH_PAL (2). */
+uint64_t perch_power_on(uint8_t *state, size_t n, uint8_t machine);
 
 /* Value 1 where the bytes are a state in range, else 0. It refuses nothing. */
 uint64_t perch_in_range(const uint8_t *state, size_t n);
@@ -173,8 +179,11 @@ float perch_level_fraction(uint16_t level);
 #define PERCH_PLACE(answer) ((uint32_t)((answer) >> 8 & 0xffffff))
 #define PERCH_LOG_VALUE(answer) ((uint32_t)((uint64_t)(answer) >> 32))
 
-/* Checks a log of n bytes. The value is the clocks in all. Refused: 4, 5, 7 to 10, 14 to 19. */
+/* Checks a log of n bytes. The value is the clocks in all + 2^31 x the machine: PERCH_PAL where the log's second line is
+ * `machine=pal`, else PERCH_NTSC. Refused: 4, 5, 7 to 10, 14 to 19. */
 uint64_t perch_check(const uint8_t *log, size_t n);
+#define PERCH_LOG_CLOCKS(answer) ((uint32_t)((answer) >> 32 & 0x7fffffff))
+#define PERCH_LOG_MACHINE(answer) ((unsigned)((uint64_t)(answer) >> 63))
 
 /* The same, but the value is the turns in all: 1 for a wait, write or read; N times (1 + body) for a loop. */
 uint64_t perch_turns(const uint8_t *log, size_t n);
@@ -243,7 +252,7 @@ uint64_t perch_import(const uint8_t *stream, size_t n, uint8_t *text, size_t t);
 /* How many bytes a player is. */
 size_t perch_player_size(void);
 
-/* Makes the p bytes a player at the log's beginning, whatever they held. The answer is one about a log, with value 0.
+/* Makes the p bytes a player at the beginning of the log, on its machine, whatever they held. The answer is one about a log, with value 0.
  * Refused: 1; p isn't the size of a player (2); as the log. */
 uint64_t perch_begin(uint8_t *player, size_t p, const uint8_t *log, size_t n, const uint8_t *memory, size_t m);
 

@@ -4,7 +4,7 @@ use mathlib.Core.Bool.{Bool, true, false}
 use mathlib.Core.List.{List}
 use Prim.Native.Nat.{ℕ}
 use lib.ListN.{length}
-use lib.Dec.{eqb}
+use lib.Dec.{eqb, leb}
 use borrow.Author.Tests.{eq-eqb, eqb-true}
 use Rattle.arith.specs.Pick.{pick, both}
 use Rattle.arith.proofs.PickLaws.{both-left}
@@ -44,8 +44,10 @@ power-done : (t : Bool) → eqb (pick t 0 2) 0 ≡ true → t ≡ true
 power-done true e = refl
 power-done false e = e
 
-pub stored-on : (b : List ℕ) (s : State) → pick (eqb (powerNumber b) 0) (encoded s b) b ≡ bytesAfter (powerNumber b) s b
-stored-on b s = stored-by (eqb (powerNumber b) 0) b s (λ e. eqb-true (length b) stateSize (power-done (eqb (length b) stateSize) e))
+pub stored-on : (machine : ℕ) (b : List ℕ) (s : State) → pick (eqb (powerNumber machine b) 0) (encoded s b) b ≡ bytesAfter (powerNumber machine b) s b
+stored-on machine b s =
+    stored-by (eqb (powerNumber machine b) 0) b s
+    (λ e. eqb-true (length b) stateSize (both-left (eqb (length b) stateSize) (leb machine 1) (power-done (both (eqb (length b) stateSize) (leb machine 1)) e)))
 
 -- without a state the number is a refusal's
 pub no-state-refused : (t : Bool) → eqb (pick t 2 1) 0 ≡ false

@@ -4,7 +4,7 @@ use Prim.Native.Nat.{ℕ, _+_, _*_}
 use mathlib.Core.Bool.{Bool, false}
 use mathlib.Core.List.{List}
 use lib.ListN.{length}
-use lib.Dec.{eqb}
+use lib.Dec.{eqb, leb}
 use Rattle.arith.specs.Pick.{pick, both}
 use Rattle.chip.specs.Range.{inRange, powerOn}
 use Rattle.chip.specs.declared.State.{State}
@@ -23,15 +23,15 @@ packed number value = number + 256 * value
 abbrev pub bytesAfter : ℕ → State → List ℕ → List ℕ
 bytesAfter number s b = pick (eqb number 0) (stateBytes s) b
 
--- power-on writes any bytes of a state's length, whatever they held: 2 for another length
-abbrev pub powerNumber : List ℕ → ℕ
-powerNumber b = pick (eqb (length b) stateSize) 0 2
+-- power-on of a machine, 0 NTSC and 1 PAL, writes any bytes of a state's length, whatever they held: 2 for another length, and for another machine
+abbrev pub powerNumber : ℕ → List ℕ → ℕ
+powerNumber machine b = pick (both (eqb (length b) stateSize) (leb machine 1)) 0 2
 
-abbrev pub powerPacked : List ℕ → ℕ
-powerPacked b = packed (powerNumber b) 0
+abbrev pub powerPacked : ℕ → List ℕ → ℕ
+powerPacked machine b = packed (powerNumber machine b) 0
 
-abbrev pub powerBytes : List ℕ → List ℕ
-powerBytes b = bytesAfter (powerNumber b) powerOn b
+abbrev pub powerBytes : ℕ → List ℕ → List ℕ
+powerBytes machine b = bytesAfter (powerNumber machine b) (powerOn (eqb machine 1)) b
 
 -- the range test refuses nothing
 unfoldable pub bytesIn : List ℕ → Bool

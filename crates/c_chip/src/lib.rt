@@ -27,19 +27,20 @@ pub fn store(number: u8, s: State, b: &mut [u8])
     }
 }
 
-fn power_number(b: &[u8]) -> u8
-    ensures { λ r. ⌜ r ≡ powerNumber (now (b .entry)) ⌝ }
+fn power_number(machine: u8, b: &[u8]) -> u8
+    ensures { λ r. ⌜ r ≡ powerNumber machine (now (b .entry)) ⌝ }
 {
-    if b.len() == c_state::SIZE { 0 } else { 2 }
+    let right = arith::both_of(b.len() == c_state::SIZE, machine <= 1);
+    arith::pick_u8(right, 0, 2)
 }
 
-// Makes the bytes the state at power-on, whatever they held. Refused: 2, for another length.
-pub fn power_on(state: &mut [u8]) -> u64
-    ensures { λ r. ⌜ r ≡ powerPacked (now (state .entry)) ⌝ }
-    ensures { λ r. ⌜ now (state .exit) ≡ powerBytes (now (state .entry)) ⌝ }
+// Makes the bytes the state at power-on of a machine, 0 NTSC and 1 PAL, whatever they held. Refused: 2, for another length or another machine.
+pub fn power_on(state: &mut [u8], machine: u8) -> u64
+    ensures { λ r. ⌜ r ≡ powerPacked machine (now (state .entry)) ⌝ }
+    ensures { λ r. ⌜ now (state .exit) ≡ powerBytes machine (now (state .entry)) ⌝ }
 {
-    let number = power_number(state);
-    let s = chip_api::power_on();
+    let number = power_number(machine, state);
+    let s = chip_api::power_on(machine == 1);
     store(number, s, state);
     pack(number, 0)
 }

@@ -13,7 +13,7 @@ use Rattle.machine.specs.Saying.{Said, over, on, says, refused, Turn}
 use Rattle.log_line.specs.declared.Act.{Act}
 use Rattle.log_line.specs.declared.Act.the-variants.{Wait}
 use Rattle.log_line.specs.declared.Line.{Line}
-use Rattle.log_line.specs.declared.Line.the-variants.{Header, One, Loop, Done, Stop, Bad}
+use Rattle.log_line.specs.declared.Line.the-variants.{Header, Machine, One, Loop, Done, Stop, Bad}
 use Rattle.log_line.specs.Printed.{Allowed, Printable}
 use Rattle.log_spot.specs.declared.Stand.{Stand}
 use Rattle.log_spot.specs.declared.Found.{Found as Spot}
@@ -76,6 +76,7 @@ module _ (c : Cursor) where
   followed-says : (d p : ℕ) (l : Line) → Printable l → c .at ≤ 60000 → SaidIn (followed c d p l)
   unfolding followed
   followed-says d p Header h k = tt
+  followed-says d p Machine h k = tt
   followed-says d p (One a) h k = allowed a h
   followed-says d p (Loop n) h k = pick-both SaidIn (ltb d 8) {a = go on (entered c d p n)} {b = go (refused 7 (c .at)) c} tt k
   followed-says d p Done h k =
@@ -144,6 +145,7 @@ module _ (c : Cursor) (f : CursorFits c) where
   followed-fits : (d p : ℕ) (l : Line) → d ≤ 8 → p ≤ 60000 → Printable l → GoFits (followed c d p l)
   unfolding followed
   followed-fits d p Header h k w = passed-fits d p h k
+  followed-fits d p Machine h k w = passed-fits d p h k
   followed-fits d p (One a) h k w = passed-fits d p h k
   followed-fits d p (Loop n) h k w =
       pick-both GoFits (ltb d 8) {a = go on (entered c d p n)} {b = go (refused 7 (c .at)) c} (entered-fits d p n h k (w .1)) f
@@ -187,6 +189,7 @@ module _ (c : Cursor) where
   followed-stays : (d p : ℕ) (l : Line) → Stays c (followed c d p l)
   unfolding followed
   followed-stays d p Header = λ e. absurd (on-no refl e)
+  followed-stays d p Machine = λ e. absurd (on-no refl e)
   followed-stays d p (One a) = λ e. absurd (let z : _≡_ {A = ℕ} 0 1 = cc in omega arith)
   followed-stays d p (Loop n) = pick-both (Stays c) (ltb d 8) {a = go on (entered c d p n)} {b = go (refused 7 (c .at)) c} (λ e. absurd (on-no refl e)) (λ e. refl)
   followed-stays d p Done =

@@ -1,11 +1,13 @@
 -- Answers about a log: each part of the number can be had again, and the body of a loop is the part of the log that the answer says. Assumes
 -- nothing.
-use Prim.Native.Nat.{ℕ, _+_, _*_, _/_, _%_, _^_, _<_}
+use Prim.Native.Nat.{ℕ, _+_, _*_, _/_, _%_, _^_, _≤_, _<_}
 use mathlib.Core.Path.{_≡_, ap}
 use mathlib.Core.List.{List}
+use mathlib.Core.Bool.{Bool, true, false}
 use native.Mathlib.Omega.{arith}
 use borrow.Author.Tests.{eq-eqb}
 use lib.ListN.{length, take, drop}
+use Rattle.arith.specs.Pick.{pick}
 use Rattle.log_line.specs.declared.Line.{Line}
 use Rattle.log_judge.specs.declared.Reading.the-variants.{Item}
 use Rattle.log_judge.specs.Lines.{nextLine}
@@ -13,12 +15,17 @@ use Rattle.log_judge.specs.Reading.{readAt}
 use Rattle.log_judge.proofs.PlaceLaws.{had-at}
 use Rattle.log_parts.specs.Bodies.{bodyCheckOf, bodyOf}
 use Rattle.log_parts.proofs.Limits.{body-answer, body-start, body-length, body-is-part}
-use Rattle.c_log.specs.Logs.{logPacked, bodyValue, bodyPacked}
+use Rattle.c_log.specs.Logs.{logPacked, checkValue, bodyValue, bodyPacked}
 
 -- the parts of an answer
 pub apart : (number place value : ℕ) → number < 2 ^ 8 → place < 2 ^ 24
     → (logPacked number place value % 2 ^ 8 ≡ number) × (logPacked number place value / 2 ^ 8 % 2 ^ 24 ≡ place) × (logPacked number place value / 2 ^ 32 ≡ value)
 apart number place value h k = (omega arith, omega arith, omega arith)
+
+-- the parts of a check's value
+pub value-apart : (clocks : ℕ) (pal : Bool) → clocks ≤ 2000000000 → (checkValue clocks pal % 2 ^ 31 ≡ clocks) × (checkValue clocks pal / 2 ^ 31 ≡ pick pal 1 0)
+value-apart clocks true h = (omega arith, omega arith)
+value-apart clocks false h = (omega arith, omega arith)
 
 module _ (log : List ℕ) (o : ℕ) where
   -- what `body_value` adds up

@@ -11,6 +11,7 @@ use Rattle.arith.specs.Pick.{pick, either}
 use Rattle.arith.proofs.PickLaws.{pick-both, pick-each}
 use Rattle.log_judge.specs.declared.Checked.{Checked}
 use Rattle.log_judge.specs.Judge.{Verdict, right, wrong, judged}
+use Rattle.log_judge.specs.Head.{machineOf}
 use Rattle.log_judge.specs.Tree.{Tree, clocks, turns, acts}
 use Rattle.log_judge.specs.Whole.{treeOf, Stopping, stopOf, refusal, passed, heavy, weighed, unlessWrong, checkOf}
 use Rattle.log_judge.proofs.CheckLaws.{acts-le}
@@ -35,9 +36,9 @@ light t h = go (ltb 2000000000 (clocks t)) h
     go true f = absurd (let z : _≡_ {A = ℕ} 0 1 = cc in omega arith)
     go false f = ltb-false 1000000 (turns t) f
 
-weighed-counted : (t : Tree) (s : Stopping) → Counted (weighed t s)
+weighed-counted : (m : Bool) (t : Tree) (s : Stopping) → Counted (weighed m t s)
 unfolding weighed
-weighed-counted t s =
+weighed-counted m t s =
     pick-each Counted (heavy t) (λ e. none 9 (s .place))
     (λ e.
     let l = light t e in
@@ -53,4 +54,4 @@ pub counted : (log : List ℕ) → Counted (checkOf log)
 unfolding checkOf
 counted log =
     pick-each Counted (ltb 60000 (length log)) (λ e. none 5 0)
-    (λ e. unless-counted (judged log) (weighed (treeOf log) (stopOf log)) (weighed-counted (treeOf log) (stopOf log)))
+    (λ e. unless-counted (judged log) (weighed (machineOf log) (treeOf log) (stopOf log)) (weighed-counted (machineOf log) (treeOf log) (stopOf log)))

@@ -1,6 +1,7 @@
 -- Logs at the boundary: the check, the totals, item k and a loop's body, each answer in one number. A refusal has its place, and value 0.
 use Prim.Native.Nat.{ℕ, _+_, _*_, _^_}
 use mathlib.Core.List.{List}
+use mathlib.Core.Bool.{Bool}
 use lib.ListN.{length}
 use lib.Dec.{eqb}
 use Rattle.arith.specs.Pick.{pick}
@@ -19,9 +20,12 @@ use Rattle.log_parts.specs.Bodies.{bodyCheckOf, bodyOf}
 abbrev pub logPacked : ℕ → ℕ → ℕ → ℕ
 logPacked number place value = number + 2 ^ 8 * place + 2 ^ 32 * value
 
--- the check: its value is the clocks in all
+-- the check: its value is the clocks in all + 2^31 x the machine, 0 for NTSC and 1 for PAL
+abbrev pub checkValue : ℕ → Bool → ℕ
+checkValue clocks pal = clocks + 2 ^ 31 * pick pal 1 0
+
 abbrev pub checkPacked : List ℕ → ℕ
-checkPacked log = logPacked (checkOf log .number) (checkOf log .place) (checkOf log .clocks)
+checkPacked log = logPacked (checkOf log .number) (checkOf log .place) (checkValue (checkOf log .clocks) (checkOf log .pal))
 
 -- the same with the turns in all, and with the items in all: the waits, writes and reads that the log stands for
 abbrev pub turnsPacked : List ℕ → ℕ

@@ -3,7 +3,7 @@ ghost use mathlib.Core.Path.{_≡_};
 ghost use Prim.Native.Nat.{_^_, _%_, _≤_, _<_};
 ghost use Rattle.log_judge.specs.Tree.{actClocks};
 ghost use Rattle.log_parts.specs.Bodies.{bodyCheckOf};
-ghost use Rattle.c_log.specs.Logs.{logPacked, checkPacked, turnsPacked, itemsPacked, accessValue, actValue, itemPacked, bodyValue, bodyPacked};
+ghost use Rattle.c_log.specs.Logs.{logPacked, checkValue, checkPacked, turnsPacked, itemsPacked, accessValue, actValue, itemPacked, bodyValue, bodyPacked};
 use bus::Access;
 use log_judge::Reading;
 use log_line::Act;
@@ -16,12 +16,24 @@ pub fn pack(number: u8, place: usize, value: u32) -> u64
     number as u64 + 256 * (place % 16777216) as u64 + 4294967296 * value as u64
 }
 
-// Checks a log; the value is its clocks in all. Refused: 4 to 10.
+// The clocks in all, and the machine above them.
+fn check_value(clocks: u64, pal: bool) -> u64
+    requires { ⌜ clocks ≤ 2000000000 ⌝ }
+    ensures { λ r. ⌜ (r ≡ checkValue clocks pal) × (r < 2 ^ 32) ⌝ }
+{
+    if pal {
+        return clocks + 2147483648;
+    }
+    clocks
+}
+
+// Checks a log; the value is its clocks in all and its machine. Refused: 4, 5, 7 to 10, 14 to 19.
 pub fn check(log: &[u8]) -> u64
     ensures { λ r. ⌜ r ≡ checkPacked (now (log .entry)) ⌝ }
 {
     let c = log_check::check(log);
-    pack(c.number, c.place, c.clocks as u32)
+    let value = check_value(c.clocks, c.pal);
+    pack(c.number, c.place, value as u32)
 }
 
 // The same; the value is its turns in all.

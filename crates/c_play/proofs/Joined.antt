@@ -17,6 +17,7 @@ use Rattle.play.specs.Playing.{PlayedOn}
 use Rattle.play.specs.Calls as play
 use Rattle.play.specs.Whole.{playNumber, begunOf}
 use Rattle.play.proofs.Whole.{Beginning, pieces-whole, never-halted, gets-line, comes-to-end}
+use Rattle.log_judge.specs.Head.{machineOf}
 use Rattle.log_judge.specs.Tree.{acts}
 use Rattle.log_judge.specs.Whole.{treeOf}
 use Rattle.play_model.specs.Sound.{notesOf}
@@ -38,13 +39,13 @@ over-is false l = ne-eqb ((2 ^ 8 * 0 + 2 ^ 32 * l) / 2 ^ 8 % 2) 1 (λ h. omega a
 
 -- the player at the beginning
 
-fresh-fits : PlayerFits freshPlayer
+fresh-fits : (pal : Bool) → PlayerFits (freshPlayer pal)
 unfolding freshPlayer
-fresh-fits =
+fresh-fits pal =
     record { phase = omega arith; wait = omega arith; time = omega arith; last = omega arith; cursor = beginning-fits }
 
 module _ (log memory : List ℕ) where
-  begun-fresh : (b : List ℕ) → beginNumber log memory b ≡ 0 → (playNumber log memory ≡ 0) × (beginBytes log memory b ≡ playerBytes freshPlayer)
+  begun-fresh : (b : List ℕ) → beginNumber log memory b ≡ 0 → (playNumber log memory ≡ 0) × (beginBytes log memory b ≡ playerBytes (freshPlayer (machineOf log)))
   unfolding beginNumber begunOf
   begun-fresh b e = by (eqb (length b) playerSize) e
     where
@@ -53,7 +54,7 @@ module _ (log memory : List ℕ) where
       refused false h = omega arith
 
       by : (t : Bool) → pick t (playNumber log memory) (pick (isMemory memory) 2 1) ≡ 0
-          → (playNumber log memory ≡ 0) × (playerAfter (pick t (playNumber log memory) (pick (isMemory memory) 2 1)) (pick (eqb (playNumber log memory) 0) freshPlayer endedPlayer) b ≡ playerBytes freshPlayer)
+          → (playNumber log memory ≡ 0) × (playerAfter (pick t (playNumber log memory) (pick (isMemory memory) 2 1)) (pick (eqb (playNumber log memory) 0) (freshPlayer (machineOf log)) endedPlayer) b ≡ playerBytes (freshPlayer (machineOf log)))
       by true h = (h, rw (eq-eqb (playNumber log memory) 0 h))
       by false h = absurd (refused (isMemory memory) h)
 
@@ -67,7 +68,7 @@ module _ (log memory : List ℕ) where
   -- a list of calls with bytes is a list of calls with the players that they stand for
   pub record Held (b joined : List ℕ) (count : ℕ) (over : Bool) : Type 0 where
     pub player : Player
-    pub calls : play.Calls log memory freshPlayer joined count player over
+    pub calls : play.Calls log memory (freshPlayer (machineOf log)) joined count player over
     pub bytes : b ≡ playerBytes player
     pub fits : PlayerFits player
     pub passes : playNumber log memory ≡ 0
@@ -104,7 +105,7 @@ module _ (log memory : List ℕ) where
   pub held : {b joined : List ℕ} {n : ℕ} {over : Bool} → Pieces log memory b joined n over → Held b joined n over
   held (none b e) =
       let begun = begun-fresh b (omega arith) in
-      record { player = freshPlayer; calls = play.none; bytes = begun .1; fits = fresh-fits; passes = begun .0 }
+      record { player = freshPlayer (machineOf log); calls = play.none; bytes = begun .1; fits = fresh-fits (machineOf log); passes = begun .0 }
   held (piece {b = b} {joined = joined} {n = n} b′ text text′ answer p k) = gone b b′ joined n text text′ answer (held p) k .held
 
   -- THE PIECES JOINED ARE A BEGINNING OF THE WHOLE TEXT, AND ALL OF IT WHEN THE LAST CALL SAID OVER
@@ -117,5 +118,5 @@ module _ (log memory : List ℕ) where
   piece-on {b = b} {joined = joined} {n = n} p b′ text text′ answer k = gone b b′ joined n text text′ answer (held p) k
 
   -- SO THEY COME TO AN END: behind more texts of 23 bytes or more than there are lines the last call said over
-  pub pieces-end : {b joined : List ℕ} {n : ℕ} (over : Bool) → Pieces log memory b joined n over → length (notesOf memory (acts (treeOf log))) < n → over ≡ true
+  pub pieces-end : {b joined : List ℕ} {n : ℕ} (over : Bool) → Pieces log memory b joined n over → length (notesOf (machineOf log) memory (acts (treeOf log))) < n → over ≡ true
   pieces-end over p more = comes-to-end log memory (held p .passes) over (held p .calls) more

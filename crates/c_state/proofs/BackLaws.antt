@@ -65,7 +65,7 @@ abbrev dmcPlaces : ℕ → List ℕ
 dmcPlaces at = at ∷ (at + 1) ∷ (at + 13) ∷ (at + 16) ∷ (at + 17) ∷ []
 
 abbrev framePlaces : ℕ → List ℕ
-framePlaces at = at ∷ (at + 1) ∷ (at + 4) ∷ []
+framePlaces at = at ∷ (at + 1) ∷ (at + 4) ∷ (at + 5) ∷ []
 
 module _ (b : List ℕ) (bytes : (i : ℕ) → byteOf b i ≤ 255) where
   low-kept : (i j : ℕ) → low (byteOf b i + 256 * byteOf b j) ≡ byteOf b i
@@ -90,9 +90,9 @@ module _ (b : List ℕ) (bytes : (i : ℕ) → byteOf b i ≤ 255) where
   unfolding dmcBytes dmcOf gather
   dmc-kept at f = simp (low-kept, high-kept, add-assoc, add-zero, f .0, f .1 .0, f .1 .1 .0, f .1 .1 .1 .0, f .1 .1 .1 .1 .0)
 
-  frame-kept : (at : ℕ) → Kept b (framePlaces at) → frameBytes (frameOf b at) ≡ gather b at 0 5
+  frame-kept : (at : ℕ) → Kept b (framePlaces at) → frameBytes (frameOf b at) (flagOf b (at + 5)) ≡ gather b at 0 6
   unfolding frameBytes frameOf gather
-  frame-kept at f = simp (low-kept, high-kept, add-assoc, add-zero, f .0, f .1 .0, f .1 .1 .0)
+  frame-kept at f = simp (low-kept, high-kept, add-assoc, add-zero, f .0, f .1 .0, f .1 .1 .0, f .1 .1 .1 .0)
 
   -- what was read is written
   pub read-written : isState b ≡ true → stateBytes (stateOf b) ≡ b
@@ -123,6 +123,6 @@ module _ (b : List ℕ) (bytes : (i : ℕ) → byteOf b i ≤ 255) where
       ∙ ap (λ (l : List ℕ). gather b 53 0 14 ++ l)
       (gathered b 67 0 18 (omega arith)
       ∙ ap (λ (l : List ℕ). gather b 67 0 18 ++ l)
-      (gathered b 85 0 5 (omega arith)
-      ∙ ap (λ (l : List ℕ). gather b 85 0 5 ++ l) (drop-of-length-le b {i = stateSize} (omega arith))
-      ∙ append-nil (gather b 85 0 5))))))))
+      (gathered b 85 0 6 (omega arith)
+      ∙ ap (λ (l : List ℕ). gather b 85 0 6 ++ l) (drop-of-length-le b {i = stateSize} (omega arith))
+      ∙ append-nil (gather b 85 0 6))))))))

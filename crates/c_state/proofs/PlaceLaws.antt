@@ -22,8 +22,8 @@ put-six :
     → length c ≡ 11
     → length d ≡ 14
     → length e ≡ 18
-    → length f ≡ 5
-    → paste (paste (paste (paste (paste (paste old 0 a 21) 21 b 21) 42 c 11) 53 d 14) 67 e 18) 85 f 5 ≡ a ++ (b ++ (c ++ (d ++ (e ++ f))))
+    → length f ≡ 6
+    → paste (paste (paste (paste (paste (paste old 0 a 21) 21 b 21) 42 c 11) 53 d 14) 67 e 18) 85 f 6 ≡ a ++ (b ++ (c ++ (d ++ (e ++ f))))
 put-six old a b c d e f ho ha hb hc hd he hf =
     rw (
       put-next [] old a 0 21 refl ha,
@@ -31,8 +31,8 @@ put-six old a b c d e f ho ha hb hc hd he hf =
       put-next (a ++ b) (drop 21 (drop 21 old)) c 42 11 (simp length-append (omega arith)) hc,
       put-next ((a ++ b) ++ c) (drop 11 (drop 21 (drop 21 old))) d 53 14 (simp length-append (omega arith)) hd,
       put-next (((a ++ b) ++ c) ++ d) (drop 14 (drop 11 (drop 21 (drop 21 old)))) e 67 18 (simp length-append (omega arith)) he,
-      put-next ((((a ++ b) ++ c) ++ d) ++ e) (drop 18 (drop 14 (drop 11 (drop 21 (drop 21 old))))) f 85 5 (simp length-append (omega arith)) hf,
-      drop-of-length-le (drop 18 (drop 14 (drop 11 (drop 21 (drop 21 old))))) {i = 5} (simp length-drop (omega arith)),
+      put-next ((((a ++ b) ++ c) ++ d) ++ e) (drop 18 (drop 14 (drop 11 (drop 21 (drop 21 old))))) f 85 6 (simp length-append (omega arith)) hf,
+      drop-of-length-le (drop 18 (drop 14 (drop 11 (drop 21 (drop 21 old))))) {i = 6} (simp length-drop (omega arith)),
     )
     (simp (append-nil, append-assoc))
 
@@ -45,14 +45,14 @@ pub put-state :
     → b₃ ≡ paste b₂ 42 (triangleBytes (s .triangle)) 11
     → b₄ ≡ paste b₃ 53 (noiseBytes (s .noise)) 14
     → b₅ ≡ paste b₄ 67 (dmcBytes (s .dmc)) 18
-    → b₆ ≡ paste b₅ 85 (frameBytes (s .frame)) 5
+    → b₆ ≡ paste b₅ 85 (frameBytes (s .frame) (s .pal)) 6
     → b₆ ≡ stateBytes s
 unfolding squareBytes triangleBytes noiseBytes dmcBytes frameBytes stateBytes
 put-state s old b₁ b₂ b₃ b₄ b₅ b₆ h e₁ e₂ e₃ e₄ e₅ e₆ =
     e₆
-    ∙ ap (λ (b : List ℕ). paste b 85 (frameBytes (s .frame)) 5) (e₅
+    ∙ ap (λ (b : List ℕ). paste b 85 (frameBytes (s .frame) (s .pal)) 6) (e₅
     ∙ ap (λ (b : List ℕ). paste b 67 (dmcBytes (s .dmc)) 18) (e₄
     ∙ ap (λ (b : List ℕ). paste b 53 (noiseBytes (s .noise)) 14) (e₃
     ∙ ap (λ (b : List ℕ). paste b 42 (triangleBytes (s .triangle)) 11) (e₂
     ∙ ap (λ (b : List ℕ). paste b 21 (squareBytes (s .square2)) 21) e₁))))
-    ∙ put-six old (squareBytes (s .square1)) (squareBytes (s .square2)) (triangleBytes (s .triangle)) (noiseBytes (s .noise)) (dmcBytes (s .dmc)) (frameBytes (s .frame)) h refl refl refl refl refl refl
+    ∙ put-six old (squareBytes (s .square1)) (squareBytes (s .square2)) (triangleBytes (s .triangle)) (noiseBytes (s .noise)) (dmcBytes (s .dmc)) (frameBytes (s .frame) (s .pal)) h refl refl refl refl refl refl

@@ -1,5 +1,5 @@
--- A state as 90 bytes: the 78 fields in the order in which document 01's "State, ranges and power-on" names them, square 1, square 2, triangle,
--- noise, DMC, frame. Period, timer, register, address, remaining and clock number take two bytes, low first, every other field one; a flag is 0 or 1.
+-- A state as 91 bytes: the 78 fields in the order in which document 01's "State, ranges and power-on" names them, square 1, square 2, triangle,
+-- noise, DMC, frame, and behind them the machine, 0 NTSC and 1 PAL. Period, timer, register, address, remaining and clock number take two bytes, low first, every other field one; a flag is 0 or 1.
 use Prim.Native.Nat.{ℕ, _+_, _*_, _/_, _%_}
 use mathlib.Core.Bool.{Bool, true}
 use mathlib.Core.List.{List, [], _∷_, _++_}
@@ -15,7 +15,7 @@ use Rattle.chip.specs.declared.State.{State}
 
 -- how many bytes a state is
 abbrev pub stateSize : ℕ
-stateSize = 90
+stateSize = 91
 
 -- WRITTEN
 
@@ -114,21 +114,22 @@ dmcBytes d =
     ∷ flagByte (d .reader .interrupt)
     ∷ []
 
--- "mode, interrupt disable, [clock number], interrupt flag"
-unfoldable pub frameBytes : Frame → List ℕ
-frameBytes f =
+-- "mode, interrupt disable, [clock number], interrupt flag", and behind them the machine: 0 NTSC, 1 PAL
+unfoldable pub frameBytes : Frame → Bool → List ℕ
+frameBytes f pal =
     flagByte (f .mode)
     ∷ flagByte (f .disable)
     ∷ low (f .clock)
     ∷ high (f .clock)
     ∷ flagByte (f .interrupt)
+    ∷ flagByte pal
     ∷ []
 
 unfoldable pub stateBytes : State → List ℕ
 stateBytes s =
     squareBytes (s .square1)
     ++ (squareBytes (s .square2)
-    ++ (triangleBytes (s .triangle) ++ (noiseBytes (s .noise) ++ (dmcBytes (s .dmc) ++ frameBytes (s .frame)))))
+    ++ (triangleBytes (s .triangle) ++ (noiseBytes (s .noise) ++ (dmcBytes (s .dmc) ++ frameBytes (s .frame) (s .pal)))))
 
 -- READ: the fields of a part whose first byte stands at `at`
 
@@ -255,6 +256,7 @@ stateOf b =
       noise = noiseOf b 53;
       dmc = dmcOf b 67;
       frame = frameOf b 85;
+      pal = flagOf b 90;
     }
 
 -- the places of the flags
@@ -265,7 +267,8 @@ flagPlaces =
     ∷ 42 ∷ 45 ∷ 52
     ∷ 53 ∷ 54 ∷ 56 ∷ 60 ∷ 61
     ∷ 67 ∷ 68 ∷ 80 ∷ 83 ∷ 84
-    ∷ 85 ∷ 86 ∷ 89 ∷ []
+    ∷ 85 ∷ 86 ∷ 89
+    ∷ 90 ∷ []
 
 -- every flag is 0 or 1
 unfoldable pub flagsRight : List ℕ → List ℕ → Bool

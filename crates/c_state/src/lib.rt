@@ -1,4 +1,4 @@
-// A state as 90 bytes, for callers in other languages: the fields in document 01's order, low byte first, a flag as 0 or 1.
+// A state as 91 bytes, for callers in other languages: the fields in document 01's order, low byte first, a flag as 0 or 1.
 ghost use mathlib.Core.Path.{_≡_};
 ghost use lib.ListN.{getD};
 ghost use Rattle.c_state.specs.Bytes.{stateSize, flagPlaces, flagsRight, isState, stateOf};
@@ -11,7 +11,7 @@ mod writer;
 use chip::State;
 
 // How many bytes a state is.
-pub const SIZE: usize = 90;
+pub const SIZE: usize = 91;
 
 pub fn size() -> usize
     ensures { λ r. ⌜ r ≡ stateSize ⌝ }
@@ -19,50 +19,7 @@ pub fn size() -> usize
     SIZE
 }
 
-// The places of the flags.
-const FLAGS: [usize; 32] = [
-    1,
-    2,
-    4,
-    5,
-    8,
-    14,
-    16,
-    20,
-    22,
-    23,
-    25,
-    26,
-    29,
-    35,
-    37,
-    41,
-    42,
-    45,
-    52,
-    53,
-    54,
-    56,
-    60,
-    61,
-    67,
-    68,
-    80,
-    83,
-    84,
-    85,
-    86,
-    89,
-];
-
-// The place of any flag k, counted from 0. The whole table is copied at each look-up.
-fn far_place(k: usize) -> usize
-    ensures { λ r. ⌜ r ≡ getD flagPlaces k 0 ⌝ }
-{
-    if k < 32 { FLAGS[k] } else { 0 }
-}
-
-// The same, by a `match` of numbers, which is one look-up.
+// The place of flag k, counted from 0.
 fn flag_place(k: usize) -> usize
     ensures { λ r. ⌜ r ≡ getD flagPlaces k 0 ⌝ }
 {
@@ -99,7 +56,8 @@ fn flag_place(k: usize) -> usize
         29 => 85,
         30 => 86,
         31 => 89,
-        _ => far_place(k),
+        32 => 90,
+        _ => 0,
     }
 }
 
@@ -108,7 +66,7 @@ fn flags_right(b: &[u8]) -> bool
     ensures { λ r. ⌜ r ≡ flagsRight (now (b .entry)) flagPlaces ⌝ }
 {
     let mut k = 0;
-    while k < 32 {
+    while k < 33 {
         let at = flag_place(k);
         let flag = field::byte_at(b, at);
         if 1 < flag {
@@ -137,6 +95,7 @@ pub fn decode(b: &[u8]) -> State
     let noise = reader::noise_at(b, 53);
     let dmc = reader::dmc_at(b, 67);
     let frame = reader::frame_at(b, 85);
+    let pal = field::flag_at(b, 90);
     State {
         square1: square1,
         square2: square2,
@@ -144,6 +103,7 @@ pub fn decode(b: &[u8]) -> State
         noise: noise,
         dmc: dmc,
         frame: frame,
+        pal: pal,
     }
 }
 
@@ -157,6 +117,6 @@ pub fn encode(s: State, b: &mut [u8])
         writer::put_triangle(s.triangle, b, 42);
         writer::put_noise(s.noise, b, 53);
         writer::put_dmc(s.dmc, b, 67);
-        writer::put_frame(s.frame, b, 85);
+        writer::put_frame(s.frame, s.pal, b, 85);
     }
 }

@@ -142,15 +142,17 @@ fn dmc_bytes(d: Dmc) -> [u8; 18]
     ]
 }
 
-fn frame_bytes(f: Frame) -> [u8; 5]
-    ensures { λ r. ⌜ r ≡ frameBytes f ⌝ }
+// With the machine behind it.
+fn frame_bytes(f: Frame, pal: bool) -> [u8; 6]
+    ensures { λ r. ⌜ r ≡ frameBytes f pal ⌝ }
 {
     let mode = field::flag_byte(f.mode);
     let disable = field::flag_byte(f.disable);
     let clock_low = field::low_byte(f.clock);
     let clock_high = field::high_byte(f.clock);
     let interrupt = field::flag_byte(f.interrupt);
-    [mode, disable, clock_low, clock_high, interrupt]
+    let machine = field::flag_byte(pal);
+    [mode, disable, clock_low, clock_high, interrupt, machine]
 }
 
 // Copies all of `part` into `b` from `at` on.
@@ -197,10 +199,10 @@ pub(crate) fn put_dmc(d: Dmc, b: &mut [u8], at: usize)
     put(&part, b, at);
 }
 
-pub(crate) fn put_frame(f: Frame, b: &mut [u8], at: usize)
-    requires { ⌜ at + 5 ≤ length (now b) ⌝ }
-    ensures { λ r. ⌜ now (b .exit) ≡ paste (now (b .entry)) at (frameBytes f) 5 ⌝ }
+pub(crate) fn put_frame(f: Frame, pal: bool, b: &mut [u8], at: usize)
+    requires { ⌜ at + 6 ≤ length (now b) ⌝ }
+    ensures { λ r. ⌜ now (b .exit) ≡ paste (now (b .entry)) at (frameBytes f pal) 6 ⌝ }
 {
-    let part = frame_bytes(f);
+    let part = frame_bytes(f, pal);
     put(&part, b, at);
 }

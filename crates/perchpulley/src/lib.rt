@@ -19,7 +19,7 @@ pub mod runs;
 pub extern "C" fn perch_version() -> u32
     ensures { λ r. ⌜ r ≡ version ⌝ }
 {
-    3
+    4
 }
 
 // How many bytes a state is.
@@ -30,13 +30,13 @@ pub extern "C" fn perch_state_size() -> usize
     c_state::size()
 }
 
-// Makes the bytes the state at power-on, whatever they held. Refused: 2, for another length.
+// Makes the bytes the state at power-on of a machine, 0 NTSC and 1 PAL, whatever they held. Refused: 2, for another length or another machine.
 #[no_mangle]
-pub extern "C" fn perch_power_on(state: &mut [u8]) -> u64
-    ensures { λ r. ⌜ r ≡ powerPacked (now (state .entry)) ⌝ }
-    ensures { λ r. ⌜ now (state .exit) ≡ powerBytes (now (state .entry)) ⌝ }
+pub extern "C" fn perch_power_on(state: &mut [u8], machine: u8) -> u64
+    ensures { λ r. ⌜ r ≡ powerPacked machine (now (state .entry)) ⌝ }
+    ensures { λ r. ⌜ now (state .exit) ≡ powerBytes machine (now (state .entry)) ⌝ }
 {
-    c_chip::power_on(state)
+    c_chip::power_on(state, machine)
 }
 
 // Value 1 where the bytes are a state in range, else 0. Nothing is refused.

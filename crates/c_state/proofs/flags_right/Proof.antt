@@ -11,10 +11,10 @@ use Rattle.c_state.proofs.flags_right.Statement.{statement}
 use Rattle.c_state.proofs.flags_right.Tie as tie
 
 abbrev Inv-loop : tie.InvT-loop
-Inv-loop b k₀ k = (k ≤ 32) × (flagsRight b flagPlaces ≡ flagsRight b (drop k flagPlaces))
+Inv-loop b k₀ k = (k ≤ 33) × (flagsRight b flagPlaces ≡ flagsRight b (drop k flagPlaces))
 
 abbrev μ-loop : tie.MeasureT-loop
-μ-loop b k₀ k = 32 - k
+μ-loop b k₀ k = 33 - k
 
 loop-holds : tie.Need-loop-holds Inv-loop μ-loop
 loop-holds c = (omega arith, refl)

@@ -4,7 +4,7 @@ use Rattle.c_state.proofs.writer.frame_bytes.Tie as tie
 
 returns : tie.Need-returns
 unfolding frameBytes
-returns c = simp (c .flag-byte3 .ensures, c .before .high-byte .ensures, c .before .before .low-byte .ensures, c .before .before .before .flag-byte2 .ensures, c .before .before .before .before .flag-byte .ensures)
+returns c = simp (c .flag-byte4 .ensures, c .before .flag-byte3 .ensures, c .before .before .high-byte .ensures, c .before .before .before .low-byte .ensures, c .before .before .before .before .flag-byte2 .ensures, c .before .before .before .before .before .flag-byte .ensures)
 
 pub frame-bytes-spec : {M : Type 1} → statement M
-frame-bytes-spec = tie.close (tie.spec (λ c κs. tt) (λ c κs. tt) (λ c κs. tt) (λ c κs. tt) (λ c κs. tt) returns)
+frame-bytes-spec = tie.close (tie.spec (λ c κs. tt) (λ c κs. tt) (λ c κs. tt) (λ c κs. tt) (λ c κs. tt) (λ c κs. tt) returns)
