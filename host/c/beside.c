@@ -19,7 +19,7 @@ enum { MOST_BUILDS = 8, MOST_ACTS = 4000000, WORDS = 32768 };
 
 struct build {
     const char *name;
-    uint64_t (*power_on)(uint8_t *, size_t);
+    uint64_t (*power_on)(uint8_t *, size_t, uint8_t);
     uint64_t (*write)(uint8_t *, size_t, uint16_t, uint8_t);
     uint64_t (*read_status)(uint8_t *, size_t);
     uint64_t (*run)(uint8_t *, size_t, const uint8_t *, size_t, uint64_t, uint32_t *, size_t);
@@ -35,6 +35,7 @@ struct scene {
     const char *name;
     const struct act *acts;
     size_t count;
+    uint8_t machine;
 };
 
 /* What a scene came to: a build that gives anything else is at fault. */
@@ -102,7 +103,7 @@ static struct played play(const struct build *b, const struct scene *s)
     uint8_t state[256];
     size_t i;
 
-    b->power_on(state, b->size);
+    b->power_on(state, b->size, s->machine);
     for (i = 0; i < s->count; i++) {
         uint32_t held = s->acts[i].held;
 
@@ -119,7 +120,7 @@ static struct played play(const struct build *b, const struct scene *s)
 /* The acts of a log that passes, its loops unrolled. */
 static struct scene log_scene(const char *name)
 {
-    struct scene s = {"the log", NULL, 0};
+    struct scene s = {"the log", NULL, 0, PERCH_NTSC};
     struct act *acts = malloc(sizeof *acts * MOST_ACTS);
     size_t starts[8], n = 0, depth = 0, length, i;
     unsigned long turns[8], value, reg;
@@ -148,7 +149,8 @@ static struct scene log_scene(const char *name)
             length = n - starts[depth];
             for (i = 1; i < turns[depth] && n + length <= MOST_ACTS; i++, n += length)
                 memcpy(acts + n, acts + starts[depth], length * sizeof *acts);
-        }
+        } else if (!strcmp(line, "machine=pal\n"))
+            s.machine = PERCH_PAL;
     }
     fclose(file);
     s.acts = acts;
@@ -223,7 +225,7 @@ static int beside(const struct build *builds, int n, const struct scene *s, int 
                 return 1;
             }
         }
-        t = nsf ? by_gme(nsf, (double)first.clocks / 1789773) : 0;
+        t = nsf ? by_gme(nsf, (double)first.clocks / (s->machine == PERCH_PAL ? 1662607 : 1789773)) : 0;
         if (t > 0 && (gme == 0 || t < gme))
             gme = t;
     }
@@ -239,9 +241,11 @@ static int beside(const struct build *builds, int n, const struct scene *s, int 
 int main(int argc, char **argv)
 {
     struct build builds[MOST_BUILDS];
-    struct scene scenes[6] = {{"quiet from power-on", quiet, COUNT(quiet)}, {"quiet after $400E:0f", slow_noise, COUNT(slow_noise)},
-        {"one square, 440 Hz", one_square, COUNT(one_square)}, {"all channels, audible", audible, COUNT(audible)},
-        {"all channels, shortest periods", shortest, COUNT(shortest)}};
+    struct scene scenes[6] = {{"quiet from power-on", quiet, COUNT(quiet), PERCH_NTSC},
+        {"quiet after $400E:0f", slow_noise, COUNT(slow_noise), PERCH_NTSC},
+        {"one square, 440 Hz", one_square, COUNT(one_square), PERCH_NTSC},
+        {"all channels, audible", audible, COUNT(audible), PERCH_NTSC},
+        {"all channels, shortest periods", shortest, COUNT(shortest), PERCH_NTSC}};
     const char *nsf = NULL;
     int n = 0, count = 5, tries = 9, wrong = 0, i;
 

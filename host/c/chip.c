@@ -22,7 +22,7 @@ int main(void)
     uint64_t answer;
 
     expect("size", perch_state_size(), sizeof state);
-    expect("power-on", perch_power_on(state, sizeof state), PERCH_DONE);
+    expect("power-on", perch_power_on(state, sizeof state, PERCH_NTSC), PERCH_DONE);
     expect("in range", perch_in_range(state, sizeof state), 256);
     expect("level at power-on", PERCH_VALUE(perch_level(state, sizeof state)), 8074);
 
@@ -44,7 +44,7 @@ int main(void)
            PERCH_VALUE(perch_level(state, sizeof state)));
 
     /* The frame flag after a frame of mode 0, and none while its interrupt is disabled. */
-    perch_power_on(state, sizeof state);
+    perch_power_on(state, sizeof state, PERCH_NTSC);
     perch_run(state, sizeof state, memory, sizeof memory, 30000, words, 0);
     expect("the frame flag asserts the line", PERCH_VALUE(perch_interrupt_line(state, sizeof state)), 1);
     perch_write(state, sizeof state, 0x4017, 0x40);
@@ -52,12 +52,21 @@ int main(void)
     perch_run(state, sizeof state, memory, sizeof memory, 30000, words, 0);
     expect("not set while disabled", PERCH_VALUE(perch_read_status(state, sizeof state)), 0x00);
 
+    /* A PAL frame is longer: the flag is set after 33253 clocks. */
+    expect("PAL", perch_power_on(state, sizeof state, PERCH_PAL), PERCH_DONE);
+    expect("the machine's byte", state[PERCH_STATE_SIZE - 1], PERCH_PAL);
+    perch_run(state, sizeof state, memory, sizeof memory, 33252, words, 0);
+    expect("before the flag", PERCH_VALUE(perch_interrupt_line(state, sizeof state)), 0);
+    perch_clock(state, sizeof state, memory, sizeof memory);
+    expect("the flag", PERCH_VALUE(perch_interrupt_line(state, sizeof state)), 1);
+
     /* Refusals, the lowest number first; the state stays. */
     memcpy(kept, state, sizeof state);
     expect("memory", perch_run(state, sizeof state, memory, 5, 2000000, words, 65), PERCH_REFUSED_MEMORY);
     expect("state", perch_run(state, 5, memory, sizeof memory, 2000000, words, 65), PERCH_REFUSED_STATE);
     expect("clocks", perch_run(state, sizeof state, memory, sizeof memory, 2000000, words, 65), PERCH_REFUSED_CLOCKS);
     expect("register", perch_write(state, sizeof state, 0x4014, 0), PERCH_REFUSED_REGISTER);
+    expect("no machine", perch_power_on(state, sizeof state, 2), PERCH_REFUSED_STATE);
     expect("kept", (uint64_t)memcmp(kept, state, sizeof state), 0);
     puts(wrong ? "chip: wrong" : "chip: as expected");
     return wrong;

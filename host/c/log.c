@@ -39,7 +39,8 @@ static void logs(void)
     uint64_t answer = check(log);
 
     expect("a log that passes", PERCH_NUMBER(answer), PERCH_DONE);
-    expect("its clocks", PERCH_LOG_VALUE(answer), 30);
+    expect("its clocks", PERCH_LOG_CLOCKS(answer), 30);
+    expect("its machine", PERCH_LOG_MACHINE(answer), PERCH_NTSC);
     expect("its turns", perch_turns(bytes, strlen(log)), (uint64_t)10 << 32);
     expect("its items", perch_items(bytes, strlen(log)), (uint64_t)7 << 32);
     answer = perch_item(bytes, strlen(log), 0);
@@ -59,6 +60,16 @@ static void logs(void)
            PERCH_REFUSED_DEPTH);
     expect("too many turns", PERCH_NUMBER(check("log=1\nloop=255\nloop=255\nloop=255\ndone=loop\ndone=loop\ndone=loop\nstop=0\n")),
            PERCH_REFUSED_TOTALS);
+    answer = check("log=1\nmachine=pal\nwait=10\nstop=10\n");
+    expect("a PAL log's clocks", PERCH_LOG_CLOCKS(answer), 10);
+    expect("a PAL log's machine", PERCH_LOG_MACHINE(answer), PERCH_PAL);
+    answer = check("log=1\nwait=10\nmachine=pal\nstop=10\n");
+    expect("the machine too late", PERCH_NUMBER(answer), PERCH_REFUSED_KEY);
+    expect("its place", PERCH_PLACE(answer), 14);
+    answer = check("log=1\nmachine=ntsc\nstop=0\n");
+    expect("another machine", PERCH_NUMBER(answer), PERCH_REFUSED_SHAPE);
+    expect("its place", PERCH_PLACE(answer), 14);
+
     answer = check("log=1\nwait=1000001\nstop=0\n");
     expect("a wait too long", PERCH_NUMBER(answer), PERCH_REFUSED_RANGE);
     expect("its place", PERCH_PLACE(answer), 11);
@@ -148,7 +159,7 @@ static void chips(void)
     const size_t n = sizeof state, m = sizeof memory;
     uint64_t answer;
 
-    perch_power_on(state, n);
+    perch_power_on(state, n, PERCH_NTSC);
     expect("no such register", perch_write(state, n, 0x4014, 0), PERCH_REFUSED_REGISTER);
     expect("a run too long", perch_run(state, n, memory, m, PERCH_MOST_CLOCKS + 1, words, 2), PERCH_REFUSED_CLOCKS);
     answer = perch_run(state, n, memory, m, PERCH_MOST_CLOCKS, words, 2);
@@ -179,7 +190,7 @@ static void channels(void)
 {
     uint8_t state[PERCH_STATE_SIZE];
 
-    perch_power_on(state, sizeof state);
+    perch_power_on(state, sizeof state, PERCH_NTSC);
     expect("not enabled", PERCH_VALUE(perch_why(state, sizeof state, 0)), PERCH_WHY_DISABLED);
     perch_write(state, sizeof state, 0x4015, 0x0f);
     expect("no length", PERCH_VALUE(perch_why(state, sizeof state, 3)), PERCH_WHY_LENGTH);

@@ -47,16 +47,17 @@ Holds (number a b ∷ rows) = (a ≡ b) × Holds rows
 Holds (signed a b ∷ rows) = (a ≡ b) × Holds rows
 Holds (flag a b ∷ rows) = (a ≡ b) × Holds rows
 
--- power-on, but for the frame's clock number
+-- NTSC's power-on, but for the frame's clock number ("the marked cases are NTSC's")
 abbrev pub atClock : ℕ → State
 atClock clock =
     record {
-      square1 = powerOn .square1;
-      square2 = powerOn .square2;
-      triangle = powerOn .triangle;
-      noise = powerOn .noise;
-      dmc = powerOn .dmc;
+      square1 = powerOn false .square1;
+      square2 = powerOn false .square2;
+      triangle = powerOn false .triangle;
+      noise = powerOn false .noise;
+      dmc = powerOn false .dmc;
       frame = record { mode = false; disable = false; clock = clock; interrupt = false };
+      pal = false;
     }
 
 -- a sweep with this shift
@@ -67,8 +68,8 @@ sweepBy negate shift = record { enable = false; negate = negate; period = 0; shi
 abbrev pub fetching : ℕ → Dmc
 fetching address =
     record {
-      registers = dmcOn .registers;
-      output = dmcOn .output;
+      registers = dmcOn 428 .registers;
+      output = dmcOn 428 .output;
       reader = record { address = address; remaining = 2; buffer = 0; full = false; interrupt = false };
     }
 
@@ -76,7 +77,7 @@ fetching address =
 abbrev pub marked : List ℕ → List Row
 marked memory =
     -- (1) power-on level 8074
-    number (stateLevel powerOn) 8074
+    number (stateLevel (powerOn false)) 8074
     -- (2) squares 15, 0 give A 4894
     ∷ number (squaresLevel (15 + 0)) 4894
     -- (3) from clock numbers 7456, 14912, 22370 and 29828 one clock brings a step, and from the numbers beside them none
@@ -115,10 +116,10 @@ marked memory =
     ∷ number (shiftedOf true 1) 16384
     ∷ number (shiftedOf true (shiftedOf true 1)) 8192
     -- (9) length value $08 gives 254
-    ∷ number (registerWritten 0x4003 0x08 (registerWritten 0x4015 0x01 powerOn) .square1 .length .count) 254
+    ∷ number (registerWritten 0x4003 0x08 (registerWritten 0x4015 0x01 (powerOn false)) .square1 .length .count) 254
     -- (10) $4013 of 0 and 255: 1 and 4081
-    ∷ number (registerWritten 0x4015 0x10 (registerWritten 0x4013 0 powerOn) .dmc .reader .remaining) 1
-    ∷ number (registerWritten 0x4015 0x10 (registerWritten 0x4013 255 powerOn) .dmc .reader .remaining) 4081
+    ∷ number (registerWritten 0x4015 0x10 (registerWritten 0x4013 0 (powerOn false)) .dmc .reader .remaining) 1
+    ∷ number (registerWritten 0x4015 0x10 (registerWritten 0x4013 255 (powerOn false)) .dmc .reader .remaining) 4081
     -- (11) $FFFF then $8000
     ∷ number (dmcRead memory (fetching 0xFFFE) .reader .address) 0xFFFF
     ∷ number (dmcRead memory (fetching 0xFFFF) .reader .address) 0x8000

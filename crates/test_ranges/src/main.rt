@@ -1,11 +1,12 @@
 // The range of each field of the state: plays data/fields, which sets fields from power-on to values at and beyond the ends of their
 // ranges, and writes VALUE:NUMBER for each, the number being that of the level: 0, or 2 where the state is out of range. The expected
-// text, `stdout`, is worked out from document 01's "State, ranges and power-on", not from the code.
+// text, `stdout`, is worked out from document 01's "State, ranges and power-on" and request 9, not from the code.
 //
 // A command ends at a blank or a line feed:
 //   CUF=VALUE    the field F of the unit U of the channel C set to a value, and the number
 //   +CUF=VALUE   the same for all that follows on the line, with no number
-//   .            a line feed, and power-on again
+//   %            power-on of a PAL machine, for what follows on the line
+//   .            a line feed, and power-on again, of an NTSC machine
 //   "TEXT        the rest of the line is written; #TEXT is a comment, up to the end of the line
 // Channels: 1 and 2 the squares, t triangle, n noise, d DMC, f frame. Units and fields: as the functions below have them.
 ghost use Prim.Native.Nat.{_≤_, _<_};
@@ -526,9 +527,10 @@ fn shown(s: State, v: u32) {
 fn act(s: State, token: &[u8]) -> State {
     match byte_at(token, 0) {
         b'+' => with(s, token, 1),
+        b'%' => chip_api::power_on(true),
         b'.' => {
             text(b"\n");
-            chip_api::power_on()
+            chip_api::power_on(false)
         }
         b'"' => {
             inner(token);
@@ -543,7 +545,7 @@ fn act(s: State, token: &[u8]) -> State {
 }
 
 fn play(script: &[u8]) {
-    let mut s = chip_api::power_on();
+    let mut s = chip_api::power_on(false);
     let mut at = 0;
     while at < script.len() {
         let e = behind(script, at);

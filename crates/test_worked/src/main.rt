@@ -1,8 +1,9 @@
 // Worked examples: plays data/examples, a list of commands, on the chip through its public operations, and writes what the chip
-// answers. The expected text, `stdout`, is worked out from document 01 and the reference (001), not from the code.
+// answers. The expected text, `stdout`, is worked out from document 01, the reference (001) and the requests, not from the code.
 //
 // A command ends at a blank or a line feed:
 //   on          power-on                              4015=01    a register written, in hex
+//   pal         power-on of a PAL machine
 //   wait=N      N clocks                              step       $4017 written with 80: step 1 at once
 //   hear=N      N clocks, with CLOCK:LEVEL for each after which the level is another than before
 //   trace=N     N clocks, with CLOCK:STATUS likewise (nothing is read)
@@ -275,7 +276,8 @@ fn act(s: State, token: &[u8], memory: &[u8]) -> State {
     match kind {
         b'4' => put(s, register(token, 0), hex(token, 5)),
         b's' => put(s, 0x4017, 0x80),
-        b'o' => chip_api::power_on(),
+        b'o' => chip_api::power_on(false),
+        b'p' => chip_api::power_on(true),
         b'r' => read(s),
         b'w' | b'h' | b't' => clocks(s, memory, count(token), kind),
         b'~' => {
@@ -290,7 +292,7 @@ fn act(s: State, token: &[u8], memory: &[u8]) -> State {
 }
 
 fn play(script: &[u8], memory: &[u8]) {
-    let mut s = chip_api::power_on();
+    let mut s = chip_api::power_on(false);
     let mut at = 0;
     while at < script.len() {
         let e = behind(script, at);

@@ -6,7 +6,7 @@ mod tune;
 
 use compare::random::Random;
 use compare::{draw, imports};
-use perch::{Chip, MEMORY, Ran, Refusal, raw};
+use perch::{Chip, MEMORY, Machine, Ran, Refusal, raw};
 use std::process::{Command, ExitCode};
 use tune::Act;
 
@@ -121,7 +121,7 @@ fn row(scene: &Scene, memory: &[u8]) -> Result<f64, Refusal> {
 
 /// A chip after some writes from power-on.
 fn after(writes: &[(u16, u8)]) -> Result<Chip, Refusal> {
-    let mut chip = Chip::power_on();
+    let mut chip = Chip::power_on(Machine::Ntsc);
     for (register, value) in writes {
         chip.write(*register, *value)?;
     }
@@ -145,7 +145,7 @@ fn worst(memory: &[u8], states: u64, clocks: u64) -> Result<Scene, Refusal> {
 
 /// Plays a log to its end, to a buffer: the least time over some tries, the bytes of its text, and its clocks.
 fn heard(log: &[u8], memory: &[u8]) -> Result<(f64, u64, u64), Box<dyn std::error::Error>> {
-    let clocks = perch::check(log)?;
+    let clocks = perch::check(log)?.clocks;
     let mut text = vec![0; 1 << 16];
     let mut player = vec![0; raw::player_size()];
     let (mut best, mut bytes) = (f64::INFINITY, 0);
@@ -306,8 +306,8 @@ fn table(log: Option<String>, gme: Option<String>, quick: bool) -> Result<(), Bo
         Some(path) => ("the tune of the log", std::fs::read_to_string(path)?),
         None => ("a tune, made", tune::made(1, 900, if quick { 2 } else { 8 })),
     };
-    let acts = tune::of_log(&tune).ok_or("the tune is no log")?;
-    let leap = row(&Scene { name: name.into(), first: Chip::power_on(), acts }, &memory)?;
+    let (machine, acts) = tune::of_log(&tune).ok_or("the tune is no log")?;
+    let leap = row(&Scene { name: name.into(), first: Chip::power_on(machine), acts }, &memory)?;
 
     println!(
         "\n| {:<34} | {:>11} | {:>10} | {:>8} | {:>14} |",

@@ -1,6 +1,7 @@
 //! What is played: acts, read from a log or made here.
 
 use compare::random::Random;
+use perch::Machine;
 
 /// One act of a list.
 #[derive(Clone, Copy, Debug)]
@@ -13,15 +14,17 @@ pub enum Act {
     Read,
 }
 
-/// The acts that a log stands for; none where a line isn't of the form.
-pub fn of_log(text: &str) -> Option<Vec<Act>> {
+/// A log's machine and the acts that it stands for; none where a line isn't of the form.
+pub fn of_log(text: &str) -> Option<(Machine, Vec<Act>)> {
     // The open loops: where each begins in the list, and its turns.
     let mut open: Vec<(usize, usize)> = Vec::new();
     let mut acts = Vec::new();
+    let mut machine = Machine::Ntsc;
     for line in text.lines() {
         let (key, value) = line.split_once('=')?;
         match key {
             "log" | "stop" => {}
+            "machine" => machine = Machine::Pal,
             "wait" => acts.push(Act::Wait(value.parse().ok()?)),
             "read" => acts.push(Act::Read),
             "write" => {
@@ -38,7 +41,7 @@ pub fn of_log(text: &str) -> Option<Vec<Act>> {
             _ => return None,
         }
     }
-    Some(acts)
+    Some((machine, acts))
 }
 
 const FRAME: u64 = 29_780;

@@ -3,8 +3,8 @@
 
 use crate::case::{Case, MOST_STATE, Memory, Op};
 use crate::random::Random;
-use reading::bytes::SIZE;
-use reading::chip::Times;
+use reading::bytes::{SIZE, Slot};
+use reading::machine::{Machine, Times};
 use reading::{Chip, MEMORY, MOST_CLOCKS};
 
 fn lengths(chip: &mut Chip, mut each: impl FnMut(&mut reading::chip::Length)) {
@@ -40,7 +40,7 @@ fn sound(chip: &mut Chip, random: &mut Random) {
 type Lean = fn(&mut Chip, &mut Random);
 
 const LEANS: [Lean; 17] = [
-    |chip, random| chip.frame.clock = random.pick(chip.frame.times().steps) - random.within16(0..=8),
+    |chip, random| chip.frame.clock = random.pick(chip.times().steps) - random.within16(0..=8),
     |chip, random| {
         let [first, second] = &mut chip.squares;
         let timers = [&mut first.timer, &mut second.timer, &mut chip.triangle.timer, &mut chip.noise.timer];
@@ -108,16 +108,20 @@ const LEANS: [Lean; 17] = [
     },
     |chip, random| {
         // About the last step, and where the sequence begins again.
-        let again = chip.frame.times().again;
+        let again = chip.times().again;
         chip.frame.clock = (again - 4 + random.within16(0..=6)) % again;
     },
     sound,
 ];
 
-/// A state in range.
+/// A state in range of either machine.
 pub fn state(random: &mut Random) -> Chip {
-    let mut chip = Chip::POWER_ON;
-    chip.fields(|_, mut slot| slot.set(random.within16(slot.range())));
+    let mut chip = Chip::power_on(random.pick(&Machine::ALL));
+    chip.fields(|_, mut slot| {
+        if !matches!(slot, Slot::Machine(_)) {
+            slot.set(random.within16(slot.range()));
+        }
+    });
     if random.one_in(3) {
         sound(&mut chip, random);
     }
@@ -135,12 +139,19 @@ pub fn state(random: &mut Random) -> Chip {
 pub fn no_state(random: &mut Random) -> Vec<u8> {
     let mut chip = state(random);
     let mut bytes = chip.encode().to_vec();
-    match random.within(0..=6) {
+    match random.within(0..=7) {
         0 => bytes.resize(random.pick(&[0, 1, SIZE - 1, SIZE + 1]).min(MOST_STATE), 0),
         1 => bytes.iter_mut().for_each(|byte| *byte = random.byte()),
         2 => {
-            // A clock number of mode 1 in mode 0.
-            (chip.frame.mode, chip.frame.clock) = (false, random.within16(29_830..=37_281));
+            // What is in range in the other mode or on the other machine.
+            match random.within(0..=5) {
+                0 => (chip.frame.mode, chip.frame.clock) = (false, chip.machine.times(true).again - 1),
+                1 => (chip.frame.mode, chip.frame.clock) = (false, random.within16(33_254..=41_565)),
+                2 => (chip.machine, chip.frame.mode, chip.frame.clock) = (Machine::Ntsc, false, 33_253),
+                3 => (chip.machine, chip.frame.mode, chip.frame.clock) = (Machine::Ntsc, true, 41_565),
+                4 => (chip.machine, chip.noise.timer) = (Machine::Pal, random.within16(3_779..=4_068)),
+                _ => (chip.machine, chip.dmc.timer) = (Machine::Pal, random.within16(399..=428)),
+            }
             bytes = chip.encode().to_vec();
         }
         3 => {
@@ -157,6 +168,7 @@ pub fn no_state(random: &mut Random) -> Vec<u8> {
             (chip.frame.disable, chip.frame.interrupt) = (true, true);
             bytes = chip.encode().to_vec();
         }
+        5 => bytes[SIZE - 1] = random.pick(&[2, 3, 128, 129, 255]),
         _ => {
             let field = random.within(0..=reading::bytes::FIELDS as u64 - 1);
             let (mut at, mut number) = (0, 0);
@@ -235,7 +247,7 @@ fn finish(random: &mut Random, ops: &mut Vec<Op>) {
 
 /// Clocks up to a frame step of a state, to its eve or past it; sometimes a whole sequence more.
 fn to_step(random: &mut Random, chip: &Chip) -> u64 {
-    let Times { steps, again } = chip.frame.times();
+    let Times { steps, again } = chip.times();
     let [again, clock] = [again, chip.frame.clock].map(u64::from);
     let to = |step: &u16| (u64::from(*step) + again - clock - 1) % again + 1;
     let next = steps.iter().map(to).min().unwrap_or(1);

@@ -5,6 +5,7 @@ use crate::draw::{hush, state};
 use crate::random::Random;
 use perch::raw;
 use reading::chip::Frame;
+use reading::machine::Machine;
 use reading::mixer::Outputs;
 use reading::{Chip, MEMORY, boundary};
 
@@ -23,30 +24,35 @@ fn one_clock(chip: Chip, memory: &[u8]) -> Result<(), String> {
     same(what, ours, theirs)
 }
 
-/// The size, and power-on over any bytes of any length.
+/// The size, and power-on over any bytes of any length with any machine.
 pub fn power_on(_: &mut Random) -> Result<u64, String> {
     same(|| "the size of a state".into(), reading::bytes::SIZE, raw::state_size())?;
     for length in 0..300 {
-        let (mut ours, mut theirs) = (vec![0xa5; length], vec![0xa5; length]);
-        let what = || format!("power-on of {length} bytes");
-        same(what, boundary::power_on(&mut ours), raw::power_on(&mut theirs))?;
-        same(what, ours, theirs)?;
+        for machine in 0..=255 {
+            let (mut ours, mut theirs) = (vec![0xa5; length], vec![0xa5; length]);
+            let what = || format!("power-on of {length} bytes, machine {machine}");
+            same(what, boundary::power_on(&mut ours, machine), raw::power_on(&mut theirs, machine))?;
+            same(what, ours, theirs)?;
+        }
     }
-    Ok(300)
+    Ok(300 * 256)
 }
 
-/// Every value of every field, in both frame modes, with channels enabled or not, and beside the frame flag or disable set.
+/// Every value of every field on either machine, in both frame modes, with channels enabled or not, beside the frame flag or
+/// disable set, and with timers and clock number at the machine's highest.
 pub fn ranges(random: &mut Random) -> Result<u64, String> {
     let mut checks = 0;
-    for enabled in [false, true] {
+    for (machine, enabled) in Machine::ALL.into_iter().flat_map(|machine| [(machine, false), (machine, true)]) {
         let mut chip = state(random);
+        chip.machine = machine;
+        (chip.noise.timer, chip.dmc.timer) = (machine.noise_periods()[15], machine.dmc_periods()[0]);
         let [first, second] = &mut chip.squares;
         for length in [&mut first.length, &mut second.length, &mut chip.triangle.length, &mut chip.noise.length] {
             length.enabled = enabled;
             length.count = if enabled { 7 } else { 0 };
         }
         chip.frame.mode = enabled;
-        chip.frame.clock = chip.frame.times().again - 1;
+        chip.frame.clock = chip.times().again - 1;
         (chip.frame.disable, chip.frame.interrupt) = (enabled, !enabled);
         let mut at = 0;
         let mut failure = Ok(());
@@ -135,8 +141,8 @@ pub fn sweeps(_: &mut Random) -> Result<u64, String> {
     let mut checks = 0;
     for period in 0..=2047 {
         for bits in 0..64 {
-            let mut chip = Chip::POWER_ON;
-            chip.frame.clock = 14912;
+            let mut chip = Chip::power_on(Machine::ALL[usize::from(period % 2)]);
+            chip.frame.clock = chip.times().steps[1] - 1;
             for square in &mut chip.squares {
                 square.period = period;
                 square.sweep.s = bits & 7;
@@ -206,28 +212,32 @@ pub fn counters(_: &mut Random) -> Result<u64, String> {
     Ok(checks)
 }
 
-/// Every clock number in both modes, with the frame's interrupt disabled or not.
+/// Every clock number in both modes of both machines, with the frame's interrupt disabled or not.
 pub fn frames(random: &mut Random) -> Result<u64, String> {
     let memory = [0; MEMORY];
     let mut checks = 0;
-    for kind in 0..4 {
+    for kind in 0..8 {
+        let machine = Machine::ALL[kind / 4];
         let mut frame = Frame { mode: kind & 1 > 0, disable: kind & 2 > 0, ..Frame::default() };
-        for clock in 0..frame.times().again {
+        for clock in 0..machine.times(frame.mode).again {
             frame.clock = clock;
-            one_clock(Chip { frame, ..state(random) }, &memory)?;
+            let mut chip = Chip { frame, machine, ..state(random) };
+            chip.noise.timer = chip.noise.timer.min(machine.noise_periods()[15]);
+            chip.dmc.timer = chip.dmc.timer.min(machine.dmc_periods()[0]);
+            one_clock(chip, &memory)?;
             checks += 1;
         }
     }
     Ok(checks)
 }
 
-/// Every noise register in both modes, every timer and index.
+/// Every noise register in both modes, with every index of both machines.
 pub fn noises(_: &mut Random) -> Result<u64, String> {
     let memory = [0; MEMORY];
     let mut checks = 0;
     for register in 1..=32767 {
-        for mode in [false, true] {
-            let mut chip = Chip::POWER_ON;
+        for (mode, machine) in [false, true].into_iter().flat_map(|mode| Machine::ALL.map(|machine| (mode, machine))) {
+            let mut chip = Chip::power_on(machine);
             (chip.noise.register, chip.noise.mode, chip.noise.timer) = (register, mode, 1);
             chip.noise.index = register & 15;
             chip.noise.length = reading::chip::Length { count: 1, enabled: true };
@@ -246,7 +256,7 @@ pub fn samples(random: &mut Random) -> Result<u64, String> {
     for level in 0..=127 {
         for flags in 0..256 {
             for remaining in 0..=2 {
-                let mut chip = Chip::POWER_ON;
+                let mut chip = Chip::power_on(random.pick(&Machine::ALL));
                 hush(&mut chip);
                 let d = &mut chip.dmc;
                 (d.level, d.remaining) = (level, remaining);

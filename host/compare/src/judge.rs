@@ -166,8 +166,10 @@ fn differing(ours: &[u8], theirs: &[u8]) -> String {
 /// What a case was made of.
 #[derive(Default)]
 pub struct Tally {
-    /// Cases worked.
+    /// Cases worked, and those of a PAL machine among them.
     pub cases: u64,
+    /// Cases of a PAL machine.
+    pub pal: u64,
     /// Runs, and refused ones among them.
     pub runs: u64,
     /// Runs that were refused.
@@ -210,6 +212,7 @@ pub fn judge(case: &Case, tally: &mut Tally) -> Result<(), String> {
     let mut library = [Side::new(LEAPING, case), Side::new(PLAIN, case)];
     let mut list = List::new(&reading);
     tally.cases += 1;
+    tally.pal += u64::from(case.state.get(SIZE - 1) == Some(&1));
     for (i, op) in case.ops.iter().copied().enumerate() {
         if matches!(op, Op::Clock { .. } | Op::Write { .. } | Op::Read) {
             list.check_all(&library, &memory)?;

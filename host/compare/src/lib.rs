@@ -10,6 +10,7 @@ pub mod imports;
 pub mod judge;
 pub mod lines;
 pub mod logs;
+pub mod machines;
 pub mod meters;
 pub mod players;
 pub mod random;

@@ -2,6 +2,7 @@
 //! every byte.
 
 use crate::logs::{nested, same};
+use crate::machines::either;
 use crate::random::Random;
 use perch::raw;
 use reading::player;
@@ -60,10 +61,11 @@ fn number(random: &mut Random, range: (u64, u64)) -> String {
 
 /// A line without its line feed: right, with a value out of range, or with bytes changed.
 fn line(random: &mut Random) -> Vec<u8> {
-    let key =
-        random.pick(&["wait", "wait", "write", "write", "read", "loop", "loop", "done", "done", "stop", "stop", "log"]);
+    let key = random.pick(&[
+        "wait", "wait", "write", "write", "read", "loop", "loop", "done", "done", "stop", "stop", "log", "machine",
+    ]);
     let value = match key {
-        _ if random.one_in(16) => random.pick(&["", "1", "4015", "loop", "4000:00", "x"]).into(),
+        _ if random.one_in(16) => random.pick(&["", "1", "4015", "loop", "4000:00", "x", "pal"]).into(),
         "wait" => number(random, (1, 1_000_000)),
         "loop" => number(random, (2, 255)),
         "stop" => number(random, (0, 2_000_000_000)),
@@ -74,6 +76,7 @@ fn line(random: &mut Random) -> Vec<u8> {
         }
         "read" => "4015".into(),
         "done" => "loop".into(),
+        "machine" => "pal".into(),
         _ => "1".into(),
     };
     let mut line = format!("{key}={value}").into_bytes();
@@ -93,7 +96,7 @@ fn line(random: &mut Random) -> Vec<u8> {
 
 /// The beginning of a right log with so many loops open, of no clocks.
 fn opening(random: &mut Random, open: u64) -> Vec<u8> {
-    let mut log = b"log=1\n".to_vec();
+    let mut log = either(random, b"log=1\n".to_vec());
     for depth in 0..=open {
         for _ in 0..random.pick(&[0, 0, 1, 2]) {
             let lines = ["read=4015\n", "write=4000:1f\n", "write=4017:c0\n", "loop=2\ndone=loop\n"];

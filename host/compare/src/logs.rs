@@ -1,5 +1,6 @@
 //! Logs: drawn ones, nested and damaged, and the comparison of what the library and the reading make of them.
 
+use crate::machines::either;
 use crate::random::Random;
 use perch::raw;
 use reading::log::{self, MOST_BYTES};
@@ -191,7 +192,7 @@ fn bounded(random: &mut Random) -> Vec<u8> {
 }
 
 /// Lines that are right, wrong, or wrong where they stand.
-const LINES: [&str; 52] = [
+const LINES: [&str; 55] = [
     "wait=0",
     "wait=01",
     "wait=1000000",
@@ -238,6 +239,9 @@ const LINES: [&str; 52] = [
     "done=loops",
     "log=1",
     "log=2",
+    "machine=pal",
+    "machine=ntsc",
+    "machine=",
     "stop=0",
     "stop=00",
     "stop=2000000000",
@@ -316,16 +320,22 @@ pub fn nested(random: &mut Random, lines: usize) -> Vec<u8> {
     for _ in 0..40 {
         block(random, &mut draft, &bounds, 0, 1);
     }
-    joined(&draft.lines, draft.clocks)
+    either(random, joined(&draft.lines, draft.clocks))
 }
 
 /// A log: right, at a bound, damaged, or any bytes.
 pub fn log(random: &mut Random) -> Vec<u8> {
     let mut log = match random.within(0..=19) {
-        0..=1 => bounded(random),
+        0..=1 => {
+            let log = bounded(random);
+            either(random, log)
+        }
         2 => nested(random, 2000),
         3 => (0..random.within(0..=300)).map(|_| random.pick(b"log=1\nwait=1\nstop=1\nread=4015\n")).collect(),
-        _ => sounding(random),
+        _ => {
+            let log = sounding(random);
+            either(random, log)
+        }
     };
     if random.one_in(2) {
         for _ in 0..random.pick(&[1, 1, 1, 2, 3]) {
@@ -338,7 +348,8 @@ pub fn log(random: &mut Random) -> Vec<u8> {
 /// A log to be stored: a short one whose text is short, every other one damaged.
 pub fn stored(random: &mut Random, number: u64) -> Vec<u8> {
     loop {
-        let mut log = if number % 5 == 4 { bounded(random) } else { sounding(random) };
+        let log = if number % 5 == 4 { bounded(random) } else { sounding(random) };
+        let mut log = either(random, log);
         for _ in 0..number % 2 {
             damage(random, &mut log);
         }
@@ -357,6 +368,8 @@ pub struct Tally {
     pub numbers: [u64; 20],
     /// How many were played.
     pub played: u64,
+    /// How many of them on a PAL machine.
+    pub pal: u64,
     /// Bytes of their texts.
     pub bytes: u64,
 }
@@ -398,9 +411,10 @@ pub fn judge(log: &[u8], memory: &[u8], random: &mut Random, tally: &mut Tally) 
         same(|| format!("body at {offset}"), player::body(log, offset), raw::body(log, offset))?;
     }
     if let Some(bytes) = begun(log, memory, random)?
-        && answer >> 32 <= PLAYED
+        && answer >> 32 & 0x7fff_ffff <= PLAYED
     {
         tally.played += 1;
+        tally.pal += answer >> 63;
         tally.bytes += heard(log, memory, bytes, random)?;
     }
     Ok(())
@@ -516,6 +530,6 @@ pub fn compare(seed: u64, logs: u64, memory: &[u8]) -> Result<String, String> {
     }
     let numbers: Vec<String> =
         (0..20).filter(|&i| tally.numbers[i] > 0).map(|i| format!("{i}: {}", tally.numbers[i])).collect();
-    let Tally { played, bytes, .. } = tally;
-    Ok(format!("{logs} logs ({}), {played} played, {bytes} bytes of text", numbers.join(", ")))
+    let Tally { played, pal, bytes, .. } = tally;
+    Ok(format!("{logs} logs ({}), {played} played ({pal} PAL), {bytes} bytes of text", numbers.join(", ")))
 }

@@ -3,7 +3,7 @@
 use compare::case::{self, Case, Outcome};
 use compare::judge::{self, Tally, judge};
 use compare::random::Random;
-use compare::{cursors, draw, every, free, imports, lines, logs, meters, players, reasons, sheets, stored};
+use compare::{cursors, draw, every, free, imports, lines, logs, machines, meters, players, reasons, sheets, stored};
 use reading::{Chip, MEMORY};
 use std::process::ExitCode;
 use std::time::Instant;
@@ -85,9 +85,9 @@ fn drawn(name: &str, seed: u64, cases: u64, mut draw: impl FnMut(&mut Random) ->
             return Err(format!("seed {seed}, {name} case {number}: {difference}\n{text}"));
         }
     }
-    let Tally { cases, runs, refused, early, clocks, records } = tally;
+    let Tally { cases, pal, runs, refused, early, clocks, records } = tally;
     Ok(format!(
-        "{cases} lists, {runs} runs ({refused} refused, {early} ended early), {clocks} clocks, {records} records"
+        "{cases} lists ({pal} PAL), {runs} runs ({refused} refused, {early} ended early), {clocks} clocks, {records} records"
     ))
 }
 
@@ -166,6 +166,7 @@ fn compare(asked: &Asked) -> bool {
     let memory = sample(seed);
     part("lines", &mut || lines::compare(seed, asked.logs * 50, &memory));
     part("cuts", &mut || lines::cuts(seed, asked.logs / 20));
+    part("machines", &mut || machines::compare(seed, asked.logs / 4, &memory));
     part("logs", &mut || logs::compare(seed, asked.logs, &memory));
     part("whole", &mut || free::compare(seed, asked.each / 2, &memory));
     part("texts", &mut || free::texts(seed, asked.each));

@@ -143,7 +143,7 @@ fn cursor_line(log: &[u8], most: u64) -> String {
         };
         at = place.end;
         match line {
-            Line::Log => {}
+            Line::Log | Line::Machine => {}
             Line::Item(_) => items += 1,
             Line::Loop(turns) => open.push((at, turns)),
             Line::Done => match open.pop() {

@@ -24,7 +24,7 @@ fn cases_are_read_back() {
 #[test]
 fn every_refusal_of_a_log_is_drawn() {
     let mut seen = [0; 20];
-    for number in 0..2000 {
+    for number in 0..3000 {
         let log = logs::log(&mut Random::new(1, "logs", number));
         seen[reading::player::check(&log) as u8 as usize] += 1;
     }

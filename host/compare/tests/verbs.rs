@@ -1,6 +1,6 @@
 //! What `perch why` writes about the examples (`host/verbs`), by the reading.
 
-use reading::log::{Item, items};
+use reading::log::{Item, items, machine};
 use reading::why::why;
 use reading::{Chip, play};
 use std::fs::read;
@@ -13,7 +13,7 @@ fn asked(log: &[u8], memory: &[u8], clock: u64) -> String {
     if let Err(fault) = play::check(log, memory) {
         return play::refusal(fault).replace("play=1", "why=1");
     }
-    let mut chip = Chip::POWER_ON;
+    let mut chip = Chip::power_on(machine(log).expect("the log passes"));
     let mut time = 0;
     'items: for item in items(log).expect("the log passes") {
         match item {

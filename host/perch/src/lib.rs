@@ -2,7 +2,7 @@
 //!
 //! ```
 //! # let memory = [0; perch::MEMORY];
-//! let mut chip = perch::Chip::power_on();
+//! let mut chip = perch::Chip::power_on(perch::Machine::Ntsc);
 //! chip.write(0x4011, 0x40)?;
 //! assert_eq!(chip.level()?, 16620);
 //! let mut words = [0; 64];
@@ -11,6 +11,12 @@
 //!     println!("clock {} level {}", pair[0], pair[1]);
 //! }
 //! # Ok::<(), perch::Refusal>(())
+//! ```
+//!
+//! ```
+//! let checked = perch::check(b"log=1\nmachine=pal\nwait=10\nstop=10\n")?;
+//! assert_eq!((checked.clocks, checked.machine), (10, perch::Machine::Pal));
+//! # Ok::<(), perch::Fault>(())
 //! ```
 //!
 //! ```
@@ -27,7 +33,7 @@
 //! ```
 //! # use perch::{Found, Item};
 //! let log = b"log=1\nloop=3\nwait=10\nread=4015\ndone=loop\nstop=30\n";
-//! assert_eq!((perch::check(log)?, perch::turns(log)?, perch::items(log)?), (30, 9, 6));
+//! assert_eq!((perch::check(log)?.clocks, perch::turns(log)?, perch::items(log)?), (30, 9, 6));
 //! let mut cursor = perch::Cursor::new();
 //! assert_eq!(cursor.next(log)?, Found::Item(Item::Wait(10)));
 //! let bookmark = cursor;
@@ -44,7 +50,7 @@
 //! ```
 //!
 //! ```
-//! let mut chip = perch::Chip::power_on();
+//! let mut chip = perch::Chip::power_on(perch::Machine::Pal);
 //! assert_eq!(chip.why(perch::Channel::Square1)?.to_string(), "not enabled");
 //! for (register, value) in [(0x4015, 0x01), (0x4000, 0xff), (0x4003, 0x00)] {
 //!     chip.write(register, value)?;
@@ -77,7 +83,7 @@ mod sheet;
 mod why;
 
 pub use cursor::{CURSOR, Cursor, Found, all_items};
-pub use log::{Fault, Item, LOG, Player, body, check, import, item, items, refusal_text, turns};
+pub use log::{Checked, Fault, Item, LOG, Player, body, check, import, item, items, refusal_text, turns};
 pub use meter::{Meter, meter, meter_records};
 pub use sheet::sheet;
 pub use why::{Channel, Why};
@@ -88,10 +94,10 @@ use std::fmt;
 pub const MEMORY: usize = 32_768;
 
 /// How many bytes a state is.
-pub const STATE: usize = 90;
+pub const STATE: usize = 91;
 
 /// The version of the header that this wraps; the library's is `version()`.
-pub const VERSION: u32 = 3;
+pub const VERSION: u32 = 4;
 
 /// The version of the library linked. One of another version has other sizes, layouts or functions.
 pub fn version() -> u32 {
@@ -167,15 +173,24 @@ fn ran(answer: u64) -> Result<Ran, Refusal> {
     Ok(Ran { done: value & 0xff_ffff, records: (value >> 24) as usize })
 }
 
+/// A console.
+#[derive(Clone, Copy, Debug, PartialEq, Eq)]
+pub enum Machine {
+    /// NTSC.
+    Ntsc = 0,
+    /// PAL.
+    Pal = 1,
+}
+
 /// A chip's state.
 #[derive(Clone, Copy, Debug, PartialEq, Eq)]
 pub struct Chip([u8; STATE]);
 
 impl Chip {
-    /// The state at power-on.
-    pub fn power_on() -> Self {
+    /// A machine's state at power-on.
+    pub fn power_on(machine: Machine) -> Self {
         let mut state = [0; STATE];
-        raw::power_on(&mut state);
+        raw::power_on(&mut state, machine as u8);
         Self(state)
     }
 
@@ -185,6 +200,11 @@ impl Chip {
             0 => Err(Refusal(2)),
             _ => Ok(Self(state)),
         }
+    }
+
+    /// The state's machine, which no access changes.
+    pub fn machine(&self) -> Machine {
+        if self.0[STATE - 1] == 0 { Machine::Ntsc } else { Machine::Pal }
     }
 
     /// The state's bytes.

@@ -1,6 +1,6 @@
 //! Logs and the player.
 
-use crate::{Refusal, raw};
+use crate::{Machine, Refusal, raw};
 use std::fmt;
 use std::ops::Range;
 
@@ -42,9 +42,20 @@ pub enum Item {
     Read,
 }
 
-/// Checks a log and gives its clocks in all.
-pub fn check(log: &[u8]) -> Result<u64, Fault> {
-    value(raw::check(log))
+/// What the check of a log gives.
+#[derive(Clone, Copy, Debug, PartialEq, Eq)]
+pub struct Checked {
+    /// The clocks in all.
+    pub clocks: u64,
+    /// The machine that the log is for.
+    pub machine: Machine,
+}
+
+/// Checks a log and gives its clocks in all and its machine.
+pub fn check(log: &[u8]) -> Result<Checked, Fault> {
+    let value = value(raw::check(log))?;
+    let machine = if value >> 31 == 0 { Machine::Ntsc } else { Machine::Pal };
+    Ok(Checked { clocks: value & 0x7fff_ffff, machine })
 }
 
 /// Checks a log and gives its turns in all.

@@ -27,7 +27,7 @@ unsafe extern "C" {
 #[cfg(archive)]
 unsafe extern "C" {
     safe fn perch_state_size() -> usize;
-    fn perch_power_on(state: *mut u8, n: usize) -> u64;
+    fn perch_power_on(state: *mut u8, n: usize, machine: u8) -> u64;
     fn perch_in_range(state: *const u8, n: usize) -> u64;
     fn perch_write(state: *mut u8, n: usize, register: u16, value: u8) -> u64;
     fn perch_read_status(state: *mut u8, n: usize) -> u64;
@@ -84,9 +84,9 @@ pub fn state_size() -> usize {
     perch_state_size()
 }
 
-/// Writes the state at power-on.
-pub fn power_on(state: &mut [u8]) -> u64 {
-    unsafe { perch_power_on(state.as_mut_ptr(), state.len()) }
+/// Writes a machine's state at power-on.
+pub fn power_on(state: &mut [u8], machine: u8) -> u64 {
+    unsafe { perch_power_on(state.as_mut_ptr(), state.len(), machine) }
 }
 
 /// Value 1 where the bytes are a state in range, else 0; it refuses nothing.
@@ -149,7 +149,7 @@ pub fn run_plain(state: &mut [u8], memory: &[u8], count: u64, words: &mut [u32])
     }
 }
 
-/// Checks a log; the value is the clocks in all.
+/// Checks a log; the value is the clocks in all + 2^31 x its machine.
 pub fn check(log: &[u8]) -> u64 {
     unsafe { perch_check(log.as_ptr(), log.len()) }
 }

@@ -5,6 +5,7 @@
 
 use crate::bytes::SIZE;
 use crate::chip::{Chip, is_register};
+use crate::machine::Machine;
 use crate::plain::plain;
 use crate::{MEMORY, MOST_CLOCKS, number};
 
@@ -22,13 +23,15 @@ fn with_state(state: &mut [u8], act: impl FnOnce(&mut Chip) -> u64) -> u64 {
     answer
 }
 
-/// Writes the state at power-on.
-pub fn power_on(state: &mut [u8]) -> u64 {
-    if state.len() != SIZE {
-        return number::STATE.into();
+/// Writes a machine's state at power-on.
+pub fn power_on(state: &mut [u8], machine: u8) -> u64 {
+    match Machine::of(machine) {
+        Some(machine) if state.len() == SIZE => {
+            state.copy_from_slice(&Chip::power_on(machine).encode());
+            0
+        }
+        _ => number::STATE.into(),
     }
-    state.copy_from_slice(&Chip::POWER_ON.encode());
-    0
 }
 
 /// 1 where the bytes are a state in range, else 0: the range test refuses nothing.

@@ -1,13 +1,14 @@
 //! A state as bytes: the fields in the order in which document 01 names them, numbers low byte first, flags 0 or 1.
 
 use crate::chip::{Chip, Envelope, Length};
+use crate::machine;
 use std::ops::RangeInclusive;
 
 /// How many bytes a state is.
-pub const SIZE: usize = 90;
+pub const SIZE: usize = 91;
 
 /// How many fields a state has.
-pub const FIELDS: usize = 78;
+pub const FIELDS: usize = 79;
 
 /// One field of a state, where it lies and what it may hold.
 pub enum Slot<'a> {
@@ -17,6 +18,8 @@ pub enum Slot<'a> {
     Byte(&'a mut u16, RangeInclusive<u16>),
     /// Two bytes, low first.
     Word(&'a mut u16, RangeInclusive<u16>),
+    /// One byte, the machine's number.
+    Machine(&'a mut machine::Machine),
 }
 
 impl Slot<'_> {
@@ -25,9 +28,9 @@ impl Slot<'_> {
         if matches!(self, Slot::Word(..)) { 2 } else { 1 }
     }
 
-    /// Whether the field is a flag.
+    /// Whether the field is 0 or 1.
     pub fn is_flag(&self) -> bool {
-        matches!(self, Slot::Flag(_))
+        matches!(self, Slot::Flag(_) | Slot::Machine(_))
     }
 
     /// What the field holds.
@@ -35,27 +38,34 @@ impl Slot<'_> {
         match self {
             Slot::Flag(flag) => u16::from(**flag),
             Slot::Byte(number, _) | Slot::Word(number, _) => **number,
+            Slot::Machine(machine) => **machine as u16,
         }
     }
 
-    /// Sets the field; a flag is set by any number but 0.
+    /// Sets the field; a flag is set, and the machine PAL, by any number but 0.
     pub fn set(&mut self, value: u16) {
         match self {
             Slot::Flag(flag) => **flag = value != 0,
             Slot::Byte(number, _) | Slot::Word(number, _) => **number = value,
+            Slot::Machine(machine) => **machine = machine::Machine::ALL[usize::from(value != 0)],
         }
     }
 
     /// What the field may hold.
     pub fn range(&self) -> RangeInclusive<u16> {
         match self {
-            Slot::Flag(_) => 0..=1,
+            Slot::Flag(_) | Slot::Machine(_) => 0..=1,
             Slot::Byte(_, range) | Slot::Word(_, range) => range.clone(),
         }
     }
 }
 
 use Slot::{Byte, Flag, Word};
+
+/// What a timer with these periods may hold.
+fn timer(periods: &[u16]) -> RangeInclusive<u16> {
+    1..=periods.iter().copied().max().unwrap_or(1)
+}
 
 fn envelope_flags(e: &mut Envelope, visit: &mut impl FnMut(&'static str, Slot)) {
     visit("loop", Flag(&mut e.looped));
@@ -75,9 +85,11 @@ fn length(l: &mut Length, visit: &mut impl FnMut(&'static str, Slot)) {
 }
 
 impl Chip {
-    /// Shows every field in order, with its name and its range; the clock number's is the mode's.
+    /// Shows every field in order, with its name and its range; the timers' and the clock number's are the machine's, the
+    /// latter in the mode.
     pub fn fields(&mut self, mut visit: impl FnMut(&'static str, Slot)) {
         let visit = &mut visit;
+        let machine = self.machine;
         for square in &mut self.squares {
             visit("duty", Byte(&mut square.duty, 0..=3));
             envelope_flags(&mut square.envelope, visit);
@@ -112,14 +124,14 @@ impl Chip {
         length(&mut noise.length, visit);
         visit("mode", Flag(&mut noise.mode));
         visit("index", Byte(&mut noise.index, 0..=15));
-        visit("timer", Word(&mut noise.timer, 1..=4068));
+        visit("timer", Word(&mut noise.timer, timer(machine.noise_periods())));
         visit("shift register", Word(&mut noise.register, 1..=32767));
 
         let dmc = &mut self.dmc;
         visit("interrupt enable", Flag(&mut dmc.interrupt_enable));
         visit("loop", Flag(&mut dmc.looped));
         visit("index", Byte(&mut dmc.index, 0..=15));
-        visit("timer", Word(&mut dmc.timer, 1..=428));
+        visit("timer", Word(&mut dmc.timer, timer(machine.dmc_periods())));
         visit("level", Byte(&mut dmc.level, 0..=127));
         visit("address byte", Byte(&mut dmc.address_byte, 0..=255));
         visit("length byte", Byte(&mut dmc.length_byte, 0..=255));
@@ -135,9 +147,10 @@ impl Chip {
         let frame = &mut self.frame;
         visit("mode", Flag(&mut frame.mode));
         visit("disable", Flag(&mut frame.disable));
-        let last = frame.times().again - 1;
+        let last = machine.times(frame.mode).again - 1;
         visit("clock number", Word(&mut frame.clock, 0..=last));
         visit("interrupt", Flag(&mut frame.interrupt));
+        visit("machine", Slot::Machine(&mut self.machine));
     }
 
     /// The state as bytes.
@@ -155,13 +168,13 @@ impl Chip {
         bytes
     }
 
-    /// The state in range that the bytes hold; none if they are of another length, have a flag above 1 or a field
-    /// outside its range.
+    /// The state in range that the bytes hold; none if they are of another length, have a flag above 1, no machine or a
+    /// field outside its range.
     pub fn decode(bytes: &[u8]) -> Option<Self> {
         if bytes.len() != SIZE {
             return None;
         }
-        let mut chip = Self::POWER_ON;
+        let mut chip = Self::power_on(machine::Machine::of(bytes[SIZE - 1])?);
         let mut flags = true;
         let mut at = 0;
         chip.fields(|_, mut slot| {

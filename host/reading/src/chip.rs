@@ -3,6 +3,7 @@
 //! Every number of the state is a `u16` and every flag a `bool`. What a clock or an access does is said of states in
 //! range only (`Chip::in_range`); the operations that refuse other states are in `boundary`.
 
+use crate::machine::{Machine, Times};
 use crate::mixer::Outputs;
 
 /// A divider counts down by one; on reaching 0 it takes its period again and gives an output.
@@ -319,24 +320,23 @@ pub struct Noise {
     pub mode: bool,
     /// 0..15.
     pub index: u16,
-    /// 1..4068.
+    /// From 1 to the machine's longest period.
     pub timer: u16,
     /// 1..32767.
     pub register: u16,
 }
 
-/// The noise timer's periods by index.
-pub const NOISE_PERIODS: [u16; 16] = [4, 8, 16, 32, 64, 96, 128, 160, 202, 254, 380, 508, 762, 1016, 2034, 4068];
-
 impl Noise {
-    const POWER_ON: Self = Self {
-        envelope: Envelope::POWER_ON,
-        length: Length { count: 0, enabled: false },
-        mode: false,
-        index: 0,
-        timer: 4,
-        register: 1,
-    };
+    const fn power_on(machine: Machine) -> Self {
+        Self {
+            envelope: Envelope::POWER_ON,
+            length: Length { count: 0, enabled: false },
+            mode: false,
+            index: 0,
+            timer: machine.noise_periods()[0],
+            register: 1,
+        }
+    }
 
     fn write(&mut self, place: u16, value: u8) {
         match place {
@@ -353,8 +353,8 @@ impl Noise {
         }
     }
 
-    fn timer_clock(&mut self) {
-        if divide(&mut self.timer, NOISE_PERIODS[usize::from(self.index)]) {
+    fn timer_clock(&mut self, machine: Machine) {
+        if divide(&mut self.timer, machine.noise_periods()[usize::from(self.index)]) {
             let other = if self.mode { 6 } else { 1 };
             let fed = (self.register ^ self.register >> other) & 1;
             self.register = self.register >> 1 | fed << 14;
@@ -376,7 +376,7 @@ pub struct Dmc {
     pub looped: bool,
     /// 0..15.
     pub index: u16,
-    /// 1..428.
+    /// From 1 to the machine's longest period.
     pub timer: u16,
     /// 0..127.
     pub level: u16,
@@ -402,27 +402,26 @@ pub struct Dmc {
     pub interrupt: bool,
 }
 
-/// The DMC timer's periods by index.
-pub const DMC_PERIODS: [u16; 16] = [428, 380, 340, 320, 286, 254, 226, 214, 190, 160, 142, 128, 106, 84, 72, 54];
-
 impl Dmc {
-    const POWER_ON: Self = Self {
-        interrupt_enable: false,
-        looped: false,
-        index: 0,
-        timer: 428,
-        level: 0,
-        address_byte: 0,
-        length_byte: 0,
-        address: 49152,
-        remaining: 0,
-        buffer: 0,
-        full: false,
-        shift: 0,
-        bits: 8,
-        silence: true,
-        interrupt: false,
-    };
+    const fn power_on(machine: Machine) -> Self {
+        Self {
+            interrupt_enable: false,
+            looped: false,
+            index: 0,
+            timer: machine.dmc_periods()[0],
+            level: 0,
+            address_byte: 0,
+            length_byte: 0,
+            address: 49152,
+            remaining: 0,
+            buffer: 0,
+            full: false,
+            shift: 0,
+            bits: 8,
+            silence: true,
+            interrupt: false,
+        }
+    }
 
     fn write(&mut self, place: u16, value: u8) {
         match place {
@@ -455,8 +454,8 @@ impl Dmc {
         }
     }
 
-    fn timer_clock(&mut self) {
-        if !divide(&mut self.timer, DMC_PERIODS[usize::from(self.index)]) {
+    fn timer_clock(&mut self, machine: Machine) {
+        if !divide(&mut self.timer, machine.dmc_periods()[usize::from(self.index)]) {
             return;
         }
         if !self.silence {
@@ -505,33 +504,16 @@ pub struct Frame {
     pub mode: bool,
     /// The interrupt flag isn't set.
     pub disable: bool,
-    /// The clock number, counted from the reset: 0..29829 in mode 0, 0..37281 in mode 1.
+    /// The clock number, counted from the reset, below that where the machine's frame begins again in the mode.
     pub clock: u16,
     /// The interrupt flag, set only while disable is clear.
     pub interrupt: bool,
 }
 
-/// When the frame sequencer steps, in clocks after the reset, and when it begins from the start again.
-#[derive(Clone, Copy, Debug, PartialEq, Eq)]
-pub struct Times {
-    /// The clocks that bring a step.
-    pub steps: &'static [u16],
-    /// From the start again at this clock.
-    pub again: u16,
-}
-
-const FOUR_STEPS: Times = Times { steps: &[7457, 14913, 22371, 29829], again: 29830 };
-const FIVE_STEPS: Times = Times { steps: &[7457, 14913, 22371, 29829, 37281], again: 37282 };
-
 impl Frame {
-    /// The times of the mode.
-    pub fn times(&self) -> Times {
-        if self.mode { FIVE_STEPS } else { FOUR_STEPS }
-    }
-
     /// One clock more; the step that it brings, if it brings one.
-    fn count(&mut self) -> Option<usize> {
-        let Times { steps, again } = self.times();
+    fn count(&mut self, machine: Machine) -> Option<usize> {
+        let Times { steps, again } = machine.times(self.mode);
         self.clock += 1;
         if self.clock == again {
             self.clock = 0;
@@ -555,6 +537,8 @@ pub struct Chip {
     pub dmc: Dmc,
     /// The frame sequencer.
     pub frame: Frame,
+    /// NTSC or PAL.
+    pub machine: Machine,
 }
 
 const WHICH: [Which; 2] = [Which::First, Which::Second];
@@ -565,14 +549,25 @@ pub fn is_register(register: u16) -> bool {
 }
 
 impl Chip {
-    /// The state at power-on: flags clear, numbers 0, except as marked.
-    pub const POWER_ON: Self = Self {
-        squares: [Square::POWER_ON; 2],
-        triangle: Triangle::POWER_ON,
-        noise: Noise::POWER_ON,
-        dmc: Dmc::POWER_ON,
-        frame: Frame { mode: false, disable: false, clock: 0, interrupt: false },
-    };
+    /// A machine's state at power-on: flags clear, numbers 0, except as marked.
+    pub const fn power_on(machine: Machine) -> Self {
+        Self {
+            squares: [Square::POWER_ON; 2],
+            triangle: Triangle::POWER_ON,
+            noise: Noise::power_on(machine),
+            dmc: Dmc::power_on(machine),
+            frame: Frame { mode: false, disable: false, clock: 0, interrupt: false },
+            machine,
+        }
+    }
+
+    /// The NTSC machine's.
+    pub const POWER_ON: Self = Self::power_on(Machine::Ntsc);
+
+    /// The times of the frame.
+    pub fn times(&self) -> Times {
+        self.machine.times(self.frame.mode)
+    }
 
     /// One clock: the timers with what they drive, the DMC reader, the frame's clock number, then its step if due.
     pub fn clock(&mut self, memory: &[u8]) {
@@ -580,10 +575,10 @@ impl Chip {
             square.timer_clock();
         }
         self.triangle.timer_clock();
-        self.noise.timer_clock();
-        self.dmc.timer_clock();
+        self.noise.timer_clock(self.machine);
+        self.dmc.timer_clock(self.machine);
         self.dmc.reader_clock(memory);
-        if let Some(step) = self.frame.count() {
+        if let Some(step) = self.frame.count(self.machine) {
             self.frame_step(step);
         }
     }

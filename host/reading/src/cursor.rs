@@ -81,7 +81,7 @@ impl Cursor {
                 self.at = self.starts[open - 1];
                 self.left[open - 1] -= 1;
             }
-            Line::Log | Line::Stop(_) => {}
+            Line::Log | Line::Machine | Line::Stop(_) => {}
         }
         Ok(Step::Moved)
     }

@@ -11,6 +11,7 @@ pub mod chip;
 pub mod cursor;
 pub mod layout;
 pub mod log;
+pub mod machine;
 pub mod meter;
 pub mod mixer;
 pub mod plain;
@@ -21,6 +22,7 @@ pub mod vgm;
 pub mod why;
 
 pub use chip::Chip;
+pub use machine::Machine;
 pub use plain::{Plain, Record, plain};
 
 /// The length of sample memory, $8000 to $FFFF.

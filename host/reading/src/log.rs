@@ -1,6 +1,7 @@
 //! The log: its lines, what is at fault in it, what it stands for.
 
 use crate::chip::is_register;
+use crate::machine::Machine;
 use crate::number;
 use std::ops::{Range, RangeInclusive};
 
@@ -38,6 +39,8 @@ pub enum Item {
 pub enum Line {
     /// `log=1`
     Log,
+    /// `machine=pal`
+    Machine,
     /// A wait, a write or a read. The register of a write may be any.
     Item(Item),
     /// `loop=N`
@@ -84,6 +87,7 @@ fn line(text: &[u8]) -> Option<Line> {
     let (key, value) = (&text[..equals], &text[equals + 1..]);
     Some(match (key, value) {
         (b"log", b"1") => Line::Log,
+        (b"machine", b"pal") => Line::Machine,
         (b"read", b"4015") => Line::Item(Item::Read),
         (b"done", b"loop") => Line::Done,
         (b"wait", _) => Line::Item(Item::Wait(ranged(value, WAITS)?)),
@@ -105,8 +109,9 @@ enum Value {
 }
 
 /// The keys, and what stands behind each.
-const KEYS: [(&[u8], Value); 7] = [
+const KEYS: [(&[u8], Value); 8] = [
     (b"log", Value::Fixed(b"1")),
+    (b"machine", Value::Fixed(b"pal")),
     (b"wait", Value::Decimal(WAITS)),
     (b"write", Value::Fixed(b"xxxx:xx")),
     (b"read", Value::Fixed(b"4015")),
@@ -115,11 +120,15 @@ const KEYS: [(&[u8], Value); 7] = [
     (b"stop", Value::Decimal(STOPS)),
 ];
 
+/// Where the second line begins, behind `log=1` and its line feed.
+const SECOND: usize = 6;
+
 /// Whether a key may stand at a place with so many loops open.
 fn allowed(key: &[u8], at: usize, open: usize) -> bool {
     match key {
         b"log" => at == 0,
         _ if at == 0 => false,
+        b"machine" => at == SECOND,
         b"loop" => open < MOST_DEPTH,
         b"done" => open > 0,
         b"stop" => open == 0,
@@ -226,7 +235,7 @@ fn lines(log: &[u8]) -> Result<Vec<Placed>, Fault> {
         at = place.end;
         lines.push((line, place));
         match line {
-            Line::Log | Line::Item(_) => {}
+            Line::Log | Line::Machine | Line::Item(_) => {}
             Line::Loop(_) => open += 1,
             Line::Done => open -= 1,
             Line::Stop(_) if at < log.len() => return Err(Fault { number: number::BEHIND, place: at }),
@@ -257,7 +266,7 @@ fn totals(lines: &[Placed]) -> Totals {
                 now.items += times * body.items;
                 now.clocks += times * body.clocks;
             }
-            Line::Log | Line::Stop(_) => {}
+            Line::Log | Line::Machine | Line::Stop(_) => {}
         }
     }
     open[0].1
@@ -282,6 +291,12 @@ pub fn check(log: &[u8]) -> Result<Totals, Fault> {
     passed(log).map(|(_, totals)| totals)
 }
 
+/// The machine that a log is for: PAL where it says so, else NTSC.
+pub fn machine(log: &[u8]) -> Result<Machine, Fault> {
+    let (lines, _) = passed(log)?;
+    Ok(if lines.iter().any(|(line, _)| *line == Line::Machine) { Machine::Pal } else { Machine::Ntsc })
+}
+
 /// The list that a log stands for: its loops unrolled.
 pub fn items(log: &[u8]) -> Result<Vec<Item>, Fault> {
     let mut list = Vec::new();
@@ -296,7 +311,7 @@ pub fn items(log: &[u8]) -> Result<Vec<Item>, Fault> {
                 let body = list[first..].to_vec();
                 (1..times).for_each(|_| list.extend(&body));
             }
-            Line::Log | Line::Stop(_) => {}
+            Line::Log | Line::Machine | Line::Stop(_) => {}
         }
     }
     Ok(list)

@@ -2,6 +2,7 @@
 
 use crate::chip::Chip;
 use crate::log::{self, Fault, Item};
+use crate::machine::Machine;
 use crate::{MEMORY, number};
 use std::fmt::Write;
 
@@ -25,8 +26,8 @@ pub(crate) fn refusal_line(number: u8, place: &str) -> String {
 
 /// All that the player writes for a log.
 pub fn text(log: &[u8], memory: &[u8]) -> String {
-    match check(log, memory).and_then(|_| log::items(log)) {
-        Ok(items) => sounds(&items, memory),
+    match check(log, memory).and_then(|_| Ok((log::machine(log)?, log::items(log)?))) {
+        Ok((machine, items)) => sounds(machine, &items, memory),
         Err(fault) => refusal(fault),
     }
 }
@@ -40,15 +41,15 @@ pub fn beginning(log: &[u8], memory: &[u8], clocks: u64) -> Result<String, Fault
         _ => true,
     };
     let first: Vec<Item> = log::items(log)?.into_iter().take_while(|item| fits(item)).collect();
-    let mut text = sounds(&first, memory);
+    let mut text = sounds(log::machine(log)?, &first, memory);
     // Without the line of the end.
     text.truncate(text.trim_end().rfind('\n').map_or(0, |feed| feed + 1));
     Ok(text)
 }
 
-/// The lines of a list.
-fn sounds(items: &[Item], memory: &[u8]) -> String {
-    let mut chip = Chip::POWER_ON;
+/// The lines of a list, played by a machine.
+fn sounds(machine: Machine, items: &[Item], memory: &[u8]) -> String {
+    let mut chip = Chip::power_on(machine);
     let mut time = 0u64;
     let mut last = chip.level();
     let mut outputs = chip.outputs();

@@ -8,6 +8,7 @@ use crate::cursor::{Cursor, Step};
 pub use crate::layout::player::SIZE;
 use crate::layout::player::{CURSOR, LAST, PHASE, STATE, TIME, WAIT};
 use crate::log::{self, Fault, Item, MOST_DEPTH};
+use crate::machine::Machine;
 use crate::plain::plain;
 use crate::{MEMORY, MOST_CLOCKS, number, play};
 
@@ -19,9 +20,10 @@ fn answer<T>(result: Result<T, Fault>, value: impl FnOnce(T) -> u64) -> u64 {
     result.map_or_else(refused, |done| value(done) << 32)
 }
 
-/// The clocks in all.
+/// The clocks in all, and 2^31 x the machine.
 pub fn check(log: &[u8]) -> u64 {
-    answer(log::check(log), |totals| totals.clocks as u64)
+    let checked = log::check(log).and_then(|totals| Ok((totals.clocks as u64, log::machine(log)?)));
+    answer(checked, |(clocks, machine)| clocks | (machine as u64) << 31)
 }
 
 /// The turns in all.
@@ -88,14 +90,16 @@ pub enum Said {
 const LATEST: u64 = 2_000_000_000;
 
 impl Player {
-    const FIRST: Self = Self {
-        cursor: Cursor { at: 0, open: 0, starts: [0; MOST_DEPTH], left: [0; MOST_DEPTH] },
-        phase: 0,
-        wait: 0,
-        time: 0,
-        last: 0,
-        chip: Chip::POWER_ON,
-    };
+    fn first(machine: Machine) -> Self {
+        Self {
+            cursor: Cursor { at: 0, open: 0, starts: [0; MOST_DEPTH], left: [0; MOST_DEPTH] },
+            phase: 0,
+            wait: 0,
+            time: 0,
+            last: 0,
+            chip: Chip::power_on(machine),
+        }
+    }
 
     /// The player as bytes.
     pub fn encode(&self) -> [u8; SIZE] {
@@ -193,7 +197,7 @@ impl Player {
     }
 }
 
-/// Makes the bytes a player that has written nothing. Refused: 1, 2 (a player of another length), then the log's.
+/// Makes the bytes a player of the log's machine that has written nothing. Refused: 1, 2 (a player of another length), then the log's.
 pub fn begin(player: &mut [u8], log: &[u8], memory: &[u8]) -> u64 {
     if memory.len() != MEMORY {
         return number::MEMORY.into();
@@ -201,8 +205,8 @@ pub fn begin(player: &mut [u8], log: &[u8], memory: &[u8]) -> u64 {
     if player.len() != SIZE {
         return number::STATE.into();
     }
-    answer(log::check(log), |_| {
-        player.copy_from_slice(&Player::FIRST.encode());
+    answer(log::machine(log), |machine| {
+        player.copy_from_slice(&Player::first(machine).encode());
         0
     })
 }

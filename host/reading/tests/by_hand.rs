@@ -44,14 +44,14 @@ fn steps(value: u8, count: u32) -> Vec<(u32, String)> {
 }
 
 #[test]
-fn a_state_is_78_fields_in_90_bytes() {
+fn a_state_is_79_fields_in_91_bytes() {
     let (mut fields, mut bytes) = (0, 0);
     Chip::POWER_ON.clone().fields(|_, slot| {
         fields += 1;
         bytes += slot.width();
     });
-    assert_eq!((fields, bytes), (78, 90));
-    assert_eq!((FIELDS, SIZE), (78, 90));
+    assert_eq!((fields, bytes), (79, 91));
+    assert_eq!((FIELDS, SIZE), (79, 91));
 }
 
 #[test]
@@ -461,7 +461,7 @@ fn answers_and_refusals() {
     state[1] = 2;
     assert_eq!(boundary::level(&state), 2);
     assert_eq!((boundary::line(&state), boundary::in_range(&state), boundary::in_range(&kept)), (2, 0, 256));
-    assert_eq!(boundary::power_on(&mut state), 0);
+    assert_eq!(boundary::power_on(&mut state, 0), 0);
     assert_eq!(boundary::level(&state), 8074 << 8);
     assert_eq!(boundary::run(&mut state, m, 1_000_000, &mut words), 1_000_000 << 8);
     assert_eq!(words, [7; 5]);

@@ -17,8 +17,8 @@ pub extern "C" fn perch_state_size() -> usize {
 }
 
 #[cfg_attr(feature = "export", unsafe(no_mangle))]
-pub unsafe extern "C" fn perch_power_on(state: *mut u8, n: usize) -> u64 {
-    boundary::power_on(unsafe { from_raw_parts_mut(state, n) })
+pub unsafe extern "C" fn perch_power_on(state: *mut u8, n: usize, machine: u8) -> u64 {
+    boundary::power_on(unsafe { from_raw_parts_mut(state, n) }, machine)
 }
 
 #[cfg_attr(feature = "export", unsafe(no_mangle))]
