@@ -1,7 +1,7 @@
 -- Document 01, "Numbers an answer can carry": what the chip's operations answer. "Lowest number first"; "A refusal returns its number ..,
 -- the state .. as given, 0 or no for the rest".
 use Prim.Native.Nat.{ℕ}
-use mathlib.Core.Bool.{Bool, true, false}
+use mathlib.Core.Bool.{Bool, true, false, not}
 use mathlib.Core.List.{List}
 use lib.ListN.{length}
 use lib.Dec.{eqb}
@@ -9,15 +9,17 @@ use lib.IntN.{pos}
 use lib.Ieee.{Float, fin}
 use Rattle.arith.specs.Pick.{pick}
 use Rattle.bus.specs.Register.{isRegister}
+use Rattle.bus.specs.declared.Access.{Access}
+use Rattle.bus.specs.declared.Access.the-variants.{Write, Read}
 use Rattle.chip_mixer.specs.Fraction.{fractionOf}
 use Rattle.chip.specs.Clock.{chipClock}
 use Rattle.chip.specs.Level.{stateLevel}
 use Rattle.chip.specs.Range.{inRange}
-use Rattle.chip.specs.Status.{statusByte, statusRead, lineAsserted}
-use Rattle.chip.specs.Write.{registerWritten}
+use Rattle.chip.specs.Status.{lineAsserted}
 use Rattle.chip.specs.declared.State.{State}
+use Rattle.chip_access.specs.Access.{accessState, accessByte}
 use Rattle.chip_api.specs.declared.Moved.{Moved}
-use Rattle.chip_api.specs.declared.Status.{Status}
+use Rattle.chip_api.specs.declared.Answered.{Answered}
 use Rattle.chip_api.specs.declared.Asserted.{Asserted}
 use Rattle.chip_api.specs.declared.Mixed.{Mixed}
 use Rattle.chip_api.specs.declared.Scaled.{Scaled}
@@ -30,15 +32,29 @@ moved number s = record { number = number; state = s }
 abbrev pub isMemory : List ℕ → Bool
 isMemory memory = eqb (length memory) 32768
 
--- a write: 2, then 4, then the state with the register written
-unfoldable pub writeAnswer : ℕ → ℕ → State → Moved
-writeAnswer register value s =
-    pick (inRange s) (pick (isRegister register) (moved 0 (registerWritten register value s)) (moved 4 s)) (moved 2 s)
+-- 4: "register not among $4000..$4013, $4015, $4017" is for writes; a read is always of $4015
+unfoldable pub allowed : Access → Bool
+allowed (Write register value) = isRegister register
+allowed Read = true
 
--- a status read: 2, then the byte and the state with the frame flag cleared
-unfoldable pub statusAnswer : State → Status
-statusAnswer s =
-    pick (inRange s) (record { number = 0; byte = statusByte s; state = statusRead s }) (record { number = 2; byte = 0; state = s })
+-- refused: the state as it came, byte 0, level 0, not different
+abbrev pub refusedAccess : ℕ → State → Answered
+refusedAccess number s = record { number = number; state = s; byte = 0; level = 0; differs = false }
+
+-- "the state, the byte read (0 for a write), the level after, and whether the level differs from before"
+abbrev pub doneAccess : Access → State → Answered
+doneAccess x s =
+    record {
+      number = 0;
+      state = accessState x s;
+      byte = accessByte x s;
+      level = stateLevel (accessState x s);
+      differs = not (eqb (stateLevel (accessState x s)) (stateLevel s));
+    }
+
+-- Request 7: one access. "Refusals: 2, then 4"
+unfoldable pub accessAnswer : Access → State → Answered
+accessAnswer x s = pick (inRange s) (pick (allowed x) (doneAccess x s) (refusedAccess 4 s)) (refusedAccess 2 s)
 
 -- the interrupt line: 2, then whether it is asserted
 unfoldable pub lineAnswer : State → Asserted

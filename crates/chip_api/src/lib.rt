@@ -2,7 +2,8 @@
 // back as it came where it refuses.
 ghost use mathlib.Core.Path.{_≡_};
 ghost use Rattle.chip.specs.Range.{inRange, powerOn};
-ghost use Rattle.chip_api.specs.Answer.{moved, writeAnswer, statusAnswer, lineAnswer, levelAnswer, fractionAnswer, clockAnswer};
+ghost use Rattle.chip_api.specs.Answer.{moved, allowed, refusedAccess, doneAccess, accessAnswer, lineAnswer, levelAnswer, fractionAnswer, clockAnswer};
+use bus::Access;
 use chip::State;
 
 // A number and the state.
@@ -11,11 +12,13 @@ pub struct Moved {
     pub state: State,
 }
 
-// A number, the status byte and the state.
-pub struct Status {
+// A number, the state, the byte read, the level after, and whether it differs from the level before.
+pub struct Answered {
     pub number: u8,
-    pub byte: u8,
     pub state: State,
+    pub byte: u8,
+    pub level: u16,
+    pub differs: bool,
 }
 
 // A number, and whether the interrupt line is asserted.
@@ -59,38 +62,55 @@ fn moved_with(number: u8, s: State) -> Moved
     }
 }
 
-// A register written with a value.
-pub fn write(s: State, register: u16, value: u8) -> Moved
-    ensures { λ r. ⌜ r ≡ writeAnswer register value s ⌝ }
+// Whether an access is one that the chip takes.
+fn is_allowed(x: Access) -> bool
+    ensures { λ r. ⌜ r ≡ allowed x ⌝ }
 {
-    if s.in_range() {
-        if bus::is_register(register) {
-            let t = s.written(register, value);
-            return moved_with(0, t);
-        }
-        return moved_with(4, s);
+    match x {
+        Access::Write(register, _) => bus::is_register(register),
+        Access::Read => true,
     }
-    moved_with(2, s)
 }
 
-// A read of the status at $4015.
-pub fn read_status(s: State) -> Status
-    ensures { λ r. ⌜ r ≡ statusAnswer s ⌝ }
+fn access_refused(number: u8, s: State) -> Answered
+    ensures { λ r. ⌜ r ≡ refusedAccess number s ⌝ }
+{
+    Answered {
+        number: number,
+        state: s,
+        byte: 0,
+        level: 0,
+        differs: false,
+    }
+}
+
+fn access_done(s: State, x: Access) -> Answered
+    ensures { λ r. ⌜ r ≡ doneAccess x s ⌝ }
+{
+    let before = s.level();
+    let a = chip_access::accessed(s, x);
+    let after = a.state;
+    let level = after.level();
+    Answered {
+        number: 0,
+        state: after,
+        byte: a.byte,
+        level: level,
+        differs: level != before,
+    }
+}
+
+// One access: a register written with a value, or the status read at $4015.
+pub fn access(s: State, x: Access) -> Answered
+    ensures { λ r. ⌜ r ≡ accessAnswer x s ⌝ }
 {
     if s.in_range() {
-        let byte = s.status();
-        let t = s.read();
-        return Status {
-            number: 0,
-            byte: byte,
-            state: t,
-        };
+        if is_allowed(x) {
+            return access_done(s, x);
+        }
+        return access_refused(4, s);
     }
-    Status {
-        number: 2,
-        byte: 0,
-        state: s,
-    }
+    access_refused(2, s)
 }
 
 // Whether the interrupt line is asserted.
