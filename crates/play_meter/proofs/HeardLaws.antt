@@ -8,12 +8,14 @@ use native.Mathlib.Omega.{arith}
 use lib.Dec.{eqb}
 use Rattle.arith.specs.Iterate.{iterate}
 use Rattle.arith.specs.Pick.{pick}
+use Rattle.bus.specs.declared.Access.{Access}
+use Rattle.bus.specs.declared.Access.the-variants.{Write, Read}
 use Rattle.chip.specs.Clock.{chipClock}
 use Rattle.chip.specs.Level.{stateLevel}
 use Rattle.chip.specs.declared.State.{State}
 use Rattle.play_text.specs.declared.Note.{Note}
 use Rattle.play_text.specs.declared.Note.the-variants.{Level}
-use Rattle.play_model.specs.Sound.{heard, waited}
+use Rattle.play_model.specs.Sound.{heard, waited, readLine}
 use Rattle.run_meter.specs.declared.Span.{Span}
 use Rattle.run_meter.specs.Levels.{lowest, highest}
 use Rattle.run_meter.specs.Spans.{spanOver}
@@ -33,6 +35,12 @@ highest-append x (y ∷ a) b = highest-append (max x y) a b
 -- one list and then another
 pub span-append : (s : Span) (a b : List ℕ) → spanOver (spanOver s a) b ≡ spanOver s (a ++ b)
 span-append s a b = rw (lowest-append (s .low) a b, highest-append (s .high) a b)
+
+-- a read's line has no level
+pub levels-read : (x : Access) (t : ℕ) (s : State) (l : List Note) → levelsOf (readLine x t s ++ l) ≡ levelsOf l
+unfolding readLine levelsOf
+levels-read (Write r v) t s l = refl
+levels-read Read t s l = refl
 
 -- the level after an access or a clock, where it differs
 pub levels-heard : (t last : ℕ) (s : State) (l : List Note)

@@ -26,15 +26,16 @@ use Rattle.chip.specs.Clock.{chipClock}
 use Rattle.chip.specs.Range.{inRange, powerOn, Bytes}
 use Rattle.chip.specs.declared.State.{State}
 use Rattle.chip.proofs.RangeLaws.{StateRanged, state-in, state-back, clock-kept, power-on-in}
-use Rattle.play_meter.specs.Meters.{stretchOf, accessedBy, waitsFrom}
+use Rattle.chip_access.specs.Access.{accessState}
+use Rattle.chip_access.proofs.AccessLaws.{Bytewide, access-kept}
+use Rattle.play_meter.specs.Meters.{stretchOf, waitsFrom}
 use Rattle.play_meter.specs.Passing.{go, gaugeOf, gaugeStart, actPass, foundPass, passOf}
 use Rattle.play_meter.proofs.PassLaws.{ready-is, pass-some}
-use Rattle.play_meter.proofs.WalkLaws.{write-fine, read-fine}
 
-access-ranged : (x : busAccess.Access) (s : State) → Allowed (Access x) → inRange s ≡ true → inRange (accessedBy x s) ≡ true
-unfolding accessedBy
-access-ranged (bus.Write r v) s w h = write-fine r v s _ (w .1) h refl .1
-access-ranged bus.Read s w h = read-fine s _ h refl .1
+-- a value that a log writes is a byte
+bytewide : (x : busAccess.Access) → Allowed (Access x) → Bytewide x
+bytewide (bus.Write r v) w = w .1
+bytewide bus.Read w = tt
 
 clocks-ranged : (memory : List ℕ) → Bytes memory → (n : ℕ) (s : State) → inRange s ≡ true → inRange (iterate (chipClock memory) n s) ≡ true
 clocks-ranged memory bytes n s h = state-back _ (iterate-keeps StateRanged (chipClock memory) (clock-kept memory bytes) n s (state-in s h))
@@ -59,7 +60,7 @@ module _ (log memory : List ℕ) (long : length memory ≡ 32768) (bytes : Bytes
     pass-wait n e = here-pass ∙ rw e refl
 
     pass-access : (x : busAccess.Access) → stepOf log c .said ≡ says (Access x)
-        → passOf log memory (gaugeOf t s c) ≡ go on (gaugeOf t (accessedBy x s) (stepOf log c .state))
+        → passOf log memory (gaugeOf t s c) ≡ go on (gaugeOf t (accessState x s) (stepOf log c .state))
     unfolding foundPass actPass
     pass-access x e = here-pass ∙ rw e refl
 
@@ -74,7 +75,7 @@ module _ (log memory : List ℕ) (long : length memory ≡ 32768) (bytes : Bytes
       (acts-said g (t + n) (iterate (chipClock memory) n s) (w .1) (clocks-ranged memory bytes n s h) (omega arith)) p
   acts-said {c = c} (gives {a = Access x} {l = l} f e g p) t s w h b =
       by-on (passOf log memory) f (pass-access t s c h (omega arith) x e)
-      (acts-said g t (accessedBy x s) (w .1) (access-ranged x s (w .0) h) (omega arith)) p
+      (acts-said g t (accessState x s) (w .1) (access-kept x s (bytewide x (w .0)) h) (omega arith)) p
 
   -- in 2,000,002 steps at most
   pub waits-said : checkOf log .number ≡ 0 → Gives (passOf log memory) (gaugeStart log) (waitsFrom memory (acts (treeOf log)) 0 (powerOn (machineOf log))) 2000002

@@ -10,7 +10,7 @@ use lib.ListN.{length}
 use borrow.Author.Tests.{eq-eqb, ne-eqb}
 use Rattle.arith.specs.Iterate.{iterate}
 use Rattle.arith.specs.Pick.{pick}
-use Rattle.bus.specs.declared.Access.the-variants as bus
+use Rattle.bus.specs.declared.Access as busAccess
 use Rattle.log_line.specs.declared.Act.{Act}
 use Rattle.log_line.specs.declared.Act.the-variants.{Wait, Access}
 use Rattle.log_judge.specs.Head.{machineOf}
@@ -26,29 +26,18 @@ use Rattle.machine.proofs.SayingLaws.{within}
 use Rattle.chip.specs.Clock.{chipClock}
 use Rattle.chip.specs.Level.{stateLevel}
 use Rattle.chip.specs.Range.{inRange, powerOn}
-use Rattle.chip.specs.Status.{statusRead}
-use Rattle.chip.specs.Write.{registerWritten}
 use Rattle.chip.specs.declared.State.{State}
-use Rattle.chip.proofs.RangeLaws.{state-in, state-back, power-on-in, write-kept, read-kept}
-use Rattle.play_text.specs.declared.Note.the-variants.{Read}
+use Rattle.chip.proofs.RangeLaws.{power-on-in}
+use Rattle.chip_access.specs.Access.{accessState}
 use Rattle.play_model.specs.Sound.{heard, notesFrom, notesOf}
 use Rattle.run_meter.specs.declared.Span.{Span}
 use Rattle.run_meter.specs.Levels.{lowest, highest}
 use Rattle.run_meter.specs.Spans.{spanAt, spanOver, toldOf}
 use Rattle.run_meter.proofs.Answers.{told-is}
 use Rattle.play_meter.specs.declared.Moment.{Moment}
-use Rattle.play_meter.specs.Meters.{levelsOf, actsMeter, refusedAnswer, logMeter, accessedBy}
+use Rattle.play_meter.specs.Meters.{levelsOf, actsMeter, refusedAnswer, logMeter}
 use Rattle.play_meter.specs.Walking.{changed, momentOf, clocksOn, heardBy, accessOn, actOn, foundOn, spanFor, spanOf, Walking}
-use Rattle.play_meter.proofs.HeardLaws.{span-append, levels-heard, levels-waited}
-
--- an access keeps the state in range
-pub write-fine : (r v : ℕ) (s next : State) → v ≤ 255 → inRange s ≡ true → next ≡ registerWritten r v s → (next ≡ accessedBy (bus.Write r v) s) × (inRange next ≡ true)
-unfolding accessedBy
-write-fine r v s next low f e = (e, rw e (state-back _ (write-kept v low s (state-in s f) r)))
-
-pub read-fine : (s next : State) → inRange s ≡ true → next ≡ statusRead s → (next ≡ accessedBy bus.Read s) × (inRange next ≡ true)
-unfolding accessedBy
-read-fine s next f e = (e, rw e (state-back _ (read-kept s (state-in s f))))
+use Rattle.play_meter.proofs.HeardLaws.{span-append, levels-read, levels-heard, levels-waited}
 
 -- the lowest and the highest behind a level that is heard where it differs
 heard-span : (b : Bool) (s : Span) (x : ℕ) (l : List ℕ) → spanOver s (pick b l (x ∷ l)) ≡ spanOver (pick b s (spanOver s (x ∷ []))) l
@@ -73,23 +62,16 @@ module _ (memory : List ℕ) where
       ap (spanOver span) (levels-waited memory n t s (λ t last s. notesFrom memory t last s l))
       ∙ sym (span-append span (changed memory n s) _)
 
-  write-first : (r v : ℕ) (l : List Act) (t : ℕ) (s : State) (span : Span)
-      → spanFor memory (Access (bus.Write r v) ∷ l) t s span
-      ≡ spanFor memory l t (registerWritten r v s) (heardBy span (stateLevel s) (stateLevel (registerWritten r v s)))
+  access-first : (x : busAccess.Access) (l : List Act) (t : ℕ) (s : State) (span : Span)
+      → spanFor memory (Access x ∷ l) t s span ≡ spanFor memory l t (accessState x s) (heardBy span (stateLevel s) (stateLevel (accessState x s)))
   unfolding spanFor notesFrom
-  write-first r v l t s span = access-span t s (registerWritten r v s) span l
-
-  read-first : (l : List Act) (t : ℕ) (s : State) (span : Span)
-      → spanFor memory (Access bus.Read ∷ l) t s span ≡ spanFor memory l t (statusRead s) (heardBy span (stateLevel s) (stateLevel (statusRead s)))
-  unfolding spanFor notesFrom levelsOf
-  read-first l t s span = access-span t s (statusRead s) span l
+  access-first x l t s span = ap (spanOver span) (levels-read x t s _) ∙ access-span t s (accessState x s) span l
 
   first-act : (a : Act) (l : List Act) (t : ℕ) (m : Moment)
       → spanFor memory (a ∷ l) t (m .state) (m .span) ≡ spanFor memory l (t + actClocks a) (actOn memory a m .state) (actOn memory a m .span)
-  unfolding actOn clocksOn accessOn accessedBy actClocks
+  unfolding actOn clocksOn accessOn actClocks
   first-act (Wait n) l t m = wait-first n l t (m .state) (m .span)
-  first-act (Access (bus.Write r v)) l t m = rw add-zero (write-first r v l t (m .state) (m .span))
-  first-act (Access bus.Read) l t m = rw add-zero (read-first l t (m .state) (m .span))
+  first-act (Access x) l t m = rw add-zero (access-first x l t (m .state) (m .span))
 
 -- one step of the walk: it is over with the answer, or the walk goes on
 pub record Onward (log memory : List ℕ) (cursor : Cursor) (m : Moment) (left : ℕ) : Type 0 where

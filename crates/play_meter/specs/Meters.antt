@@ -6,8 +6,6 @@ use mathlib.Core.List.{List, [], _∷_}
 use lib.Dec.{eqb}
 use Rattle.arith.specs.Iterate.{iterate}
 use Rattle.arith.specs.Pick.{pick}
-use Rattle.bus.specs.declared.Access as busAccess
-use Rattle.bus.specs.declared.Access.the-variants as bus
 use Rattle.log_line.specs.declared.Act.{Act}
 use Rattle.log_line.specs.declared.Act.the-variants.{Wait, Access}
 use Rattle.log_judge.specs.Head.{machineOf}
@@ -15,9 +13,8 @@ use Rattle.log_judge.specs.Tree.{acts}
 use Rattle.log_judge.specs.Whole.{treeOf, checkOf}
 use Rattle.chip.specs.Clock.{chipClock}
 use Rattle.chip.specs.Level.{stateLevel}
-use Rattle.chip.specs.Status.{statusRead}
-use Rattle.chip.specs.Write.{registerWritten}
 use Rattle.chip.specs.declared.State.{State}
+use Rattle.chip_access.specs.Access.{accessState}
 use Rattle.chip_api.specs.Answer.{isMemory}
 use Rattle.play_text.specs.declared.Note.{Note}
 use Rattle.play_text.specs.declared.Note.the-variants.{Play, Level, Read, Stop}
@@ -62,13 +59,8 @@ unfoldable pub stretchOf : List ℕ → ℕ → ℕ → State → Stretch
 stretchOf memory n t s =
     record { time = t; clocks = n; meter = measureOf (stateLevel s ∷ levelsOf (waited memory n t (stateLevel s) s (λ t last s. []))) }
 
--- an access
-unfoldable pub accessedBy : busAccess.Access → State → State
-accessedBy (bus.Write r v) s = registerWritten r v s
-accessedBy bus.Read s = statusRead s
-
 -- THE WAITS OF A LOG, in order, from the state s at time t on
 unfoldable pub waitsFrom : List ℕ → List Act → ℕ → State → List Stretch
 waitsFrom memory [] t s = []
 waitsFrom memory (Wait n ∷ l) t s = stretchOf memory n t s ∷ waitsFrom memory l (t + n) (iterate (chipClock memory) n s)
-waitsFrom memory (Access x ∷ l) t s = waitsFrom memory l t (accessedBy x s)
+waitsFrom memory (Access x ∷ l) t s = waitsFrom memory l t (accessState x s)

@@ -15,11 +15,12 @@ use Rattle.machine.specs.Saying.{Said, over, on, says, refused, Turn}
 use Rattle.chip.specs.Clock.{chipClock}
 use Rattle.chip.specs.Range.{inRange, powerOn}
 use Rattle.chip.specs.declared.State.{State}
+use Rattle.chip_access.specs.Access.{accessState}
 use Rattle.chip_api.specs.Answer.{isMemory}
 use Rattle.play_meter.specs.declared.waits.Gauge.{Gauge}
 use Rattle.play_meter.specs.declared.waits.Next.{Next}
 use Rattle.play_meter.specs.declared.waits.Passed.{Passed}
-use Rattle.play_meter.specs.Meters.{Stretch, stretchOf, accessedBy}
+use Rattle.play_meter.specs.Meters.{Stretch, stretchOf}
 
 abbrev pub Go : Type 0
 Go = Turn Gauge Stretch
@@ -39,7 +40,7 @@ gaugeStart log = gaugeOf 0 (powerOn (machineOf log)) beginning
 unfoldable pub actPass : List ℕ → Gauge → Cursor → Act → Go
 actPass memory g c (Wait n) =
     go (says (stretchOf memory n (g .time) (g .state))) (gaugeOf (g .time + n) (iterate (chipClock memory) n (g .state)) c)
-actPass memory g c (Access x) = go on (gaugeOf (g .time) (accessedBy x (g .state)) c)
+actPass memory g c (Access x) = go on (gaugeOf (g .time) (accessState x (g .state)) c)
 
 -- what a step of the cursor found; a line at fault ends the waits
 unfoldable pub foundPass : List ℕ → Gauge → Cursor → Found → Go

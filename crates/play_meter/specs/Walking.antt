@@ -20,11 +20,12 @@ use Rattle.chip.specs.Clock.{chipClock}
 use Rattle.chip.specs.Level.{stateLevel}
 use Rattle.chip.specs.Range.{inRange, powerOn}
 use Rattle.chip.specs.declared.State.{State}
+use Rattle.chip_access.specs.Access.{accessState}
 use Rattle.play_model.specs.Sound.{notesFrom}
 use Rattle.run_meter.specs.declared.Span.{Span}
 use Rattle.run_meter.specs.Spans.{spanAt, spanOver}
 use Rattle.play_meter.specs.declared.Moment.{Moment}
-use Rattle.play_meter.specs.Meters.{levelsOf, accessedBy}
+use Rattle.play_meter.specs.Meters.{levelsOf}
 
 -- the levels after those of n clocks that change it
 unfoldable pub changed : List ℕ → ℕ → State → List ℕ
@@ -46,7 +47,7 @@ heardBy span before after = pick (eqb after before) span (spanOver span (after �
 
 -- an access
 unfoldable pub accessOn : busAccess.Access → Moment → Moment
-accessOn x m = momentOf false (accessedBy x (m .state)) (heardBy (m .span) (stateLevel (m .state)) (stateLevel (accessedBy x (m .state))))
+accessOn x m = momentOf false (accessState x (m .state)) (heardBy (m .span) (stateLevel (m .state)) (stateLevel (accessState x (m .state))))
 
 -- an act
 unfoldable pub actOn : List ℕ → Act → Moment → Moment

@@ -8,7 +8,7 @@ ghost use Rattle.log_judge.specs.Head.{machineOf};
 ghost use Rattle.log_judge.specs.Tree.{acts};
 ghost use Rattle.log_judge.specs.Whole.{treeOf, checkOf};
 ghost use Rattle.play_to.specs.Walking.{portion};
-ghost use Rattle.play_meter.specs.Meters.{actsMeter, refusedAnswer, logMeter, accessedBy};
+ghost use Rattle.play_meter.specs.Meters.{actsMeter, refusedAnswer, logMeter};
 ghost use Rattle.play_meter.specs.Walking.{momentOf, clocksOn, heardBy, accessOn, actOn, foundOn};
 use bus::Access;
 use chip::State;
@@ -85,18 +85,6 @@ fn clocks_on(s: State, span: Span, memory: &[u8], n: u64, words: &mut [u32]) -> 
     moment_of(false, state, heard)
 }
 
-// An access.
-fn accessed(s: State, x: Access) -> State
-    requires { ⌜ inRange s ≡ true ⌝ }
-    ensures { λ r. ⌜ r ≡ accessedBy x s ⌝ }
-    ensures { λ r. ⌜ inRange r ≡ true ⌝ }
-{
-    match x {
-        Access::Write(register, value) => s.written(register, value),
-        Access::Read => s.read(),
-    }
-}
-
 // With the level after an access, where it differs from that before.
 fn heard_by(span: Span, before: u16, after: u16) -> Span
     ensures { λ r. ⌜ r ≡ heardBy span before after ⌝ }
@@ -116,7 +104,8 @@ fn access_on(m: Moment, x: Access) -> Moment
 {
     let s = m.state;
     let span = m.span;
-    let next = accessed(s, x);
+    let a = chip_access::accessed(s, x);
+    let next = a.state;
     moment_of(false, next, heard_by(span, s.level(), next.level()))
 }
 

@@ -4,8 +4,8 @@ ghost use mathlib.Core.Bool.{true};
 ghost use Prim.Native.Nat.{_≤_};
 ghost use lib.ListN.{length};
 ghost use Rattle.chip.specs.Range.{inRange};
+ghost use Rattle.chip_access.specs.Access.{accessState};
 ghost use Rattle.machine.specs.Saying.{over, on};
-ghost use Rattle.play_meter.specs.Meters.{accessedBy};
 ghost use Rattle.play_meter.specs.Passing.{gaugeOf, gaugeStart, go, actPass, foundPass, ready, passOf, passed};
 use bus::Access;
 use chip::State;
@@ -79,11 +79,12 @@ fn pass_wait(g: Gauge, c: Cursor, memory: &[u8], n: u32, words: &mut [u32]) -> P
 
 // An access.
 fn pass_access(g: Gauge, c: Cursor, x: Access) -> Passed
-    requires { ⌜ inRange (g .state) ≡ true ⌝ }
-    ensures { λ r. ⌜ r ≡ passed (go on (gaugeOf (g .time) (accessedBy x (g .state)) c)) ⌝ }
+    ensures { λ r. ⌜ r ≡ passed (go on (gaugeOf (g .time) (accessState x (g .state)) c)) ⌝ }
 {
     let s = g.state;
-    let after = gauge_of(g.time, super::accessed(s, x), c);
+    let a = chip_access::accessed(s, x);
+    let next = a.state;
+    let after = gauge_of(g.time, next, c);
     Passed {
         next: Next::Moved,
         gauge: after,

@@ -20,24 +20,19 @@ use Rattle.log_cursor.specs.Stepping.{beginning, stepOf}
 use Rattle.log_cursor.proofs.Whole.{cursor-gives}
 use Rattle.chip.specs.Level.{stateLevel}
 use Rattle.chip.specs.Range.{powerOn}
-use Rattle.chip.specs.Status.{statusByte, statusRead}
-use Rattle.chip.specs.Write.{registerWritten}
 use Rattle.chip.specs.declared.State.{State}
+use Rattle.chip_access.specs.Access.{accessState, accessByte}
+use Rattle.chip_access.proofs.AccessLaws.{level-read}
 use Rattle.play_text.specs.declared.Note.{Note}
 use Rattle.play_text.specs.declared.Note.the-variants.{Play, Level, Read, Stop}
 use Rattle.play_model.specs.declared.Player.{Player}
-use Rattle.play_model.specs.Sound.{heard, waited, notesFrom, notesOf}
-use Rattle.play_model.specs.Turns.{go, playerOf, freshPlayer, accessed, acted, stepSaid, cursorTurn, phaseTurn, turnOf, Goes}
+use Rattle.play_model.specs.Sound.{heard, waited, readLine, notesFrom, notesOf}
+use Rattle.play_model.specs.Turns.{go, playerOf, freshPlayer, levelTold, acted, stepSaid, cursorTurn, phaseTurn, turnOf, Goes}
 use Rattle.play_model.specs.Stretch.{noteAt}
 use Rattle.play_model.proofs.LevelLaws.{all, waited-all, last-all, done-all}
 use Rattle.play_model.proofs.TellLaws.{Tells, by-rest, by-tell, by-end, goes-tells}
 use Rattle.play_model.proofs.TurnLaws.{turn-cursor, turn-phase}
 use Rattle.play_model.proofs.WaitLaws.{waits}
-
--- a read leaves the level
-level-read : (s : State) → stateLevel (statusRead s) ≡ stateLevel s
-unfolding stateLevel statusRead
-level-read s = refl
 
 heard-same : (t last : ℕ) (s : State) → stateLevel s ≡ last → heard t last s ≡ []
 unfolding heard
@@ -49,12 +44,12 @@ acted-wait : (p : Player) (n : ℕ) (c : Cursor) → acted p (line.Wait n) c ≡
 unfolding acted
 acted-wait p n c = refl
 
-acted-write : (p : Player) (r v : ℕ) (c : Cursor) → acted p (line.Access (bus.Write r v)) c ≡ accessed p (registerWritten r v (p .state)) c
+acted-write : (p : Player) (r v : ℕ) (c : Cursor) → acted p (line.Access (bus.Write r v)) c ≡ levelTold p (accessState (bus.Write r v) (p .state)) c
 unfolding acted
 acted-write p r v c = refl
 
 acted-read : (p : Player) (c : Cursor)
-    → acted p (line.Access bus.Read) c ≡ go (says (Read (p .time) (statusByte (p .state)))) (playerOf 2 0 (p .time) (p .last) (statusRead (p .state)) c)
+    → acted p (line.Access bus.Read) c ≡ go (says (Read (p .time) (accessByte bus.Read (p .state)))) (playerOf 2 0 (p .time) (p .last) (accessState bus.Read (p .state)) c)
 unfolding acted
 acted-read p c = refl
 
@@ -99,9 +94,9 @@ module _ (log memory : List ℕ) where
 
   -- an access that led to the state s
   access-told : (p : Player) (t last : ℕ) (s : State) (c : Cursor) (notes : List Note) (k m : ℕ)
-      → turnOf log memory p ≡ accessed (playerOf 2 0 t last (p .state) (p .cursor)) s c → Told (playerOf 2 0 t (stateLevel s) s c) notes k → k < 4000010 → k < m
+      → turnOf log memory p ≡ levelTold (playerOf 2 0 t last (p .state) (p .cursor)) s c → Told (playerOf 2 0 t (stateLevel s) s c) notes k → k < 4000010 → k < m
       → Told p (heard t last s ++ notes) m
-  unfolding accessed heard
+  unfolding levelTold heard
   access-told p t last s c notes k m turn told low less = by (eqb (stateLevel s) last) refl turn
     where
       by : (z : Bool) → eqb (stateLevel s) last ≡ z
@@ -113,7 +108,7 @@ module _ (log memory : List ℕ) where
   -- the acts that a cursor stands for: at most two turns that say nothing for each of its steps
   acts-told : {c : Cursor} {l : List Act} {f : ℕ} → Gives (stepOf log) c l f → f ≤ 2000002 → (t : ℕ) (s : State) → Every l → t + clocksIn l ≤ 2000000000
       → Told (playerOf 2 0 t (stateLevel s) s c) (notesFrom memory t (stateLevel s) s l) (2 * f)
-  unfolding notesFrom clocksIn actClocks
+  unfolding notesFrom readLine clocksIn actClocks
   acts-told {c = c} (ends f e p) h t s w b =
       by-tell (turnOf log memory) (2 * f) (turn-over t (stateLevel s) s c e) (by-end (turnOf log memory) 0 (turn-end t (stateLevel s) s (stepOf log c .state))) (omega arith)
   acts-told {c = c} (goes {k = k} f e g p) h t s w b =
@@ -123,15 +118,16 @@ module _ (log memory : List ℕ) where
       (wait-told n t s (stepOf log c .state) l (2 * k) (w .0 .0) (w .0 .1) (omega arith) (omega arith) (λ s′. acts-told g (omega arith) (t + n) s′ (w .1) (omega arith)))
       (omega arith)
   acts-told {c = c} (gives {a = line.Access (bus.Write r v)} {l = l} {k = k} f e g p) h t s w b =
-      access-told (playerOf 2 0 t (stateLevel s) s c) t (stateLevel s) (registerWritten r v s) (stepOf log c .state) (notesFrom memory t (stateLevel (registerWritten r v s)) (registerWritten r v s) l) (2 * k) (2 * f)
+      let s′ : State = accessState (bus.Write r v) s in
+      access-told (playerOf 2 0 t (stateLevel s) s c) t (stateLevel s) s′ (stepOf log c .state) (notesFrom memory t (stateLevel s′) s′ l) (2 * k) (2 * f)
       (turn-act t (stateLevel s) s c (line.Access (bus.Write r v)) e ∙ acted-write (playerOf 2 0 t (stateLevel s) s c) r v (stepOf log c .state))
-      (acts-told g (omega arith) t (registerWritten r v s) (w .1) (omega arith)) (omega arith) (omega arith)
+      (acts-told g (omega arith) t s′ (w .1) (omega arith)) (omega arith) (omega arith)
   acts-told {c = c} (gives {a = line.Access bus.Read} {l = l} {k = k} f e g p) h t s w b =
-      let told : Told (playerOf 2 0 t (stateLevel s) (statusRead s) (stepOf log c .state))
-      (heard t (stateLevel s) (statusRead s) ++ notesFrom memory t (stateLevel (statusRead s)) (statusRead s) l) (2 * k) =
-      rw (heard-same t (stateLevel s) (statusRead s) (level-read s))
-      (subst (λ (x : ℕ). Told (playerOf 2 0 t x (statusRead s) (stepOf log c .state)) (notesFrom memory t (stateLevel (statusRead s)) (statusRead s) l) (2 * k)) (level-read s)
-      (acts-told g (omega arith) t (statusRead s) (w .1) (omega arith))) in
+      let s′ : State = accessState bus.Read s in
+      let told : Told (playerOf 2 0 t (stateLevel s) s′ (stepOf log c .state)) (heard t (stateLevel s) s′ ++ notesFrom memory t (stateLevel s′) s′ l) (2 * k) =
+      rw (heard-same t (stateLevel s) s′ (level-read s))
+      (subst (λ (x : ℕ). Told (playerOf 2 0 t x s′ (stepOf log c .state)) (notesFrom memory t (stateLevel s′) s′ l) (2 * k)) (level-read s)
+      (acts-told g (omega arith) t s′ (w .1) (omega arith))) in
       by-tell (turnOf log memory) (2 * f) (turn-act t (stateLevel s) s c (line.Access bus.Read) e ∙ acted-read (playerOf 2 0 t (stateLevel s) s c) (stepOf log c .state)) told (omega arith)
 
   -- the first two lines

@@ -22,7 +22,7 @@ use Rattle.play_text.specs.declared.Note.the-variants.{Play, Level}
 use Rattle.play_text.specs.Notes.{noteText}
 use Rattle.play_text.proofs.TextLaws.{level-size, read-size, stop-size, play-size}
 use Rattle.play_model.specs.declared.Player.{Player}
-use Rattle.play_model.specs.Turns.{Go, go, playerOf, accessed, acted, stepSaid, cursorTurn, waitTurn, phaseTurn, turnOf}
+use Rattle.play_model.specs.Turns.{Go, go, playerOf, levelTold, acted, stepSaid, cursorTurn, waitTurn, phaseTurn, turnOf}
 
 module _ (log memory : List ℕ) (p : Player) where
   pub turn-phase : (p .phase ≡ 2 → ⊥) → turnOf log memory p ≡ phaseTurn p
@@ -52,9 +52,9 @@ Ends (refused k q) = Unit {0}
 abbrev pub Stays : Player → Go → Type 0
 Stays p g = Ends (g .said) → g .state ≡ p
 
-accessed-stays : (p q : Player) (s : State) (c : Cursor) → Stays q (accessed p s c)
-unfolding accessed
-accessed-stays p q s c = by (eqb (stateLevel s) (p .last))
+level-stays : (p q : Player) (s : State) (c : Cursor) → Stays q (levelTold p s c)
+unfolding levelTold
+level-stays p q s c = by (eqb (stateLevel s) (p .last))
   where
     by : (t : Bool) → Stays q (pick t (go on (playerOf 2 0 (p .time) (p .last) s c)) (go (says (Level (p .time) (stateLevel s))) (playerOf 2 0 (p .time) (stateLevel s) s c)))
     by true e = absurd e
@@ -63,7 +63,7 @@ accessed-stays p q s c = by (eqb (stateLevel s) (p .last))
 acted-stays : (p q : Player) (a : Act) (c : Cursor) → Stays q (acted p a c)
 unfolding acted
 acted-stays p q (line.Wait n) c e = absurd e
-acted-stays p q (line.Access (bus.Write r v)) c e = accessed-stays p q _ c e
+acted-stays p q (line.Access (bus.Write r v)) c e = level-stays p q _ c e
 acted-stays p q (line.Access bus.Read) c e = absurd e
 
 step-stays : (p : Player) (x : Said Act) (c : Cursor) → Stays p (stepSaid p x c)
@@ -94,9 +94,9 @@ Short on = Unit {0}
 Short (says n) = length (noteText n) ≤ 23
 Short (refused k q) = Unit {0}
 
-accessed-short : (p : Player) (s : State) (c : Cursor) → Short (accessed p s c .said)
-unfolding accessed
-accessed-short p s c = by (eqb (stateLevel s) (p .last))
+level-short : (p : Player) (s : State) (c : Cursor) → Short (levelTold p s c .said)
+unfolding levelTold
+level-short p s c = by (eqb (stateLevel s) (p .last))
   where
     by : (t : Bool) → Short (pick t (go on (playerOf 2 0 (p .time) (p .last) s c)) (go (says (Level (p .time) (stateLevel s))) (playerOf 2 0 (p .time) (stateLevel s) s c)) .said)
     by true = tt
@@ -105,7 +105,7 @@ accessed-short p s c = by (eqb (stateLevel s) (p .last))
 acted-short : (p : Player) (a : Act) (c : Cursor) → Short (acted p a c .said)
 unfolding acted
 acted-short p (line.Wait n) c = tt
-acted-short p (line.Access (bus.Write r v)) c = accessed-short p _ c
+acted-short p (line.Access (bus.Write r v)) c = level-short p _ c
 acted-short p (line.Access bus.Read) c = read-size (p .time) _
 
 step-short : (p : Player) (x : Said Act) (c : Cursor) → Short (stepSaid p x c .said)

@@ -4,15 +4,15 @@ use mathlib.Core.Bool.{Bool}
 use mathlib.Core.List.{List, [], _∷_, _++_}
 use lib.Dec.{eqb}
 use Rattle.arith.specs.Pick.{pick}
+use Rattle.bus.specs.declared.Access as busAccess
 use Rattle.bus.specs.declared.Access.the-variants as bus
 use Rattle.log_line.specs.declared.Act.{Act}
 use Rattle.log_line.specs.declared.Act.the-variants.{Wait, Access}
 use Rattle.chip.specs.Clock.{chipClock}
 use Rattle.chip.specs.Level.{stateLevel}
 use Rattle.chip.specs.Range.{powerOn}
-use Rattle.chip.specs.Status.{statusByte, statusRead}
-use Rattle.chip.specs.Write.{registerWritten}
 use Rattle.chip.specs.declared.State.{State}
+use Rattle.chip_access.specs.Access.{accessState, accessByte}
 use Rattle.play_text.specs.declared.Note.{Note}
 use Rattle.play_text.specs.declared.Note.the-variants.{Play, Level, Read, Stop}
 
@@ -26,14 +26,17 @@ waited memory zero t last s rest = rest t last s
 waited memory (suc n) t last s rest =
     heard (t + 1) last (chipClock memory s) ++ waited memory n (t + 1) (stateLevel (chipClock memory s)) (chipClock memory s) rest
 
+-- `read=10:00`: a read brings a line with the byte read, a write none
+unfoldable pub readLine : busAccess.Access → ℕ → State → List Note
+readLine (bus.Write r v) t s = []
+readLine bus.Read t s = Read t (accessByte bus.Read s) ∷ []
+
 -- the acts from time t on, in log order: "An access stamped t acts on the state after exactly t clocks, before clock t+1."
 unfoldable pub notesFrom : List ℕ → ℕ → ℕ → State → List Act → List Note
 notesFrom memory t last s [] = Stop t ∷ []
 notesFrom memory t last s (Wait n ∷ acts) = waited memory n t last s (λ t last s. notesFrom memory t last s acts)
-notesFrom memory t last s (Access (bus.Write r v) ∷ acts) =
-    heard t last (registerWritten r v s) ++ notesFrom memory t (stateLevel (registerWritten r v s)) (registerWritten r v s) acts
-notesFrom memory t last s (Access bus.Read ∷ acts) =
-    Read t (statusByte s) ∷ (heard t last (statusRead s) ++ notesFrom memory t (stateLevel (statusRead s)) (statusRead s) acts)
+notesFrom memory t last s (Access x ∷ acts) =
+    readLine x t s ++ (heard t last (accessState x s) ++ notesFrom memory t (stateLevel (accessState x s)) (accessState x s) acts)
 
 -- `play=1`, the first level at 0, and then what the acts bring, from power-on of the machine (true is PAL)
 unfoldable pub notesOf : Bool → List ℕ → List Act → List Note

@@ -16,9 +16,8 @@ use Rattle.machine.specs.Reading.{Mark, Progress, plain}
 use Rattle.run_answer.specs.Run.{chipMachine}
 use Rattle.chip.specs.Level.{stateLevel}
 use Rattle.chip.specs.Range.{powerOn}
-use Rattle.chip.specs.Status.{statusByte, statusRead}
-use Rattle.chip.specs.Write.{registerWritten}
 use Rattle.chip.specs.declared.State.{State}
+use Rattle.chip_access.specs.Access.{accessState, accessByte}
 use Rattle.play_text.specs.declared.Note.{Note}
 use Rattle.play_text.specs.declared.Note.the-variants.{Play, Level, Read, Stop}
 use Rattle.play_model.specs.declared.Player.{Player}
@@ -42,17 +41,17 @@ unfoldable pub endedPlayer : Player
 endedPlayer = playerOf 3 0 0 0 (powerOn false) beginning
 
 -- behind an access that led to the state s: a line where the level is other than the last written
-unfoldable pub accessed : Player → State → Cursor → Go
-accessed p s c =
+unfoldable pub levelTold : Player → State → Cursor → Go
+levelTold p s c =
     pick (eqb (stateLevel s) (p .last)) (go on (playerOf 2 0 (p .time) (p .last) s c))
     (go (says (Level (p .time) (stateLevel s))) (playerOf 2 0 (p .time) (stateLevel s) s c))
 
 -- an act of the log (a read leaves the level)
 unfoldable pub acted : Player → Act → Cursor → Go
 acted p (line.Wait n) c = go on (playerOf 2 n (p .time) (p .last) (p .state) c)
-acted p (line.Access (bus.Write r v)) c = accessed p (registerWritten r v (p .state)) c
+acted p (line.Access (bus.Write r v)) c = levelTold p (accessState (bus.Write r v) (p .state)) c
 acted p (line.Access bus.Read) c =
-    go (says (Read (p .time) (statusByte (p .state)))) (playerOf 2 0 (p .time) (p .last) (statusRead (p .state)) c)
+    go (says (Read (p .time) (accessByte bus.Read (p .state)))) (playerOf 2 0 (p .time) (p .last) (accessState bus.Read (p .state)) c)
 
 -- what a step of the cursor says: at the log's end `stop=T`; a line at fault is refused, and the player stays
 unfoldable pub stepSaid : Player → Said Act → Cursor → Go

@@ -10,7 +10,6 @@ use lib.ListN.{length}
 use borrow.Author.Tests.{lt-ltb, le-ltb, ltb-true, ltb-false}
 use Rattle.arith.specs.Iterate.{iterate}
 use Rattle.arith.specs.Pick.{pick}
-use Rattle.bus.specs.declared.Access.the-variants as bus
 use Rattle.log_line.specs.declared.Act.{Act}
 use Rattle.log_line.specs.declared.Act.the-variants.{Wait, Access}
 use Rattle.log_judge.specs.Head.{machineOf}
@@ -20,12 +19,11 @@ use Rattle.log_passing.proofs.ActLaws.{clocksIn, clocks-listed}
 use Rattle.chip.specs.Clock.{chipClock}
 use Rattle.chip.specs.Level.{stateLevel}
 use Rattle.chip.specs.Range.{powerOn}
-use Rattle.chip.specs.Status.{statusByte, statusRead}
-use Rattle.chip.specs.Write.{registerWritten}
 use Rattle.chip.specs.declared.State.{State}
+use Rattle.chip_access.specs.Access.{accessState}
 use Rattle.play_text.specs.declared.Note.{Note}
-use Rattle.play_text.specs.declared.Note.the-variants.{Play, Level, Read}
-use Rattle.play_model.specs.Sound.{heard, waited, notesFrom, notesOf}
+use Rattle.play_text.specs.declared.Note.the-variants.{Play, Level}
+use Rattle.play_model.specs.Sound.{heard, waited, readLine, notesFrom, notesOf}
 use Rattle.play_to.specs.declared.At.{At}
 use Rattle.play_to.specs.Reached.{atOf, reached, stateAt}
 use Rattle.play_to.proofs.WalkLaws.{at-is}
@@ -43,8 +41,7 @@ module _ (memory : List ℕ) (c : ℕ) where
           ≡ pick (ltb c (t + (n + clocksIn l))) c (t + (n + clocksIn l))
       by true e ih = rw (lt-ltb c (t + (n + clocksIn l)) (let i = ltb-true c (t + n) e in omega arith))
       by false e ih = ih (ltb-false c (t + n) e) ∙ rw add-assoc refl
-  reached-clock (Access (bus.Write r v) ∷ l) t s h = rw zero-add (reached-clock l t (registerWritten r v s) h)
-  reached-clock (Access bus.Read ∷ l) t s h = rw zero-add (reached-clock l t (statusRead s) h)
+  reached-clock (Access x ∷ l) t s h = rw zero-add (reached-clock l t (accessState x s) h)
 
   -- a wait in two parts
   waited-cut : (a b t : ℕ) (s : State) (rest : ℕ → ℕ → State → List Note)
@@ -110,9 +107,7 @@ module _ (memory : List ℕ) (c : ℕ) where
             split = ap (λ (k : ℕ). waited memory k t (stateLevel s) s on) parts ∙ (waited-cut (c - t) (t + n - c) t s on ∙ rw now refl);
           }
       by false e ih = rw (waited-whole n t s on) (more (waited memory n t (stateLevel s) s (λ t last s. [])) (ih (ltb-false c (t + n) e)))
-  passes (Access (bus.Write r v) ∷ l) t s h = more (heard t (stateLevel s) (registerWritten r v s)) (passes l t (registerWritten r v s) h)
-  passes (Access bus.Read ∷ l) t s h =
-      more (Read t (statusByte s) ∷ heard t (stateLevel s) (statusRead s)) (passes l t (statusRead s) h)
+  passes (Access x ∷ l) t s h = more (readLine x t s) (more (heard t (stateLevel s) (accessState x s)) (passes l t (accessState x s) h))
 
 -- of a log that passes, with a sample memory of its length
 module _ (log memory : List ℕ) (c : ℕ) (long : length memory ≡ 32768) (fine : checkOf log .number ≡ 0) where

@@ -9,7 +9,7 @@ use lib.ListN.{length}
 use borrow.Author.Tests.{lt-ltb, le-ltb, eq-eqb, ne-eqb}
 use Rattle.arith.specs.Iterate.{iterate}
 use Rattle.arith.specs.Pick.{pick}
-use Rattle.bus.specs.declared.Access.the-variants as bus
+use Rattle.bus.specs.declared.Access as busAccess
 use Rattle.log_line.specs.declared.Act.{Act}
 use Rattle.log_line.specs.declared.Act.the-variants.{Wait, Access}
 use Rattle.log_judge.specs.Head.{machineOf}
@@ -25,9 +25,9 @@ use Rattle.machine.proofs.SayingLaws.{within}
 use Rattle.chip.specs.Clock.{chipClock}
 use Rattle.chip.specs.Range.{inRange, powerOn}
 use Rattle.chip.specs.declared.State.{State}
-use Rattle.chip.specs.Status.{statusRead}
-use Rattle.chip.specs.Write.{registerWritten}
-use Rattle.chip.proofs.RangeLaws.{state-in, state-back, power-on-in, write-kept, read-kept}
+use Rattle.chip.proofs.RangeLaws.{power-on-in}
+use Rattle.chip_access.specs.Access.{accessed}
+use Rattle.chip_access.specs.declared.Outcome.{Outcome}
 use Rattle.play_to.specs.declared.At.{At}
 use Rattle.play_to.specs.declared.Moment.{Moment}
 use Rattle.play_to.specs.Reached.{atOf, refusedAt, reached, stateAt}
@@ -57,15 +57,10 @@ whole-fine memory c n w m next s e f l is r en =
     (en ∙ (ap (momentOf false (m .time + w)) is ∙ rw e (wait-whole memory c n m h (rw e at l))), rw en (record { early = omega arith; ranged = r }))
 
 -- an access keeps the time, and the state in range
-pub write-fine : (c r v : ℕ) (m next : Moment) → v ≤ 255 → Fine c m → next ≡ momentOf false (m .time) (registerWritten r v (m .state))
-    → (next ≡ accessTo (bus.Write r v) m) × Fine c next
+pub access-fine : (c : ℕ) (x : busAccess.Access) (m next : Moment) (a : Outcome) → Fine c m → a ≡ accessed x (m .state) → (inRange (m .state) ≡ true → inRange (a .state) ≡ true)
+    → next ≡ momentOf false (m .time) (a .state) → (next ≡ accessTo x m) × Fine c next
 unfolding accessTo
-write-fine c r v m next low f e =
-    (e, rw e (record { early = f .early; ranged = state-back _ (write-kept v low (m .state) (state-in (m .state) (f .ranged)) r) }))
-
-pub read-fine : (c : ℕ) (m next : Moment) → Fine c m → next ≡ momentOf false (m .time) (statusRead (m .state)) → (next ≡ accessTo bus.Read m) × Fine c next
-unfolding accessTo
-read-fine c m next f e = (e, rw e (record { early = f .early; ranged = state-back _ (read-kept (m .state) (state-in (m .state) (f .ranged))) }))
+access-fine c x m next a f is kept e = (e ∙ rw is refl, rw e (record { early = f .early; ranged = kept (f .ranged) }))
 
 -- an act first, and then the others, unless the clock is reached
 module _ (memory : List ℕ) (c : ℕ) where
@@ -86,8 +81,7 @@ module _ (memory : List ℕ) (c : ℕ) where
           ≡ pick (pick t cut whole .over) (atOf (pick t cut whole .time) (pick t cut whole .state)) (reached memory c l (pick t cut whole .time) (pick t cut whole .state))
       by true = refl
       by false = refl
-  first-act (Access (bus.Write r v)) l m = refl
-  first-act (Access bus.Read) l m = refl
+  first-act (Access x) l m = refl
 
 -- one step of the walk: it is over with the answer, or the walk goes on
 pub record Onward (log memory : List ℕ) (c : ℕ) (cursor : Cursor) (m : Moment) (left : ℕ) : Type 0 where

@@ -5,7 +5,6 @@ use mathlib.Core.List.{List, [], _∷_}
 use lib.Dec.{eqb, ltb}
 use Rattle.arith.specs.Iterate.{iterate}
 use Rattle.arith.specs.Pick.{pick}
-use Rattle.bus.specs.declared.Access.the-variants as bus
 use Rattle.log_line.specs.declared.Act.{Act}
 use Rattle.log_line.specs.declared.Act.the-variants.{Wait, Access}
 use Rattle.log_judge.specs.Head.{machineOf}
@@ -13,9 +12,8 @@ use Rattle.log_judge.specs.Tree.{acts}
 use Rattle.log_judge.specs.Whole.{treeOf, checkOf}
 use Rattle.chip.specs.Clock.{chipClock}
 use Rattle.chip.specs.Range.{powerOn}
-use Rattle.chip.specs.Status.{statusRead}
-use Rattle.chip.specs.Write.{registerWritten}
 use Rattle.chip.specs.declared.State.{State}
+use Rattle.chip_access.specs.Access.{accessState}
 use Rattle.chip_api.specs.Answer.{isMemory}
 use Rattle.play_to.specs.declared.At.{At}
 
@@ -34,8 +32,7 @@ reached memory c [] t s = atOf t s
 reached memory c (Wait n ∷ l) t s =
     pick (ltb c (t + n)) (atOf c (iterate (chipClock memory) (c - t) s))
     (reached memory c l (t + n) (iterate (chipClock memory) n s))
-reached memory c (Access (bus.Write r v) ∷ l) t s = reached memory c l t (registerWritten r v s)
-reached memory c (Access bus.Read ∷ l) t s = reached memory c l t (statusRead s)
+reached memory c (Access x ∷ l) t s = reached memory c l t (accessState x s)
 
 -- THE STATE AT A CLOCK OF A LOG, from power-on of its machine. 1: "sample memory isn't 32,768 bytes", at 0; then the log's own refusals
 unfoldable pub stateAt : List ℕ → List ℕ → ℕ → At

@@ -7,7 +7,6 @@ use lib.Dec.{ltb}
 use Rattle.arith.specs.Iterate.{iterate}
 use Rattle.arith.specs.Pick.{pick}
 use Rattle.bus.specs.declared.Access as busAccess
-use Rattle.bus.specs.declared.Access.the-variants as bus
 use Rattle.log_line.specs.declared.Act.{Act}
 use Rattle.log_line.specs.declared.Act.the-variants.{Wait, Access}
 use Rattle.log_judge.specs.Head.{machineOf}
@@ -19,9 +18,8 @@ use Rattle.log_cursor.specs.Stepping.{stepOf}
 use Rattle.machine.specs.Saying.{Gives}
 use Rattle.chip.specs.Clock.{chipClock}
 use Rattle.chip.specs.Range.{inRange, powerOn}
-use Rattle.chip.specs.Status.{statusRead}
-use Rattle.chip.specs.Write.{registerWritten}
 use Rattle.chip.specs.declared.State.{State}
+use Rattle.chip_access.specs.Access.{accessState}
 use Rattle.play_to.specs.declared.Moment.{Moment}
 use Rattle.play_to.specs.Reached.{reached}
 
@@ -40,8 +38,7 @@ waitTo memory c n m =
 
 -- an access
 unfoldable pub accessTo : busAccess.Access → Moment → Moment
-accessTo (bus.Write r v) m = momentOf false (m .time) (registerWritten r v (m .state))
-accessTo bus.Read m = momentOf false (m .time) (statusRead (m .state))
+accessTo x m = momentOf false (m .time) (accessState x (m .state))
 
 -- an act
 unfoldable pub actTo : List ℕ → ℕ → Act → Moment → Moment

@@ -112,36 +112,16 @@ fn wait_to(m: Moment, memory: &[u8], clock: u64, n: u32, words: &mut [u32]) -> M
     moment_of(false, m.time + wait, next)
 }
 
-// A register written.
-fn write_on(m: Moment, clock: u64, register: u16, value: u8) -> Moment
-    requires { ⌜ Fine clock m ⌝ }
-    ensures { λ r. ⌜ r ≡ accessTo (Access.Write register value) m ⌝ }
-    ensures { λ r. ⌜ Fine clock r ⌝ }
-{
-    let s = m.state;
-    moment_of(false, m.time, s.written(register, value))
-}
-
-// A status read.
-fn read_on(m: Moment, clock: u64) -> Moment
-    requires { ⌜ Fine clock m ⌝ }
-    ensures { λ r. ⌜ r ≡ accessTo Access.Read m ⌝ }
-    ensures { λ r. ⌜ Fine clock r ⌝ }
-{
-    let s = m.state;
-    moment_of(false, m.time, s.read())
-}
-
 // An access of the log.
 fn access_on(m: Moment, clock: u64, x: Access) -> Moment
     requires { ⌜ Fine clock m ⌝ }
     ensures { λ r. ⌜ r ≡ accessTo x m ⌝ }
     ensures { λ r. ⌜ Fine clock r ⌝ }
 {
-    match x {
-        Access::Write(register, value) => write_on(m, clock, register, value),
-        Access::Read => read_on(m, clock),
-    }
+    let s = m.state;
+    let a = chip_access::accessed(s, x);
+    let next = a.state;
+    moment_of(false, m.time, next)
 }
 
 // An act of the log.

@@ -1,6 +1,6 @@
 -- What a turn keeps. Assumes nothing.
-use Prim.Native.Nat.{ℕ, _≤_}
-use mathlib.Core.Path.{_≡_, refl}
+use Prim.Native.Nat.{ℕ}
+use mathlib.Core.Path.{_≡_, refl, _∙_}
 use mathlib.Core.Bool.{Bool, true, false}
 use lib.Dec.{eqb}
 use Rattle.arith.specs.Pick.{pick}
@@ -11,12 +11,13 @@ use Rattle.machine.specs.Saying.{Said, over, on, says, refused}
 use Rattle.log_cursor.specs.declared.Cursor.{Cursor}
 use Rattle.log_cursor.specs.Stepping.{told}
 use Rattle.chip.specs.Level.{stateLevel}
-use Rattle.chip.specs.Write.{registerWritten}
+use Rattle.chip.specs.Range.{inRange}
 use Rattle.chip.specs.declared.State.{State}
-use Rattle.chip.proofs.RangeLaws.{state-in, state-back, write-kept}
-use Rattle.play_text.specs.declared.Note.the-variants.{Level}
+use Rattle.chip_access.specs.Access.{accessed}
+use Rattle.chip_access.specs.declared.Outcome.{Outcome}
+use Rattle.play_text.specs.declared.Note.the-variants.{Level, Read}
 use Rattle.play_model.specs.declared.Player.{Player}
-use Rattle.play_model.specs.Turns.{go, playerOf, accessed, acted}
+use Rattle.play_model.specs.Turns.{go, playerOf, levelTold, acted}
 use Rattle.play_turn.specs.declared.Went.{Went}
 use Rattle.play_turn.specs.Turned.{went, foundSaid, Keeps}
 
@@ -26,17 +27,22 @@ found-back on = refl
 found-back (says a) = refl
 found-back (refused k p) = refl
 
-accessed-state : (p : Player) (s : State) (c : Cursor) → accessed p s c .state .state ≡ s
-unfolding accessed
-accessed-state p s c = by (eqb (stateLevel s) (p .last))
+level-state : (p : Player) (s : State) (c : Cursor) → levelTold p s c .state .state ≡ s
+unfolding levelTold
+level-state p s c = by (eqb (stateLevel s) (p .last))
   where
     by : (t : Bool) → pick t (go on (playerOf 2 0 (p .time) (p .last) s c)) (go (says (Level (p .time) (stateLevel s))) (playerOf 2 0 (p .time) (stateLevel s) s c)) .state .state ≡ s
     by true = refl
     by false = refl
 
--- a register written
-pub write-both : (p : Player) (r v : ℕ) (c : Cursor) (w : Went) → v ≤ 255 → w ≡ went (accessed p (registerWritten r v (p .state)) c)
-    → (w ≡ went (acted p (line.Access (bus.Write r v)) c)) × Keeps p w
-unfolding acted
-write-both p r v c w h e =
-    (e, λ f. rw (e, accessed-state p (registerWritten r v (p .state)) c) (state-back _ (write-kept v h (p .state) (state-in (p .state) f) r)))
+-- an access with what is told behind it: a register written
+module _ (p : Player) (c : Cursor) (w : Went) (a : Outcome) (kept : inRange (p .state) ≡ true → inRange (a .state) ≡ true) where
+  pub write-both : (r v : ℕ) → a ≡ accessed (bus.Write r v) (p .state) → w ≡ went (levelTold p (a .state) c) → (w ≡ went (acted p (line.Access (bus.Write r v)) c)) × Keeps p w
+  unfolding acted
+  write-both r v e f = (f ∙ rw e refl, λ h. rw (f, level-state p (a .state) c) (kept h))
+
+  -- the status read
+  pub read-both : a ≡ accessed bus.Read (p .state) → w ≡ went (go (says (Read (p .time) (a .byte))) (playerOf 2 0 (p .time) (p .last) (a .state) c))
+      → (w ≡ went (acted p (line.Access bus.Read) c)) × Keeps p w
+  unfolding acted
+  read-both e f = (f ∙ rw e refl, λ h. rw f (kept h))

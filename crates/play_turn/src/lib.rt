@@ -2,7 +2,8 @@
 ghost use mathlib.Core.Path.{_≡_};
 ghost use lib.Dec.{eqb};
 ghost use Rattle.arith.specs.Pick.{pick};
-ghost use Rattle.play_model.specs.Turns.{playerOf, freshPlayer, endedPlayer, accessed, acted, stepSaid, cursorTurn, phaseTurn};
+ghost use Rattle.machine.specs.Saying.{says};
+ghost use Rattle.play_model.specs.Turns.{playerOf, freshPlayer, endedPlayer, go, levelTold, acted, stepSaid, cursorTurn, phaseTurn};
 ghost use Rattle.play_turn.specs.Turned.{went, foundSaid, Keeps};
 use bus::Access;
 use chip::State;
@@ -60,7 +61,7 @@ pub fn first(passes: bool, pal: bool) -> Player
 
 // Behind an access that led to the state s.
 fn heard_at(p: Player, s: State, c: Cursor) -> Went
-    ensures { λ r. ⌜ r ≡ went (accessed p s c) ⌝ }
+    ensures { λ r. ⌜ r ≡ went (levelTold p s c) ⌝ }
 {
     let level = s.level();
     if level == p.last {
@@ -89,14 +90,10 @@ fn heard_at(p: Player, s: State, c: Cursor) -> Went
     }
 }
 
-// A status read.
-fn status_read(p: Player, c: Cursor) -> Went
-    ensures { λ r. ⌜ r ≡ went (acted p (Act.Access Access.Read) c) ⌝ }
-    ensures { λ r. ⌜ Keeps p r ⌝ }
+// Behind a read of a byte that led to the state s, which leaves the level.
+fn read_at(p: Player, byte: u8, s: State, c: Cursor) -> Went
+    ensures { λ r. ⌜ r ≡ went (go (says (Note.Read (p .time) byte)) (playerOf 2 0 (p .time) (p .last) s c)) ⌝ }
 {
-    let s = p.state;
-    let byte = s.status();
-    let next = s.read();
     Went {
         told: Told::Says(Note::Read(p.time, byte)),
         player: Player {
@@ -104,19 +101,10 @@ fn status_read(p: Player, c: Cursor) -> Went
             wait: 0,
             time: p.time,
             last: p.last,
-            state: next,
+            state: s,
             cursor: c,
         },
     }
-}
-
-// A register written.
-fn write_at(p: Player, r: u16, v: u8, c: Cursor) -> Went
-    ensures { λ w. ⌜ w ≡ went (acted p (Act.Access (Access.Write r v)) c) ⌝ }
-    ensures { λ w. ⌜ Keeps p w ⌝ }
-{
-    let s = p.state;
-    heard_at(p, s.written(r, v), c)
 }
 
 // An access of the log.
@@ -124,9 +112,12 @@ fn at_access(p: Player, x: Access, c: Cursor) -> Went
     ensures { λ r. ⌜ r ≡ went (acted p (Act.Access x) c) ⌝ }
     ensures { λ r. ⌜ Keeps p r ⌝ }
 {
+    let s = p.state;
+    let a = chip_access::accessed(s, x);
+    let next = a.state;
     match x {
-        Access::Write(r, v) => write_at(p, r, v, c),
-        Access::Read => status_read(p, c),
+        Access::Write(_, _) => heard_at(p, next, c),
+        Access::Read => read_at(p, a.byte, next, c),
     }
 }
 

@@ -3,9 +3,6 @@ use Rattle.play_meter.specs.Passing.{actPass}
 use Rattle.play_meter.proofs.waits.pass_act.Statement.{statement}
 use Rattle.play_meter.proofs.waits.pass_act.Tie as tie
 
-pass-access-requires : tie.Need-pass-access-requires
-pass-access-requires c κs = c .before .before .before .before .before .pre .0 .1
-
 returns : tie.Need-returns
 returns c = rw (c .before .before .before .before .before .a .given .1) (c .before .before .pass-wait .ensures)
 
@@ -20,7 +17,7 @@ pass-act-spec =
     (λ c. search needs)
     (λ c κs. search needs)
     (λ c. search needs)
-    pass-access-requires
+    (λ c κs. tt)
     (λ c. search needs)
     returns
     returns-2)
