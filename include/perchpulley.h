@@ -40,7 +40,7 @@
 extern "C" {
 #endif
 
-#define PERCH_VERSION 4            /* of this header; perch_version() is the library's */
+#define PERCH_VERSION 5            /* of this header; perch_version() is the library's */
 #define PERCH_STATE_SIZE 91        /* bytes of a state; perch_state_size() at run time */
 #define PERCH_MEMORY_SIZE 32768    /* bytes of sample memory, $8000 to $FFFF */
 #define PERCH_MOST_CLOCKS 1000000  /* clocks that one run may be asked for */
@@ -105,11 +105,13 @@ uint64_t perch_power_on(uint8_t *state, size_t n, uint8_t machine);
 /* Value 1 where the bytes are a state in range, else 0. It refuses nothing. */
 uint64_t perch_in_range(const uint8_t *state, size_t n);
 
-/* Writes a value to a register. Refused: 2, 4. */
-uint64_t perch_write(uint8_t *state, size_t n, uint16_t reg, uint8_t value);
-
-/* Reads $4015, which clears the frame flag; the value is the byte read. Refused: 2. */
-uint64_t perch_read_status(uint8_t *state, size_t n);
+/* One bus access. Where read is 0 it writes the value to the register; else it reads $4015, which clears the frame flag,
+ * and register and value are ignored. The answer is number + 2^8 x the byte read (0 for a write) + 2^16 x the level after
+ * + 2^32 x whether the level differs from before (1 or 0). Refused: 2; a write also 4. */
+uint64_t perch_access(uint8_t *state, size_t n, uint8_t read, uint16_t reg, uint8_t value);
+#define PERCH_BYTE(answer) ((uint8_t)((answer) >> 8 & 0xff))
+#define PERCH_LEVEL_AFTER(answer) ((uint16_t)((answer) >> 16 & 0xffff))
+#define PERCH_DIFFERS(answer) ((unsigned)((uint64_t)(answer) >> 32 & 1))
 
 /* Value 1 where the interrupt line is asserted. Refused: 2. */
 uint64_t perch_interrupt_line(const uint8_t *state, size_t n);

@@ -20,8 +20,7 @@ enum { MOST_BUILDS = 8, MOST_ACTS = 4000000, WORDS = 32768 };
 struct build {
     const char *name;
     uint64_t (*power_on)(uint8_t *, size_t, uint8_t);
-    uint64_t (*write)(uint8_t *, size_t, uint16_t, uint8_t);
-    uint64_t (*read_status)(uint8_t *, size_t);
+    uint64_t (*access)(uint8_t *, size_t, uint8_t, uint16_t, uint8_t);
     uint64_t (*run)(uint8_t *, size_t, const uint8_t *, size_t, uint64_t, uint32_t *, size_t);
     size_t size;
 };
@@ -76,8 +75,7 @@ static struct build loaded(const char *name)
     }
     b.name = name;
     *(void **)&b.power_on = found(build, "perch_power_on");
-    *(void **)&b.write = found(build, "perch_write");
-    *(void **)&b.read_status = found(build, "perch_read_status");
+    *(void **)&b.access = found(build, "perch_access");
     *(void **)&b.run = found(build, "perch_run");
     b.size = ((size_t(*)(void))found(build, "perch_state_size"))();
     return b;
@@ -110,9 +108,9 @@ static struct played play(const struct build *b, const struct scene *s)
         if (s->acts[i].kind == PERCH_WAIT)
             wait(b, state, held, &p);
         else if (s->acts[i].kind == PERCH_WRITE)
-            b->write(state, b->size, (uint16_t)(held >> 8), (uint8_t)held);
+            b->access(state, b->size, 0, (uint16_t)(held >> 8), (uint8_t)held);
         else
-            p.sum += PERCH_VALUE(b->read_status(state, b->size));
+            p.sum += PERCH_BYTE(b->access(state, b->size, 1, 0, 0));
     }
     return p;
 }

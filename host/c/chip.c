@@ -26,17 +26,27 @@ int main(void)
     expect("in range", perch_in_range(state, sizeof state), 256);
     expect("level at power-on", PERCH_VALUE(perch_level(state, sizeof state)), 8074);
 
+    /* An access gives the byte read, the level after, and whether it differs from before. */
+    answer = perch_access(state, sizeof state, 0, 0x4011, 0x40);
+    expect("the level after a write", PERCH_LEVEL_AFTER(answer), 16620);
+    expect("it differs", PERCH_DIFFERS(answer), 1);
+    answer = perch_access(state, sizeof state, 1, 0, 0);
+    expect("the byte read", PERCH_BYTE(answer), 0x00);
+    expect("the level after a read", PERCH_LEVEL_AFTER(answer), 16620);
+    expect("it doesn't differ", PERCH_DIFFERS(answer), 0);
+    perch_access(state, sizeof state, 0, 0x4011, 0x00);
+
     /* A triangle of the shortest period: a record for each clock, but where the shape turns. */
-    perch_write(state, sizeof state, 0x4015, 0x04);
-    perch_write(state, sizeof state, 0x4008, 0xff);
-    perch_write(state, sizeof state, 0x400b, 0x00);
-    perch_write(state, sizeof state, 0x4017, 0x80);
+    perch_access(state, sizeof state, 0, 0x4015, 0x04);
+    perch_access(state, sizeof state, 0, 0x4008, 0xff);
+    perch_access(state, sizeof state, 0, 0x400b, 0x00);
+    perch_access(state, sizeof state, 0, 0x4017, 0x80);
     answer = perch_run(state, sizeof state, memory, sizeof memory, 1000, words, 65);
     expect("number", PERCH_NUMBER(answer), PERCH_DONE);
     expect("clocks done", PERCH_CLOCKS(answer), 34);
     expect("records", PERCH_RECORDS(answer), 32);
     expect("the last record's clock", words[62], 34);
-    expect("status", PERCH_VALUE(perch_read_status(state, sizeof state)), 0x04);
+    expect("status", PERCH_BYTE(perch_access(state, sizeof state, 1, 0, 0)), 0x04);
     expect("line", perch_interrupt_line(state, sizeof state), 0);
     expect("one clock", perch_clock(state, sizeof state, memory, sizeof memory), PERCH_DONE);
     expect("plain", perch_run_plain(state, sizeof state, memory, sizeof memory, 0, words, 0), PERCH_DONE);
@@ -47,10 +57,10 @@ int main(void)
     perch_power_on(state, sizeof state, PERCH_NTSC);
     perch_run(state, sizeof state, memory, sizeof memory, 30000, words, 0);
     expect("the frame flag asserts the line", PERCH_VALUE(perch_interrupt_line(state, sizeof state)), 1);
-    perch_write(state, sizeof state, 0x4017, 0x40);
+    perch_access(state, sizeof state, 0, 0x4017, 0x40);
     expect("cleared by bit 6", PERCH_VALUE(perch_interrupt_line(state, sizeof state)), 0);
     perch_run(state, sizeof state, memory, sizeof memory, 30000, words, 0);
-    expect("not set while disabled", PERCH_VALUE(perch_read_status(state, sizeof state)), 0x00);
+    expect("not set while disabled", PERCH_BYTE(perch_access(state, sizeof state, 1, 0, 0)), 0x00);
 
     /* A PAL frame is longer: the flag is set after 33253 clocks. */
     expect("PAL", perch_power_on(state, sizeof state, PERCH_PAL), PERCH_DONE);
@@ -65,7 +75,7 @@ int main(void)
     expect("memory", perch_run(state, sizeof state, memory, 5, 2000000, words, 65), PERCH_REFUSED_MEMORY);
     expect("state", perch_run(state, 5, memory, sizeof memory, 2000000, words, 65), PERCH_REFUSED_STATE);
     expect("clocks", perch_run(state, sizeof state, memory, sizeof memory, 2000000, words, 65), PERCH_REFUSED_CLOCKS);
-    expect("register", perch_write(state, sizeof state, 0x4014, 0), PERCH_REFUSED_REGISTER);
+    expect("register", perch_access(state, sizeof state, 0, 0x4014, 0), PERCH_REFUSED_REGISTER);
     expect("no machine", perch_power_on(state, sizeof state, 2), PERCH_REFUSED_STATE);
     expect("kept", (uint64_t)memcmp(kept, state, sizeof state), 0);
     puts(wrong ? "chip: wrong" : "chip: as expected");

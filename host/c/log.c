@@ -160,7 +160,7 @@ static void chips(void)
     uint64_t answer;
 
     perch_power_on(state, n, PERCH_NTSC);
-    expect("no such register", perch_write(state, n, 0x4014, 0), PERCH_REFUSED_REGISTER);
+    expect("no such register", perch_access(state, n, 0, 0x4014, 0), PERCH_REFUSED_REGISTER);
     expect("a run too long", perch_run(state, n, memory, m, PERCH_MOST_CLOCKS + 1, words, 2), PERCH_REFUSED_CLOCKS);
     answer = perch_run(state, n, memory, m, PERCH_MOST_CLOCKS, words, 2);
     expect("the longest run", PERCH_CLOCKS(answer), PERCH_MOST_CLOCKS);
@@ -192,20 +192,20 @@ static void channels(void)
 
     perch_power_on(state, sizeof state, PERCH_NTSC);
     expect("not enabled", PERCH_VALUE(perch_why(state, sizeof state, 0)), PERCH_WHY_DISABLED);
-    perch_write(state, sizeof state, 0x4015, 0x0f);
+    perch_access(state, sizeof state, 0, 0x4015, 0x0f);
     expect("no length", PERCH_VALUE(perch_why(state, sizeof state, 3)), PERCH_WHY_LENGTH);
-    perch_write(state, sizeof state, 0x4000, 0xff);
-    perch_write(state, sizeof state, 0x4003, 0x08);
+    perch_access(state, sizeof state, 0, 0x4000, 0xff);
+    perch_access(state, sizeof state, 0, 0x4003, 0x08);
     expect("a low period", PERCH_VALUE(perch_why(state, sizeof state, 0)), PERCH_WHY_PERIOD);
-    perch_write(state, sizeof state, 0x4002, 0x20);
-    perch_write(state, sizeof state, 0x4003, 0x0f);
+    perch_access(state, sizeof state, 0, 0x4002, 0x20);
+    perch_access(state, sizeof state, 0, 0x4003, 0x0f);
     expect("a high target", PERCH_VALUE(perch_why(state, sizeof state, 0)), PERCH_WHY_TARGET);
-    perch_write(state, sizeof state, 0x4003, 0x08);
-    perch_write(state, sizeof state, 0x4000, 0x3f);
+    perch_access(state, sizeof state, 0, 0x4003, 0x08);
+    perch_access(state, sizeof state, 0, 0x4000, 0x3f);
     expect("a low step", PERCH_VALUE(perch_why(state, sizeof state, 0)), PERCH_WHY_STEP);
-    perch_write(state, sizeof state, 0x4000, 0xf0);
+    perch_access(state, sizeof state, 0, 0x4000, 0xf0);
     expect("no volume", PERCH_VALUE(perch_why(state, sizeof state, 0)), PERCH_WHY_VOLUME);
-    perch_write(state, sizeof state, 0x4000, 0xff);
+    perch_access(state, sizeof state, 0, 0x4000, 0xff);
     expect("sounds", PERCH_VALUE(perch_why(state, sizeof state, 0)), PERCH_WHY_SOUNDS + 15);
     expect("the triangle", perch_why(state, sizeof state, 2), PERCH_REFUSED_CHANNEL);
 }

@@ -1,16 +1,18 @@
 -- What C and Rust get: for any bytes, the answer of the operation on the state that they stand for. A state crosses as bytes (crate `c_state`); bytes that are
 -- no state's are a state out of range, refused with 2. Where it is refused the bytes stay.
-use Prim.Native.Nat.{ℕ, _+_, _*_}
+use Prim.Native.Nat.{ℕ, _+_, _*_, _^_}
 use mathlib.Core.Bool.{Bool, false}
 use mathlib.Core.List.{List}
 use lib.ListN.{length}
 use lib.Dec.{eqb, leb}
 use Rattle.arith.specs.Pick.{pick, both}
+use Rattle.bus.specs.declared.Access.{Access}
+use Rattle.bus.specs.declared.Access.the-variants.{Write, Read}
 use Rattle.chip.specs.Range.{inRange, powerOn}
 use Rattle.chip.specs.declared.State.{State}
-use Rattle.chip_api.specs.Answer.{moved, isMemory, writeAnswer, statusAnswer, lineAnswer, levelAnswer, clockAnswer}
+use Rattle.chip_api.specs.Answer.{moved, isMemory, refusedAccess, accessAnswer, lineAnswer, levelAnswer, clockAnswer}
 use Rattle.chip_api.specs.declared.Moved.{Moved}
-use Rattle.chip_api.specs.declared.Status.{Status}
+use Rattle.chip_api.specs.declared.Answered.{Answered}
 use Rattle.chip_api.specs.declared.Asserted.{Asserted}
 use Rattle.chip_api.specs.declared.Mixed.{Mixed}
 use Rattle.c_state.specs.Bytes.{stateSize, flagByte, stateOf, stateBytes, isState}
@@ -40,25 +42,20 @@ bytesIn b = both (isState b) (inRange (stateOf b))
 abbrev pub inRangePacked : List ℕ → ℕ
 inRangePacked b = packed 0 (flagByte (bytesIn b))
 
--- a write: 2, then 4
-unfoldable pub writeFrom : ℕ → ℕ → List ℕ → Moved
-writeFrom register value b = pick (isState b) (writeAnswer register value (stateOf b)) (moved 2 (stateOf b))
+-- any `read` but 0 is a read, whatever the register and the value
+unfoldable pub accessOf : ℕ → ℕ → ℕ → Access
+accessOf read register value = pick (eqb read 0) (Write register value) Read
 
-abbrev pub writePacked : ℕ → ℕ → List ℕ → ℕ
-writePacked register value b = packed (writeFrom register value b .number) 0
+-- an access: 2, then 4
+unfoldable pub accessFrom : Access → List ℕ → Answered
+accessFrom x b = pick (isState b) (accessAnswer x (stateOf b)) (refusedAccess 2 (stateOf b))
 
-abbrev pub writeBytes : ℕ → ℕ → List ℕ → List ℕ
-writeBytes register value b = bytesAfter (writeFrom register value b .number) (writeFrom register value b .state) b
+-- "number + 2^8 x byte + 2^16 x level + 2^32 x differs"
+abbrev pub accessPacked : Answered → ℕ
+accessPacked a = a .number + 2 ^ 8 * a .byte + 2 ^ 16 * a .level + 2 ^ 32 * flagByte (a .differs)
 
--- a status read: 2
-unfoldable pub statusFrom : List ℕ → Status
-statusFrom b = pick (isState b) (statusAnswer (stateOf b)) (record { number = 2; byte = 0; state = stateOf b })
-
-abbrev pub statusPacked : List ℕ → ℕ
-statusPacked b = packed (statusFrom b .number) (statusFrom b .byte)
-
-abbrev pub statusBytes : List ℕ → List ℕ
-statusBytes b = bytesAfter (statusFrom b .number) (statusFrom b .state) b
+abbrev pub accessBytes : Answered → List ℕ → List ℕ
+accessBytes a b = bytesAfter (a .number) (a .state) b
 
 -- the interrupt line: 2
 unfoldable pub lineFrom : List ℕ → Asserted

@@ -1,15 +1,16 @@
 // The chip's operations on a state that is bytes lent in place (crate `c_state`). An answer is one 64-bit number: its number, and above
-// its low byte its value. Bytes that are no state in range are refused, and stay.
+// its low byte its value, or an access's values. Bytes that are no state in range are refused, and stay.
 ghost use mathlib.Core.Path.{_≡_};
 ghost use lib.Dec.{eqb};
 ghost use Rattle.arith.specs.Pick.{pick};
 ghost use Rattle.c_state.specs.Encoded.{encoded};
-ghost use Rattle.c_chip.specs.Boundary.{packed, powerNumber, powerPacked, powerBytes, bytesIn, inRangePacked, writeFrom, writePacked, writeBytes, statusFrom, statusPacked, statusBytes, lineFrom, linePacked, levelFrom, levelPacked, noState, clockFrom, clockPacked, clockBytes};
+ghost use Rattle.c_chip.specs.Boundary.{packed, powerNumber, powerPacked, powerBytes, bytesIn, inRangePacked, accessOf, accessFrom, accessPacked, accessBytes, lineFrom, linePacked, levelFrom, levelPacked, noState, clockFrom, clockPacked, clockBytes};
+use bus::Access;
 use chip::State;
+use chip_api::Answered;
 use chip_api::Asserted;
 use chip_api::Mixed;
 use chip_api::Moved;
-use chip_api::Status;
 
 // A number and a value in one.
 pub fn pack(number: u8, value: u16) -> u64
@@ -63,54 +64,49 @@ pub fn in_range(state: &[u8]) -> u64
     pack(0, value)
 }
 
-fn write_from(b: &[u8], register: u16, value: u8) -> Moved
-    ensures { λ r. ⌜ r ≡ writeFrom register value (now (b .entry)) ⌝ }
+fn access_of(read: u8, register: u16, value: u8) -> Access
+    ensures { λ r. ⌜ r ≡ accessOf read register value ⌝ }
+{
+    if read == 0 {
+        return Access::Write(register, value);
+    }
+    Access::Read
+}
+
+fn access_from(b: &[u8], x: Access) -> Answered
+    ensures { λ r. ⌜ r ≡ accessFrom x (now (b .entry)) ⌝ }
 {
     let s = c_state::decode(b);
     if c_state::is_state(b) {
-        return chip_api::write(s, register, value);
+        return chip_api::access(s, x);
     }
-    Moved {
+    Answered {
         number: 2,
         state: s,
-    }
-}
-
-// Writes a value to a register. Refused: 2, 4.
-pub fn write(state: &mut [u8], register: u16, value: u8) -> u64
-    ensures { λ r. ⌜ r ≡ writePacked register value (now (state .entry)) ⌝ }
-    ensures { λ r. ⌜ now (state .exit) ≡ writeBytes register value (now (state .entry)) ⌝ }
-{
-    let m = write_from(state, register, value);
-    let s = m.state;
-    store(m.number, s, state);
-    pack(m.number, 0)
-}
-
-fn status_from(b: &[u8]) -> Status
-    ensures { λ r. ⌜ r ≡ statusFrom (now (b .entry)) ⌝ }
-{
-    let s = c_state::decode(b);
-    if c_state::is_state(b) {
-        return chip_api::read_status(s);
-    }
-    Status {
-        number: 2,
         byte: 0,
-        state: s,
+        level: 0,
+        differs: false,
     }
 }
 
-// Reads $4015, which clears the frame flag; the value is the byte read. Refused: 2.
-pub fn read_status(state: &mut [u8]) -> u64
-    ensures { λ r. ⌜ r ≡ statusPacked (now (state .entry)) ⌝ }
-    ensures { λ r. ⌜ now (state .exit) ≡ statusBytes (now (state .entry)) ⌝ }
+fn pack_access(a: Answered) -> u64
+    ensures { λ r. ⌜ r ≡ accessPacked a ⌝ }
 {
-    let m = status_from(state);
-    let s = m.state;
-    store(m.number, s, state);
-    let byte = arith::wide_u16(m.byte);
-    pack(m.number, byte)
+    let differs = arith::pick_u16(a.differs, 1, 0);
+    a.number as u64 + 256 * a.byte as u64 + 65536 * a.level as u64 + 4294967296 * differs as u64
+}
+
+// One access: where `read` is 0 a register written with a value, else $4015 read, whatever the register and the value. The answer is number +
+// 2^8 x byte read (0 for a write) + 2^16 x level after + 2^32 x whether it differs from before. Refused: 2, 4.
+pub fn access(state: &mut [u8], read: u8, register: u16, value: u8) -> u64
+    ensures { λ r. ⌜ r ≡ accessPacked (accessFrom (accessOf read register value) (now (state .entry))) ⌝ }
+    ensures { λ r. ⌜ now (state .exit) ≡ accessBytes (accessFrom (accessOf read register value) (now (state .entry))) (now (state .entry)) ⌝ }
+{
+    let x = access_of(read, register, value);
+    let a = access_from(state, x);
+    let s = a.state;
+    store(a.number, s, state);
+    pack_access(a)
 }
 
 fn line_from(b: &[u8]) -> Asserted

@@ -3,7 +3,7 @@
 // refused, and stay.
 ghost use mathlib.Core.Path.{_≡_};
 ghost use Rattle.c_state.specs.Bytes.{stateSize};
-ghost use Rattle.c_chip.specs.Boundary.{powerPacked, powerBytes, inRangePacked, writePacked, writeBytes, statusPacked, statusBytes, linePacked, levelPacked, clockPacked, clockBytes};
+ghost use Rattle.c_chip.specs.Boundary.{powerPacked, powerBytes, inRangePacked, accessOf, accessFrom, accessPacked, accessBytes, linePacked, levelPacked, clockPacked, clockBytes};
 ghost use Rattle.perchpulley.specs.Version.{version};
 
 pub mod asked;
@@ -19,7 +19,7 @@ pub mod runs;
 pub extern "C" fn perch_version() -> u32
     ensures { λ r. ⌜ r ≡ version ⌝ }
 {
-    4
+    5
 }
 
 // How many bytes a state is.
@@ -47,22 +47,14 @@ pub extern "C" fn perch_in_range(state: &[u8]) -> u64
     c_chip::in_range(state)
 }
 
-// Writes a value to a register. Refused: 2, 4.
+// One access: where `read` is 0 a register written with a value, else $4015 read, whatever the register and the value. The answer is number +
+// 2^8 x byte read (0 for a write) + 2^16 x level after + 2^32 x whether it differs from before. Refused: 2, 4.
 #[no_mangle]
-pub extern "C" fn perch_write(state: &mut [u8], register: u16, value: u8) -> u64
-    ensures { λ r. ⌜ r ≡ writePacked register value (now (state .entry)) ⌝ }
-    ensures { λ r. ⌜ now (state .exit) ≡ writeBytes register value (now (state .entry)) ⌝ }
+pub extern "C" fn perch_access(state: &mut [u8], read: u8, register: u16, value: u8) -> u64
+    ensures { λ r. ⌜ r ≡ accessPacked (accessFrom (accessOf read register value) (now (state .entry))) ⌝ }
+    ensures { λ r. ⌜ now (state .exit) ≡ accessBytes (accessFrom (accessOf read register value) (now (state .entry))) (now (state .entry)) ⌝ }
 {
-    c_chip::write(state, register, value)
-}
-
-// Reads $4015, which clears the frame flag; the value is the byte read. Refused: 2.
-#[no_mangle]
-pub extern "C" fn perch_read_status(state: &mut [u8]) -> u64
-    ensures { λ r. ⌜ r ≡ statusPacked (now (state .entry)) ⌝ }
-    ensures { λ r. ⌜ now (state .exit) ≡ statusBytes (now (state .entry)) ⌝ }
-{
-    c_chip::read_status(state)
+    c_chip::access(state, read, register, value)
 }
 
 // Value 1 where the interrupt line is asserted. Refused: 2.

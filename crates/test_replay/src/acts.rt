@@ -1,5 +1,5 @@
 // What a line asks for, worked with the functions that `perchpulley` hands out under C names. An answer is the number that C gets: number +
-// 256 x value, of a run number + 2^8 x clocks done + 2^32 x records.
+// 256 x value, of a run number + 2^8 x clocks done + 2^32 x records, of an access number + 2^8 x byte + 2^16 x level + 2^32 x differs.
 use super::lent;
 use super::stored::byte;
 use super::stored::number;
@@ -15,10 +15,17 @@ fn level(state: &[u8]) -> u64 {
     a
 }
 
+// A write, without its byte, which must be 0.
+fn write(line: &[u8], state: &mut [u8]) -> u64 {
+    let a = c_chip::access(state, 0, short(line, 2), value(line, 7));
+    hold(a / 256 % 256 == 0);
+    a % 256 + a / 65536 * 256
+}
+
 fn access(line: &[u8], state: &mut [u8]) -> u64 {
     match byte(line, 0) {
-        b'W' => c_chip::write(state, short(line, 2), value(line, 7)),
-        b'R' => c_chip::read_status(state),
+        b'W' => write(line, state),
+        b'R' => c_chip::access(state, 1, 0, 0),
         b'I' => c_chip::interrupt_line(state),
         _ => level(state),
     }

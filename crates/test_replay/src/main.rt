@@ -21,6 +21,15 @@ fn behind(at: u32, n: usize) -> u32 {
     std::num::wrapping_add_u32(at, (n % 1000) as u32)
 }
 
+// How many words the records of an answer take: only a run's has some.
+fn taken(letter: u8, a: u64) -> usize {
+    if letter == b'N' {
+        (a / 4294967296 * 2) as usize
+    } else {
+        0
+    }
+}
+
 // The line at a place of the file, worked and written.
 fn one(
     file: i32,
@@ -44,11 +53,9 @@ fn one(
     written::answer(&mut line, a);
     written::last(&mut line, state);
     written::write(&line, n);
-    // only a run's answer has records
-    let taken = (a / 4294967296 * 2) as usize;
     Step {
         at: behind(at, n),
-        used: std::num::wrapping_add_usize(used, taken),
+        used: std::num::wrapping_add_usize(used, taken(letter, a)),
         last: letter == b'E',
     }
 }

@@ -66,8 +66,8 @@ pub(crate) fn short(line: &[u8], at: usize) -> u16
 fn widths(letter: u8) -> u64 {
     match letter {
         b'B' => lent::STATE as u64 * 100_00_00_00_00 + 01_03_02_02_02,
-        b'W' => 01_01_02,
-        b'R' => 01_01,
+        b'W' => 01_02_01_01_02,
+        b'R' => 01_02_01_01,
         b'I' => 01_01,
         b'V' => 02_01,
         b'C' => 01_02,

@@ -29,8 +29,10 @@ fn put_state(line: &mut [u8], place: usize, state: &[u8]) {
 // How many bytes each answer of a letter's line has, but for a state, in two digits each, the last first.
 fn widths(letter: u8) -> u64 {
     match letter {
-        b'W' | b'C' => 01,
-        b'R' | b'I' => 01_01,
+        b'W' => 01_02_01,
+        b'R' => 01_02_01_01,
+        b'C' => 01,
+        b'I' => 01_01,
         b'V' => 02_01,
         b'N' => 03_03_01,
         b'E' => 04,

@@ -15,6 +15,7 @@
 //   "TEXT       the rest of the line is written       #TEXT      a comment, up to the end of the line
 ghost use Prim.Native.Nat.{_≤_, _<_};
 ghost use lib.ListN.{length};
+use bus::Access;
 use chip::State;
 use libc::STDOUT_FILENO;
 
@@ -165,7 +166,7 @@ fn seen(s: State, kind: u8) -> u16 {
             m.level
         }
         b't' => {
-            let m = chip_api::read_status(s);
+            let m = chip_api::access(s, Access::Read);
             m.byte as u16
         }
         b'i' => {
@@ -193,18 +194,18 @@ fn clocks(s: State, memory: &[u8], n: u32, kind: u8) -> State {
 }
 
 fn put(s: State, register: u16, value: u8) -> State {
-    let m = chip_api::write(s, register, value);
+    let m = chip_api::access(s, Access::Write(register, value));
     m.state
 }
 
 fn read(s: State) -> State {
-    let m = chip_api::read_status(s);
+    let m = chip_api::access(s, Access::Read);
     shown(b't', m.byte as u16);
     m.state
 }
 
 fn asked(s: State, register: u16) {
-    let m = chip_api::write(s, register, 0);
+    let m = chip_api::access(s, Access::Write(register, 0));
     text(b" ");
     io::print_hex(STDOUT_FILENO, register as u64, 4);
     text(b":");

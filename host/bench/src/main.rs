@@ -6,7 +6,7 @@ mod tune;
 
 use compare::random::Random;
 use compare::{draw, imports};
-use perch::{Chip, MEMORY, Machine, Ran, Refusal, raw};
+use perch::{Access, Chip, MEMORY, Machine, Ran, Refusal, raw};
 use std::process::{Command, ExitCode};
 use tune::Act;
 
@@ -56,8 +56,8 @@ fn play(scene: &Scene, memory: &[u8], words: &mut [u32], run: Run) -> Result<Pla
     let mut now = Played { chip: scene.first, clocks: 0, records: 0, sum: 0 };
     for act in &scene.acts {
         match *act {
-            Act::Write(register, value) => now.chip.write(register, value)?,
-            Act::Read => now.sum += u64::from(now.chip.read_status()?),
+            Act::Write(register, value) => drop(now.chip.access(Access::Write(register, value))?),
+            Act::Read => now.sum += u64::from(now.chip.access(Access::Read)?.byte),
             Act::Wait(clocks) => {
                 let mut left = clocks;
                 while left > 0 {
@@ -123,7 +123,7 @@ fn row(scene: &Scene, memory: &[u8]) -> Result<f64, Refusal> {
 fn after(writes: &[(u16, u8)]) -> Result<Chip, Refusal> {
     let mut chip = Chip::power_on(Machine::Ntsc);
     for (register, value) in writes {
-        chip.write(*register, *value)?;
+        chip.access(Access::Write(*register, *value))?;
     }
     Ok(chip)
 }

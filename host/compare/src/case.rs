@@ -83,7 +83,8 @@ pub struct Case {
 /// What a case comes to: the answer of each operation, and what was lent as it is at the end.
 #[derive(Clone, Debug, PartialEq, Eq)]
 pub struct Outcome {
-    /// Number + 256 x value; of a run number + 2^8 x clocks done + 2^32 x records.
+    /// Number + 256 x value; of a run number + 2^8 x clocks done + 2^32 x records; of an access number + 2^8 x byte + 2^16 x
+    /// level + 2^32 x differs.
     pub answers: Vec<u64>,
     /// The state's bytes.
     pub state: Vec<u8>,
@@ -109,14 +110,18 @@ pub fn text(case: &Case, outcome: &Outcome) -> String {
         format!("B {start:04x} {times:04x} {plus:04x} {:06x} {length:02x} {}\n", case.words, hex(&case.state));
     for (op, answer) in case.ops.iter().zip(&outcome.answers) {
         let (number, value) = (answer & 0xff, answer >> 8);
+        // Of an access.
+        let (byte, level, differs) = (value & 0xff, value >> 8 & 0xffff, value >> 24);
         let _ = match op {
             Op::Run { memory, count } => {
                 let (done, records) = (value & 0xff_ffff, value >> 24);
                 writeln!(text, "N {memory:04x} {count:016x} {number:02x} {done:06x} {records:06x}")
             }
             Op::Clock { memory } => writeln!(text, "C {memory:04x} {number:02x}"),
-            Op::Write { register, value } => writeln!(text, "W {register:04x} {value:02x} {number:02x}"),
-            Op::Read => writeln!(text, "R {number:02x} {value:02x}"),
+            Op::Write { register, value } => {
+                writeln!(text, "W {register:04x} {value:02x} {number:02x} {level:04x} {differs:02x}")
+            }
+            Op::Read => writeln!(text, "R {number:02x} {byte:02x} {level:04x} {differs:02x}"),
             Op::Line => writeln!(text, "I {number:02x} {value:02x}"),
             Op::Level => writeln!(text, "V {number:02x} {value:04x}"),
         };
@@ -153,8 +158,11 @@ pub fn parse(text: &str) -> Option<Vec<(Case, Outcome)>> {
                 (Op::Run { memory: number(0)? as usize, count: number(1)? }, answer)
             }
             "C" => (Op::Clock { memory: number(0)? as usize }, number(1)?),
-            "W" => (Op::Write { register: short(0)?, value: number(1)? as u8 }, number(2)?),
-            "R" => (Op::Read, simple(0)?),
+            "W" => {
+                let answer = number(2)? | number(3)? << 16 | number(4)? << 32;
+                (Op::Write { register: short(0)?, value: number(1)? as u8 }, answer)
+            }
+            "R" => (Op::Read, simple(0)? | number(2)? << 16 | number(3)? << 32),
             "I" => (Op::Line, simple(0)?),
             "V" => (Op::Level, simple(0)?),
             "E" => {

@@ -4,6 +4,7 @@
 use crate::draw::{hush, state};
 use crate::random::Random;
 use perch::raw;
+use reading::access::access;
 use reading::chip::Frame;
 use reading::machine::Machine;
 use reading::mixer::Outputs;
@@ -20,7 +21,7 @@ fn one_clock(chip: Chip, memory: &[u8]) -> Result<(), String> {
     same(what, boundary::clock(&mut ours, memory), raw::clock(&mut theirs, memory))?;
     same(what, ours, theirs)?;
     same(what, boundary::level(&ours), raw::level(&theirs))?;
-    same(what, boundary::read_status(&mut ours), raw::read_status(&mut theirs))?;
+    same(what, access(&mut ours, 1, 0, 0), raw::access(&mut theirs, 1, 0, 0))?;
     same(what, ours, theirs)
 }
 
@@ -118,7 +119,7 @@ pub fn writes(random: &mut Random) -> Result<u64, String> {
         checks += 1;
         let (mut ours, mut theirs) = (chip.encode(), chip.encode());
         let what = || format!("write of {register:04x}:{value:02x} to {:02x?}", chip.encode());
-        same(what, boundary::write(&mut ours, register, value), raw::write(&mut theirs, register, value))?;
+        same(what, access(&mut ours, 0, register, value), raw::access(&mut theirs, 0, register, value))?;
         same(what, ours, theirs)
     };
     for _ in 0..30 {

@@ -9,8 +9,7 @@ use reading::{Chip, MEMORY, MOST_CLOCKS, Plain, boundary, plain};
 struct Engine {
     name: &'static str,
     clock: fn(&mut [u8], &[u8]) -> u64,
-    write: fn(&mut [u8], u16, u8) -> u64,
-    read_status: fn(&mut [u8]) -> u64,
+    access: fn(&mut [u8], u8, u16, u8) -> u64,
     line: fn(&[u8]) -> u64,
     level: fn(&[u8]) -> u64,
     fraction: fn(u16) -> f32,
@@ -20,8 +19,7 @@ struct Engine {
 const READING: Engine = Engine {
     name: "the reading",
     clock: boundary::clock,
-    write: boundary::write,
-    read_status: boundary::read_status,
+    access: reading::access::access,
     line: boundary::line,
     level: boundary::level,
     fraction: reading::mixer::level_f32,
@@ -31,8 +29,7 @@ const READING: Engine = Engine {
 const LEAPING: Engine = Engine {
     name: "perch_run",
     clock: raw::clock,
-    write: raw::write,
-    read_status: raw::read_status,
+    access: raw::access,
     line: raw::interrupt_line,
     level: raw::level,
     fraction: raw::level_fraction,
@@ -66,8 +63,8 @@ impl Side {
                 answer
             }
             Op::Clock { memory: length } => (self.engine.clock)(state, &memory[..length]),
-            Op::Write { register, value } => (self.engine.write)(state, register, value),
-            Op::Read => (self.engine.read_status)(state),
+            Op::Write { register, value } => (self.engine.access)(state, 0, register, value),
+            Op::Read => (self.engine.access)(state, 1, 0x4015, 0),
             Op::Line => (self.engine.line)(state),
             Op::Level => {
                 let level = (self.engine.level)(state);

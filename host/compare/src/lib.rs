@@ -1,5 +1,6 @@
 //! The library against the plain Rust reading: cases, how they are drawn, and how they are judged.
 
+pub mod accesses;
 pub mod case;
 pub mod counts;
 pub mod cursors;

@@ -3,7 +3,9 @@
 use compare::case::{self, Case, Outcome};
 use compare::judge::{self, Tally, judge};
 use compare::random::Random;
-use compare::{cursors, draw, every, free, imports, lines, logs, machines, meters, players, reasons, sheets, stored};
+use compare::{
+    accesses, cursors, draw, every, free, imports, lines, logs, machines, meters, players, reasons, sheets, stored,
+};
 use reading::{Chip, MEMORY};
 use std::process::ExitCode;
 use std::time::Instant;
@@ -19,7 +21,7 @@ compare examples FOLDER                                 hold the library to the 
 compare text LOG SAMPLE                                 write what the player writes for a log, by the reading
 compare judged FOLDER                                   write what the crate logs prints about the logs of a folder
 compare played FOLDER                                   write what the crate cases prints about them, with sample.bin
---each N: so many reasons, meters, sheets and texts, half as many whole logs, cursors, players and imports
+--each N: so many accesses, reasons, meters, sheets and texts, half as many whole logs, cursors, players and imports
 --archive: an error where the library's archive isn't linked; --brief: no more parts after one that differs";
 
 /// What the command line asks for.
@@ -160,6 +162,7 @@ fn compare(asked: &Asked) -> bool {
             draw::long(random, clocks)
         })
     });
+    part("accesses", &mut || accesses::compare(seed, asked.each));
     part("reasons", &mut || reasons::compare(seed, asked.each));
     part("meters", &mut || meters::compare(seed, asked.each));
     part("sheets", &mut || sheets::compare(seed, asked.each));

@@ -3,8 +3,9 @@
 //! ```
 //! # let memory = [0; perch::MEMORY];
 //! let mut chip = perch::Chip::power_on(perch::Machine::Ntsc);
-//! chip.write(0x4011, 0x40)?;
-//! assert_eq!(chip.level()?, 16620);
+//! let accessed = chip.access(perch::Access::Write(0x4011, 0x40))?;
+//! assert_eq!((accessed.level, accessed.differs), (16620, true));
+//! assert_eq!(chip.access(perch::Access::Read)?.byte, 0x00);
 //! let mut words = [0; 64];
 //! let ran = chip.run(&memory, 1_000_000, &mut words)?;
 //! for pair in words[..2 * ran.records].chunks(2) {
@@ -50,13 +51,14 @@
 //! ```
 //!
 //! ```
+//! # use perch::Access::Write;
 //! let mut chip = perch::Chip::power_on(perch::Machine::Pal);
 //! assert_eq!(chip.why(perch::Channel::Square1)?.to_string(), "not enabled");
 //! for (register, value) in [(0x4015, 0x01), (0x4000, 0xff), (0x4003, 0x00)] {
-//!     chip.write(register, value)?;
+//!     chip.access(Write(register, value))?;
 //! }
 //! assert_eq!(chip.why(perch::Channel::Square1)?.to_string(), "period below 8");
-//! chip.write(0x4002, 0xfd)?;
+//! chip.access(Write(0x4002, 0xfd))?;
 //! assert_eq!(chip.why(perch::Channel::Square1)?, perch::Why::Sounds(15));
 //! # Ok::<(), perch::Refusal>(())
 //! ```
@@ -75,6 +77,7 @@
 //! # Ok::<(), perch::Refusal>(())
 //! ```
 
+mod access;
 mod cursor;
 mod log;
 mod meter;
@@ -82,6 +85,7 @@ pub mod raw;
 mod sheet;
 mod why;
 
+pub use access::{Access, Accessed};
 pub use cursor::{CURSOR, Cursor, Found, all_items};
 pub use log::{Checked, Fault, Item, LOG, Player, body, check, import, item, items, refusal_text, turns};
 pub use meter::{Meter, meter, meter_records};
@@ -97,7 +101,7 @@ pub const MEMORY: usize = 32_768;
 pub const STATE: usize = 91;
 
 /// The version of the header that this wraps; the library's is `version()`.
-pub const VERSION: u32 = 4;
+pub const VERSION: u32 = 5;
 
 /// The version of the library linked. One of another version has other sizes, layouts or functions.
 pub fn version() -> u32 {
@@ -212,14 +216,8 @@ impl Chip {
         &self.0
     }
 
-    /// Writes a register.
-    pub fn write(&mut self, register: u16, byte: u8) -> Result<(), Refusal> {
-        value(raw::write(&mut self.0, register, byte)).map(|_| ())
-    }
-
-    /// Reads $4015, which clears the frame flag.
-    pub fn read_status(&mut self) -> Result<u8, Refusal> {
-        value(raw::read_status(&mut self.0)).map(|byte| byte as u8)
+    fn bytes_mut(&mut self) -> &mut [u8; STATE] {
+        &mut self.0
     }
 
     /// Whether the interrupt line is asserted.

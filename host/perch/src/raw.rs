@@ -2,14 +2,15 @@
 //!
 //! An answer is number + 256 x value; a run's number + 2^8 x clocks done + 2^32 x records; one about a log number + 2^8 x
 //! place + 2^32 x value; a piece's number + 2^8 x over + 2^32 x bytes written; an import's 2^8 x the log's length, or number +
-//! 2^8 x place; a meter's number + 2^8 x case + 2^16 x lowest + 2^32 x highest.
+//! 2^8 x place; a meter's number + 2^8 x case + 2^16 x lowest + 2^32 x highest; an access's number + 2^8 x byte + 2^16 x
+//! level + 2^32 x differs.
 
 #[cfg(not(archive))]
 use standin::{
-    perch_begin, perch_body, perch_check, perch_clock, perch_import, perch_in_range, perch_interrupt_line, perch_item,
-    perch_level, perch_level_fraction, perch_meter, perch_meter_records, perch_play_on, perch_player_size,
-    perch_power_on, perch_read_status, perch_refusal_text, perch_run, perch_run_plain, perch_sheet, perch_state_size,
-    perch_why, perch_write,
+    perch_access, perch_begin, perch_body, perch_check, perch_clock, perch_import, perch_in_range,
+    perch_interrupt_line, perch_item, perch_level, perch_level_fraction, perch_meter, perch_meter_records,
+    perch_play_on, perch_player_size, perch_power_on, perch_refusal_text, perch_run, perch_run_plain, perch_sheet,
+    perch_state_size, perch_why,
 };
 #[cfg(not(archive))]
 use standin::{perch_cursor_next, perch_cursor_size, perch_cursor_start, perch_items, perch_turns, perch_version};
@@ -29,8 +30,7 @@ unsafe extern "C" {
     safe fn perch_state_size() -> usize;
     fn perch_power_on(state: *mut u8, n: usize, machine: u8) -> u64;
     fn perch_in_range(state: *const u8, n: usize) -> u64;
-    fn perch_write(state: *mut u8, n: usize, register: u16, value: u8) -> u64;
-    fn perch_read_status(state: *mut u8, n: usize) -> u64;
+    fn perch_access(state: *mut u8, n: usize, read: u8, register: u16, value: u8) -> u64;
     fn perch_interrupt_line(state: *const u8, n: usize) -> u64;
     fn perch_level(state: *const u8, n: usize) -> u64;
     fn perch_clock(state: *mut u8, n: usize, memory: *const u8, m: usize) -> u64;
@@ -94,14 +94,9 @@ pub fn in_range(state: &[u8]) -> u64 {
     unsafe { perch_in_range(state.as_ptr(), state.len()) }
 }
 
-/// Writes a register.
-pub fn write(state: &mut [u8], register: u16, value: u8) -> u64 {
-    unsafe { perch_write(state.as_mut_ptr(), state.len(), register, value) }
-}
-
-/// Reads $4015.
-pub fn read_status(state: &mut [u8]) -> u64 {
-    unsafe { perch_read_status(state.as_mut_ptr(), state.len()) }
+/// Reads $4015 where `read` isn't 0, else writes a register.
+pub fn access(state: &mut [u8], read: u8, register: u16, value: u8) -> u64 {
+    unsafe { perch_access(state.as_mut_ptr(), state.len(), read, register, value) }
 }
 
 /// 1 where the interrupt line is asserted.

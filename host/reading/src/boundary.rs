@@ -1,26 +1,16 @@
-//! The operations on bytes and numbers, with their refusals: what a caller in C is answered.
+//! The operations on bytes and numbers, with their refusals: what a caller in C is answered. An access is in `access`.
 //!
 //! An answer is number + 256 x value, a run's number + 2^8 x clocks done + 2^32 x records. A refused call answers its
 //! number alone and leaves what it was lent as it was.
 
 use crate::bytes::SIZE;
-use crate::chip::{Chip, is_register};
+use crate::chip::Chip;
 use crate::machine::Machine;
 use crate::plain::plain;
 use crate::{MEMORY, MOST_CLOCKS, number};
 
 fn answer(value: u64) -> u64 {
     value << 8
-}
-
-/// Works on the state that the bytes hold, and puts it back; 2 where they hold none.
-fn with_state(state: &mut [u8], act: impl FnOnce(&mut Chip) -> u64) -> u64 {
-    let Some(mut chip) = Chip::decode(state) else {
-        return number::STATE.into();
-    };
-    let answer = act(&mut chip);
-    state.copy_from_slice(&chip.encode());
-    answer
 }
 
 /// Writes a machine's state at power-on.
@@ -39,22 +29,6 @@ pub fn in_range(state: &[u8]) -> u64 {
     answer(Chip::decode(state).is_some().into())
 }
 
-/// Writes a register.
-pub fn write(state: &mut [u8], register: u16, value: u8) -> u64 {
-    if Chip::decode(state).is_some() && !is_register(register) {
-        return number::REGISTER.into();
-    }
-    with_state(state, |chip| {
-        chip.write(register, value);
-        0
-    })
-}
-
-/// Reads $4015.
-pub fn read_status(state: &mut [u8]) -> u64 {
-    with_state(state, |chip| answer(chip.read_status().into()))
-}
-
 /// 1 where the interrupt line is asserted.
 pub fn line(state: &[u8]) -> u64 {
     Chip::decode(state).map_or(number::STATE.into(), |chip| answer(chip.line().into()))
@@ -70,10 +44,12 @@ pub fn clock(state: &mut [u8], memory: &[u8]) -> u64 {
     if memory.len() != MEMORY {
         return number::MEMORY.into();
     }
-    with_state(state, |chip| {
-        chip.clock(memory);
-        0
-    })
+    let Some(mut chip) = Chip::decode(state) else {
+        return number::STATE.into();
+    };
+    chip.clock(memory);
+    state.copy_from_slice(&chip.encode());
+    0
 }
 
 /// Runs, with two words for each record: its clock in the run from 1, and the level.

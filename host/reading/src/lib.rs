@@ -5,6 +5,7 @@
 //! The library that this is compared with leaps; this reading never does. It is written to be held against the paper
 //! line by line, so each rule stands in it once and in the paper's words.
 
+pub mod access;
 pub mod boundary;
 pub mod bytes;
 pub mod chip;

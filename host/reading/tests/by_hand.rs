@@ -454,8 +454,6 @@ fn answers_and_refusals() {
     assert_eq!(boundary::run(&mut state, &m[1..], 2_000_000, &mut words), number::MEMORY.into());
     assert_eq!(boundary::run(&mut state, m, 1_000_001, &mut words), number::CLOCKS.into());
     assert_eq!(boundary::run(&mut state[1..], m, 1_000_001, &mut words), number::STATE.into());
-    assert_eq!(boundary::write(&mut state, 0x4014, 0), number::REGISTER.into());
-    assert_eq!(boundary::write(&mut state[1..], 0x4014, 0), number::STATE.into());
     assert_eq!(boundary::clock(&mut state, &m[1..]), number::MEMORY.into());
     assert_eq!((state, words), (kept, [7; 5]));
     state[1] = 2;

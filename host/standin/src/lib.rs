@@ -8,7 +8,7 @@
 //! two of them overlap.
 #![allow(clippy::missing_safety_doc, missing_docs)]
 
-use reading::{boundary, cursor as cursors, layout, meter, mixer, player as pieces, sheet, vgm, why};
+use reading::{access, boundary, cursor as cursors, layout, meter, mixer, player as pieces, sheet, vgm, why};
 use std::slice::{from_raw_parts, from_raw_parts_mut};
 
 #[cfg_attr(feature = "export", unsafe(no_mangle))]
@@ -27,13 +27,8 @@ pub unsafe extern "C" fn perch_in_range(state: *const u8, n: usize) -> u64 {
 }
 
 #[cfg_attr(feature = "export", unsafe(no_mangle))]
-pub unsafe extern "C" fn perch_write(state: *mut u8, n: usize, register: u16, value: u8) -> u64 {
-    boundary::write(unsafe { from_raw_parts_mut(state, n) }, register, value)
-}
-
-#[cfg_attr(feature = "export", unsafe(no_mangle))]
-pub unsafe extern "C" fn perch_read_status(state: *mut u8, n: usize) -> u64 {
-    boundary::read_status(unsafe { from_raw_parts_mut(state, n) })
+pub unsafe extern "C" fn perch_access(state: *mut u8, n: usize, read: u8, register: u16, value: u8) -> u64 {
+    access::access(unsafe { from_raw_parts_mut(state, n) }, read, register, value)
 }
 
 #[cfg_attr(feature = "export", unsafe(no_mangle))]
