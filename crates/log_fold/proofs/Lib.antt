@@ -1,0 +1,12 @@
+pub mod AheadLaws
+pub mod KeptLaws
+pub mod LeastLaws
+pub mod Passes
+pub mod AlikeLaws
+pub mod MarkLaws
+pub mod MoveLaws
+pub mod PlaceLaws
+pub mod StepLaws
+pub mod PassLaws
+pub mod AnswerLaws
+pub mod Samples

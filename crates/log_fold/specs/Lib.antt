@@ -1,0 +1,5 @@
+pub mod Ahead
+pub mod Folding
+pub mod Promise
+pub mod Answer
+pub mod Moves
