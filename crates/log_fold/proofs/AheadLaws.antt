@@ -53,11 +53,6 @@ unfolding run
 within-rest [] t d w = w
 within-rest (a ∷ s) t d w = within-rest s t d (w .1)
 
-pub within-append : (s r : List Act) (t : Tree) (d : ℕ) → Within (run (s ++ r) t) d → Within (run s end) d
-unfolding run
-within-append [] r t d w = tt
-within-append (a ∷ s) r t d w = (w .0, within-append s r t d (w .1))
-
 pub behind-none : (t : Tree) → behind t 0 ≡ t
 unfolding behind
 behind-none end = refl

@@ -1,12 +1,11 @@
 -- A folded log passes, stands for the same list on the same machine with the same end, and is not longer; and where nothing can be folded it is the log as
 -- it was. Assumes nothing.
-use mathlib.Core.Path.{_≡_, refl, ap, ap₂, sym, _∙_}
+use mathlib.Core.Path.{_≡_, refl, ap, sym, _∙_}
 use mathlib.Core.List.{List}
-use mathlib.Core.Bool.{Bool, true, false}
+use mathlib.Core.Bool.{Bool, false}
 use Prim.Native.Nat.{ℕ, zero, suc, _+_, _≤_, _<_}
 use native.Mathlib.Omega.{arith}
 use lib.ListN.{length, length-append}
-use Rattle.arith.specs.Pick.{pick}
 use Rattle.log_line.specs.declared.Act.{Act}
 use Rattle.log_line.specs.declared.Line.the-variants.{Stop}
 use Rattle.log_line.specs.Printed.{lineText}

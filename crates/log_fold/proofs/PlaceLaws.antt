@@ -118,9 +118,6 @@ choice-past (suc m) k s q h = rw (lt-leb q (length s) h) (choice-past m k s (q +
 
 -- the choice by bytes is the choice by lines
 module _ (log : List ℕ) (at k next : ℕ) (t : Tree) (p₀ q₀ n₀ : ℕ) (r : Reads log at 0 t (stops p₀ q₀ n₀)) (s : Printable (Stop n₀)) where
-  pub place : ℕ → ℕ
-  place p = at + size (take p (leading t))
-
   unfoldable pub toMove : Choice → Move
   toMove plain = plainMove next
   toMove (fold p c) = loopMove at (at + size (take p (leading t))) c

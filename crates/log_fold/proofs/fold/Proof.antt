@@ -1,5 +1,4 @@
-use mathlib.Core.Path.{ap, _∙_}
-use Rattle.log_fold.specs.Answer.{refusal}
+use mathlib.Core.Path.{_∙_}
 use Rattle.log_fold.proofs.MarkLaws.{marked-none}
 use Rattle.log_fold.proofs.PassLaws.{start-in}
 use Rattle.log_fold.proofs.AnswerLaws.{refused, right, turns-are, short, finished, promised}

@@ -1,5 +1,5 @@
 use borrow.Author.Needs.{needs}
-use mathlib.Core.Path.{sym, _∙_}
+use mathlib.Core.Path.{sym}
 use native.Mathlib.Omega.{arith}
 use Rattle.log_fold.proofs.marked_end.Statement.{statement}
 use Rattle.log_fold.proofs.marked_end.Tie as tie
