@@ -1,15 +1,8 @@
 // `perch import`: a VGM file on standard input, the log that it comes to on standard output, and nothing else there.
-use libc::STDERR_FILENO;
+use super::refused::refuse;
 use libc::STDIN_FILENO;
 use libc::STDOUT_FILENO;
 use perch_import::Brought;
-
-// `refused=NUMBER:PLACE`.
-fn refuse(number: u8, place: usize) {
-    let mut text = [0u8; 40];
-    let n = perch_import::refusal(number, place, &mut text);
-    perch_io::write_front(STDERR_FILENO, &text, n);
-}
 
 fn tell(file: &[u8]) {
     let mut log = [0u8; 60000];

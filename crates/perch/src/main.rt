@@ -1,7 +1,9 @@
 // The program for daily work: `perch VERB`, and what the verb asks for.
 mod check;
+mod fold;
 mod import;
 mod meter;
+mod refused;
 mod sheet;
 mod why;
 
@@ -10,6 +12,9 @@ fn usage() {
     perch_io::say(b"usage: perch VERB\n");
     perch_io::say(
         b"  check       a log on standard input: whether it passes, or where it is at fault\n",
+    );
+    perch_io::say(
+        b"  fold        a log on standard input: the same log with its repeats as loops\n",
     );
     perch_io::say(b"  import      a VGM file on standard input: the log that it comes to\n");
     perch_io::say(
@@ -28,6 +33,10 @@ fn usage() {
 fn run(verb: &[u8], words: usize) {
     if arith::both_of(words == 2, text::exact(verb, b"check")) {
         check::check();
+        return;
+    }
+    if arith::both_of(words == 2, text::exact(verb, b"fold")) {
+        fold::fold();
         return;
     }
     if arith::both_of(words == 2, text::exact(verb, b"import")) {

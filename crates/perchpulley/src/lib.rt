@@ -8,6 +8,7 @@ ghost use Rattle.perchpulley.specs.Version.{version};
 
 pub mod asked;
 pub mod cursors;
+pub mod folds;
 pub mod imports;
 pub mod logs;
 pub mod meters;

@@ -1,0 +1,26 @@
+// `perch fold`: a log on standard input, the folded log on standard output, and nothing else there.
+use super::refused::refuse;
+use libc::STDIN_FILENO;
+use libc::STDOUT_FILENO;
+use perch_fold::Outcome;
+
+fn tell(log: &[u8]) {
+    let mut out = [0u8; 60000];
+    let o = perch_fold::fold(log, &mut out);
+    match o {
+        Outcome::Done(n) => perch_io::write_front(STDOUT_FILENO, &out, n),
+        Outcome::Refused(number, place) => refuse(number, place),
+    }
+}
+
+// A byte more than a log may have, so that a longer one is seen.
+pub(crate) fn fold() {
+    let mut log = [0u8; 60001];
+    let r = perch_io::read_all(STDIN_FILENO, &mut log);
+    if r.failed {
+        perch_io::say(b"perch: standard input can't be read\n");
+        return;
+    }
+    let n = r.count;
+    tell(&log[..n]);
+}
