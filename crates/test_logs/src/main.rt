@@ -145,6 +145,39 @@ fn walk(log: &[u8], most: u64) {
     walked(items, steps, log_cursor::Found::Moved);
 }
 
+// A number with one more byte.
+fn with_byte(sum: u32, byte: u8) -> u32 {
+    ((31 * sum as u64 + byte as u64) % 0x100000000) as u32
+}
+
+// One number for the bytes of a text and their order.
+fn ordered(part: &[u8]) -> u32 {
+    let mut s: u32 = 0;
+    for i in 0..part.len() {
+        s = with_byte(s, part[i]);
+    }
+    s
+}
+
+// The answer to a fold into a buffer, and what stands in it afterwards.
+fn fold_into(log: &[u8], out: &mut [u8]) {
+    let a = log_fold::fold(log, out);
+    place(b"fold=", a.number, a.place);
+    text(b" length=");
+    number(a.length as u64);
+    text(b" sum=");
+    number(ordered(out) as u64);
+    text(b"\n");
+}
+
+// Folded into a buffer that holds every log, and into one that holds none.
+fn folded(log: &[u8]) {
+    let mut out = [0u8; 60000];
+    fold_into(log, &mut out);
+    let mut short = [0u8; 9];
+    fold_into(log, &mut short);
+}
+
 // Items and bodies of a log that passes with so many items.
 fn parts(log: &[u8], n: u64) {
     item(log, 0);
@@ -184,6 +217,7 @@ fn judged(log: &[u8]) {
         body(log, 6);
         walk(log, 5000);
     }
+    folded(log);
 }
 
 // One log, by its number; whether it is there.
