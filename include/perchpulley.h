@@ -15,9 +15,9 @@
  *
  * A state is PERCH_STATE_SIZE bytes: the fields in the order in which document 01, "State, ranges and power-on", names
  * them, then the machine. Period, timer, shift register, address, remaining and clock number take two bytes, low first,
- * every other field one; a flag is 0 or 1, the machine PERCH_NTSC or PERCH_PAL. Bytes of another length, or with a flag above
- * 1, or with no machine, or with a field outside its range on that machine, or with disable and the frame's interrupt both
- * set, are no state in range (PERCH_REFUSED_STATE).
+ * every other field one; a flag is 0 or 1, the machine PERCH_NTSC or PERCH_PAL. Bytes of another length, or with a flag
+ * above 1, or with no machine, or with a field outside its range on that machine, or with disable and the frame's
+ * interrupt both set, are no state in range (PERCH_REFUSED_STATE).
  *
  *   byte   0  square 1: duty, loop, constant, n, sweep enable, negate, P, S, sweep-written, sweep divider, period (2),
  *             timer (2), half, position, envelope start, envelope divider, envelope counter, length, enabled
@@ -40,7 +40,7 @@
 extern "C" {
 #endif
 
-#define PERCH_VERSION 5            /* of this header; perch_version() is the library's */
+#define PERCH_VERSION 6            /* of this header; perch_version() is the library's */
 #define PERCH_STATE_SIZE 91        /* bytes of a state; perch_state_size() at run time */
 #define PERCH_MEMORY_SIZE 32768    /* bytes of sample memory, $8000 to $FFFF */
 #define PERCH_MOST_CLOCKS 1000000  /* clocks that one run may be asked for */
@@ -82,6 +82,7 @@ extern "C" {
 #define PERCH_REFUSED_STREAM_END 27 /* a VGM stream ends before its $66 */
 #define PERCH_REFUSED_ROOM 28     /* the log is longer than the buffer lent for it, or than 60,000 bytes */
 #define PERCH_REFUSED_LEVEL 29    /* a level above 32,767 */
+#define PERCH_REFUSED_FOLD_ROOM 32 /* the buffer is shorter than the log to be folded */
 
 /* The number of an answer, and its value. */
 #define PERCH_NUMBER(answer) ((unsigned)((answer) & 0xff))
@@ -235,6 +236,13 @@ uint64_t perch_cursor_next(uint8_t *cursor, size_t c, const uint8_t *log, size_t
 #define PERCH_END 0
 #define PERCH_MOVED 4
 
+/* Rewrites a log over the front of the text with its repeats as loops. From the left, at each wait, write or read outside
+ * a loop, it takes the fewest lines, 1 to 16, all of these kinds, that are followed by equal copies of themselves and come
+ * out shorter as a loop, with as many copies as stand there, 255 at most; not where the turns in all would pass 1,000,000.
+ * All else is copied. The folded log passes perch_check with the same answer, stands for the same items and isn't longer.
+ * The value is its length; bytes behind it stay. Refused: as the log, then t is less than n (32, at 0). */
+uint64_t perch_fold(const uint8_t *log, size_t n, uint8_t *text, size_t t);
+
 /* WHAT OTHER PLAYERS WROTE. Brings a VGM stream, the n bytes behind a VGM file's header, in as a log over the front of the
  * text. Commands: $B4 register value; the waits $61, $62, $63 and $70..$7F, in samples at 44,100 a second; $66 the end,
  * behind which nothing is read. The log passes perch_check and stands for exactly those writes, each at the clock
@@ -254,8 +262,8 @@ uint64_t perch_import(const uint8_t *stream, size_t n, uint8_t *text, size_t t);
 /* How many bytes a player is. */
 size_t perch_player_size(void);
 
-/* Makes the p bytes a player at the beginning of the log, on its machine, whatever they held. The answer is one about a log, with value 0.
- * Refused: 1; p isn't the size of a player (2); as the log. */
+/* Makes the p bytes a player at the beginning of the log, on its machine, whatever they held. The answer is one about a
+ * log, with value 0. Refused: 1; p isn't the size of a player (2); as the log. */
 uint64_t perch_begin(uint8_t *player, size_t p, const uint8_t *log, size_t n, const uint8_t *memory, size_t m);
 
 /* Writes the player's next lines to the text, whole lines only, and moves the player behind them. The log and the memory

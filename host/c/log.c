@@ -168,6 +168,21 @@ static void chips(void)
     expect("the level as a float", (uint64_t)(PERCH_LEVEL_FRACTION(perch_level(state, n)) * 32768.0f), 8074);
 }
 
+static void folds(void)
+{
+    const char *log = "log=1\nwait=9\nwait=9\nwait=9\nwait=9\nwait=9\nstop=45\n";
+    const char *folded = "log=1\nloop=5\nwait=9\ndone=loop\nstop=45\n";
+    uint8_t text[60];
+    uint64_t answer = perch_fold((const uint8_t *)log, strlen(log), text, sizeof text);
+
+    expect("a log that folds", PERCH_NUMBER(answer), PERCH_DONE);
+    expect("its length", PERCH_LOG_VALUE(answer), strlen(folded));
+    expect("the folded log", (uint64_t)memcmp(text, folded, strlen(folded)), 0);
+    expect("a buffer one short", perch_fold((const uint8_t *)log, strlen(log), text, strlen(log) - 1),
+           PERCH_REFUSED_FOLD_ROOM);
+    expect("a log at fault", PERCH_NUMBER(perch_fold((const uint8_t *)log, 5, text, 0)), PERCH_REFUSED_FEED);
+}
+
 static void streams(void)
 {
     const uint8_t stream[] = {0xb4, 0x11, 0x40, 0x62, 0x66};
@@ -251,6 +266,7 @@ int main(void)
 {
     sizes();
     logs();
+    folds();
     cursors();
     players();
     chips();

@@ -20,7 +20,7 @@ pub mod runs;
 pub extern "C" fn perch_version() -> u32
     ensures { λ r. ⌜ r ≡ version ⌝ }
 {
-    5
+    6
 }
 
 // How many bytes a state is.

@@ -5,7 +5,7 @@ mod pace;
 mod tune;
 
 use compare::random::Random;
-use compare::{draw, imports};
+use compare::{draw, folds, imports};
 use perch::{Access, Chip, MEMORY, Machine, Ran, Refusal, raw};
 use std::process::{Command, ExitCode};
 use tune::Act;
@@ -189,6 +189,28 @@ fn import(quick: bool) {
     println!("| {name:<34} | {bytes:>11} | {:>10} | {best:>8.6} | {:>14.1} |", log.len(), bytes as f64 / best / 1e6);
 }
 
+/// Measures folding on drawn logs, and prints the row of the one that takes longest.
+fn fold(quick: bool) {
+    let (mut slowest, mut bytes, mut length) = (0.0, 0, 0);
+    for number in 0..if quick { 50 } else { 1000 } {
+        let log = folds::dense(&mut Random::new(1, "fold", number));
+        let mut text = vec![0; log.len()];
+        let (mut best, mut answer) = (f64::INFINITY, 0);
+        for _ in 0..5 {
+            let begun = now();
+            answer = raw::fold(&log, &mut text);
+            best = best.min(now() - begun);
+        }
+        assert_eq!(answer as u8, 0);
+        if best > slowest {
+            (slowest, bytes, length) = (best, log.len(), answer >> 32);
+        }
+    }
+    println!("\n| {:<34} | {:>11} | {:>10} | {:>8} |", "folding", "log", "folded", "seconds");
+    println!("|{}|{}", "-".repeat(36), "-:|".repeat(3));
+    println!("| {:<34} | {bytes:>11} | {length:>10} | {slowest:>8.6} |", "the slowest of drawn logs");
+}
+
 /// Measures the meter over more levels than the caches hold, and prints the row.
 fn meter(quick: bool) -> Result<(), Refusal> {
     let words = (if quick { 64 } else { 512 }) << 18;
@@ -325,6 +347,7 @@ fn table(log: Option<String>, gme: Option<String>, quick: bool) -> Result<(), Bo
         }
     }
     import(quick);
+    fold(quick);
     meter(quick)?;
     #[cfg(pace)]
     {

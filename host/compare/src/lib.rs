@@ -6,6 +6,7 @@ pub mod counts;
 pub mod cursors;
 pub mod draw;
 pub mod every;
+pub mod folds;
 pub mod free;
 pub mod imports;
 pub mod judge;

@@ -4,7 +4,8 @@ use compare::case::{self, Case, Outcome};
 use compare::judge::{self, Tally, judge};
 use compare::random::Random;
 use compare::{
-    accesses, cursors, draw, every, free, imports, lines, logs, machines, meters, players, reasons, sheets, stored,
+    accesses, cursors, draw, every, folds, free, imports, lines, logs, machines, meters, players, reasons, sheets,
+    stored,
 };
 use reading::{Chip, MEMORY};
 use std::process::ExitCode;
@@ -175,6 +176,7 @@ fn compare(asked: &Asked) -> bool {
     part("texts", &mut || free::texts(seed, asked.each));
     part("cursors", &mut || cursors::compare(seed, asked.each / 2));
     part("players", &mut || players::compare(seed, asked.each / 2, &memory));
+    part("folds", &mut || folds::compare(seed, asked.logs, &memory));
     part("imports", &mut || imports::compare(seed, asked.each / 2));
     good
 }

@@ -2,7 +2,7 @@
 
 use perch::raw;
 use reading::log::{self, Fault, Item, Line};
-use reading::{MEMORY, number, play};
+use reading::{MEMORY, fold, number, play};
 use std::path::{Path, PathBuf};
 
 /// The most steps that a cursor takes in a log that is refused.
@@ -83,9 +83,9 @@ pub fn text(log: &str, sample: &str) -> Result<String, String> {
     Ok(play::text(&read(log)?, &read(sample)?))
 }
 
-/// What `crates/test_logs/stdout` holds: of each log the check, some items, some bodies, and a cursor's way.
+/// What `crates/test_logs/stdout` holds: of each log the check, some items, some bodies, a cursor's way, and the log folded.
 pub fn judged(folder: &str) -> Result<String, String> {
-    Ok(logs(folder)?.iter().map(|(name, log)| format!("log={name}\n{}", judged_log(log))).collect())
+    Ok(logs(folder)?.iter().map(|(name, log)| format!("log={name}\n{}{}", judged_log(log), fold_lines(log))).collect())
 }
 
 fn judged_log(log: &[u8]) -> String {
@@ -107,6 +107,17 @@ fn judged_log(log: &[u8]) -> String {
             check + &item_line(0, Err(fault)) + &body_line(log, 6) + &cursor_line(log, MOST_STEPS)
         }
     }
+}
+
+/// A log folded into a buffer that holds every log, and into one that holds none: the answer, and a sum of the buffer.
+fn fold_lines(log: &[u8]) -> String {
+    let line = |room: usize| {
+        let mut text = vec![0; room];
+        let answer = fold::fold(log, &mut text);
+        let sum = text.iter().fold(0u32, |sum, &byte| sum.wrapping_mul(31).wrapping_add(byte.into()));
+        format!("fold={}:{} length={} sum={sum}\n", answer as u8, answer >> 8 & 0xff_ffff, answer >> 32)
+    };
+    line(log::MOST_BYTES) + &line(9)
 }
 
 fn item_line(k: u64, item: Result<Item, Fault>) -> String {

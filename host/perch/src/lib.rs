@@ -51,6 +51,12 @@
 //! ```
 //!
 //! ```
+//! let folded = perch::fold(b"log=1\nwait=9\nwait=9\nwait=9\nwait=9\nwait=9\nstop=45\n")?;
+//! assert_eq!(folded, b"log=1\nloop=5\nwait=9\ndone=loop\nstop=45\n");
+//! # Ok::<(), perch::Fault>(())
+//! ```
+//!
+//! ```
 //! # use perch::Access::Write;
 //! let mut chip = perch::Chip::power_on(perch::Machine::Pal);
 //! assert_eq!(chip.why(perch::Channel::Square1)?.to_string(), "not enabled");
@@ -87,7 +93,7 @@ mod why;
 
 pub use access::{Access, Accessed};
 pub use cursor::{CURSOR, Cursor, Found, all_items};
-pub use log::{Checked, Fault, Item, LOG, Player, body, check, import, item, items, refusal_text, turns};
+pub use log::{Checked, Fault, Item, LOG, Player, body, check, fold, import, item, items, refusal_text, turns};
 pub use meter::{Meter, meter, meter_records};
 pub use sheet::sheet;
 pub use why::{Channel, Why};
@@ -101,7 +107,7 @@ pub const MEMORY: usize = 32_768;
 pub const STATE: usize = 91;
 
 /// The version of the header that this wraps; the library's is `version()`.
-pub const VERSION: u32 = 5;
+pub const VERSION: u32 = 6;
 
 /// The version of the library linked. One of another version has other sizes, layouts or functions.
 pub fn version() -> u32 {
@@ -148,6 +154,7 @@ impl fmt::Display for Refusal {
             27 => "the stream ends before $66",
             28 => "the log is longer than the buffer or 60,000 bytes",
             29 => "a level above 32,767",
+            32 => "the buffer is shorter than the log to be folded",
             number => return write!(f, "refusal {number}"),
         })
     }

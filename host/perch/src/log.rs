@@ -108,6 +108,14 @@ pub fn import(stream: &[u8]) -> Result<Vec<u8>, Fault> {
     }
 }
 
+/// A log folded: its equal lines in a row are loops; it stands for the same and isn't longer.
+pub fn fold(log: &[u8]) -> Result<Vec<u8>, Fault> {
+    let mut text = vec![0; log.len()];
+    let length = value(raw::fold(log, &mut text))?;
+    text.truncate(length as usize);
+    Ok(text)
+}
+
 /// The text that the player writes for a fault.
 pub fn refusal_text(fault: Fault) -> Vec<u8> {
     let mut text = vec![0; 40];

@@ -7,7 +7,7 @@
 
 #[cfg(not(archive))]
 use standin::{
-    perch_access, perch_begin, perch_body, perch_check, perch_clock, perch_import, perch_in_range,
+    perch_access, perch_begin, perch_body, perch_check, perch_clock, perch_fold, perch_import, perch_in_range,
     perch_interrupt_line, perch_item, perch_level, perch_level_fraction, perch_meter, perch_meter_records,
     perch_play_on, perch_player_size, perch_power_on, perch_refusal_text, perch_run, perch_run_plain, perch_sheet,
     perch_state_size, perch_why,
@@ -61,6 +61,7 @@ unsafe extern "C" {
     ) -> u64;
     fn perch_refusal_text(number: u8, place: u64, text: *mut u8, t: usize) -> u64;
     fn perch_import(stream: *const u8, n: usize, text: *mut u8, t: usize) -> u64;
+    fn perch_fold(log: *const u8, n: usize, text: *mut u8, t: usize) -> u64;
     fn perch_why(state: *const u8, n: usize, channel: u64) -> u64;
     fn perch_meter(levels: *const u32, n: usize) -> u64;
     fn perch_meter_records(words: *const u32, w: usize, start: u64, count: u64, before: u64) -> u64;
@@ -193,6 +194,11 @@ pub fn refusal_text(number: u8, place: u64, text: &mut [u8]) -> u64 {
 /// Writes the log of a VGM command stream.
 pub fn import(stream: &[u8], text: &mut [u8]) -> u64 {
     unsafe { perch_import(stream.as_ptr(), stream.len(), text.as_mut_ptr(), text.len()) }
+}
+
+/// Writes a log folded; the value is its length.
+pub fn fold(log: &[u8], text: &mut [u8]) -> u64 {
+    unsafe { perch_fold(log.as_ptr(), log.len(), text.as_mut_ptr(), text.len()) }
 }
 
 /// Why a channel is silent: the reason's number, or 16 + the channel's number where it sounds.

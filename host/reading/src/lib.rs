@@ -10,6 +10,7 @@ pub mod boundary;
 pub mod bytes;
 pub mod chip;
 pub mod cursor;
+pub mod fold;
 pub mod layout;
 pub mod log;
 pub mod machine;
@@ -90,4 +91,6 @@ pub mod number {
     pub const ROOM: u8 = 28;
     /// A level above 32,767.
     pub const LEVEL: u8 = 29;
+    /// A buffer shorter than the log to be folded.
+    pub const FOLD_ROOM: u8 = 32;
 }

@@ -273,7 +273,7 @@ fn totals(lines: &[Placed]) -> Totals {
 }
 
 /// The lines of a log that passes, with its totals; or its fault.
-fn passed(log: &[u8]) -> Result<(Vec<Placed>, Totals), Fault> {
+pub fn passed(log: &[u8]) -> Result<(Vec<Placed>, Totals), Fault> {
     let lines = lines(log)?;
     let totals = totals(&lines);
     let Some((Line::Stop(stop), place)) = lines.last().cloned() else { unreachable!("stop is the last line") };

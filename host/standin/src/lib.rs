@@ -8,7 +8,7 @@
 //! two of them overlap.
 #![allow(clippy::missing_safety_doc, missing_docs)]
 
-use reading::{access, boundary, cursor as cursors, layout, meter, mixer, player as pieces, sheet, vgm, why};
+use reading::{access, boundary, cursor as cursors, fold, layout, meter, mixer, player as pieces, sheet, vgm, why};
 use std::slice::{from_raw_parts, from_raw_parts_mut};
 
 #[cfg_attr(feature = "export", unsafe(no_mangle))]
@@ -131,6 +131,11 @@ pub unsafe extern "C" fn perch_refusal_text(number: u8, place: u64, text: *mut u
 #[cfg_attr(feature = "export", unsafe(no_mangle))]
 pub unsafe extern "C" fn perch_import(stream: *const u8, n: usize, text: *mut u8, t: usize) -> u64 {
     unsafe { vgm::import(from_raw_parts(stream, n), from_raw_parts_mut(text, t)) }
+}
+
+#[cfg_attr(feature = "export", unsafe(no_mangle))]
+pub unsafe extern "C" fn perch_fold(log: *const u8, n: usize, text: *mut u8, t: usize) -> u64 {
+    unsafe { fold::fold(from_raw_parts(log, n), from_raw_parts_mut(text, t)) }
 }
 
 #[cfg_attr(feature = "export", unsafe(no_mangle))]
