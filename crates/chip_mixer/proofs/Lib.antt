@@ -1,3 +1,4 @@
 pub mod TableLaws
 pub mod FractionLaws
 pub mod LevelLaws
+pub mod PartLaws

@@ -1,3 +1,4 @@
 pub mod Fraction
 pub mod Mixer
+pub mod Parts
 pub mod Table

@@ -7,7 +7,8 @@ ghost use lib.ListN.{getD};
 ghost use lib.Ieee as Ieee;
 ghost use lib.Ieee.{binary32};
 ghost use lib.Ieee.Exact.{HasValue};
-ghost use Rattle.chip_mixer.specs.Mixer.{squaresLevel, weight, restLevel, mixed};
+ghost use Rattle.chip_mixer.specs.Mixer.{squaresLevel, mixed};
+ghost use Rattle.chip_mixer.specs.Parts.{othersWeight, restBy, mixedBy};
 ghost use Rattle.chip_mixer.specs.Table.{squaresTable};
 ghost use Rattle.chip_mixer.specs.Fraction.{scale, fractionOf};
 
@@ -59,30 +60,36 @@ fn squares(sum: u64) -> u64
     squares_entry(sum)
 }
 
-// N: the weight of triangle, noise and DMC.
-fn weight_of(t: u64, n: u64, d: u64) -> u64
-    requires { ⌜ (t ≤ 15) × (n ≤ 15) × (d ≤ 127) ⌝ }
-    ensures { λ r. ⌜ r ≡ weight t n d ⌝ }
+// The part of noise and DMC in N.
+pub fn others_weight(n: u32, d: u32) -> u64
+    ensures { λ r. ⌜ r ≡ othersWeight n d ⌝ }
 {
-    t * (12241 * 22638) + (n * (8227 * 22638) + d * (8227 * 12241))
+    (n % 16) as u64 * (8227 * 22638) + (d % 128) as u64 * (8227 * 12241)
 }
 
-// B: the share of triangle, noise and DMC.
-fn rest(t: u64, n: u64, d: u64) -> u64
-    requires { ⌜ (t ≤ 15) × (n ≤ 15) × (d ≤ 127) ⌝ }
-    ensures { λ r. ⌜ r ≡ restLevel t n d ⌝ }
+// B: the share of triangle, noise and DMC, by the parts of N.
+fn rest(t: u32, others: u64) -> u64
+    ensures { λ r. ⌜ r ≡ restBy (t + others % 17179869184) ⌝ }
 {
-    let w = weight_of(t, n, d);
+    let w = t as u64 + others % 17179869184;
     32768 * 15979 * w / (100 * (8227 * 12241 * 22638) + 10000 * w)
+}
+
+// The level by the parts of N, for a caller who has them.
+pub fn mix_by(a: u32, b: u32, t: u32, others: u64) -> u16
+    ensures { λ r. ⌜ r ≡ mixedBy a b t others ⌝ }
+{
+    let s = squares((a % 16) as u64 + (b % 16) as u64);
+    let r = rest(t, others);
+    (s + r) as u16
 }
 
 // The level.
 pub fn mix(a: u32, b: u32, t: u32, n: u32, d: u32) -> u16
     ensures { λ r. ⌜ r ≡ mixed a b t n d ⌝ }
 {
-    let s = squares((a % 16) as u64 + (b % 16) as u64);
-    let r = rest((t % 16) as u64, (n % 16) as u64, (d % 128) as u64);
-    (s + r) as u16
+    let others = others_weight(n, d);
+    mix_by(a, b, t % 16 * (12241 * 22638), others)
 }
 
 // A level over 32,768. It is exact, and times 32,768 it is the level again.
