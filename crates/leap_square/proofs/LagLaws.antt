@@ -1,13 +1,15 @@
--- A square as a stretch keeps it, at its next change: swapped, it is what is kept of the square turned. Assumes nothing.
-use Prim.Native.Nat.{ℕ, _+_, _%_, _≤_}
+-- A square as a stretch keeps it, at its next change: with the other number it is what is kept of the square turned. Assumes nothing.
+use Prim.Native.Nat.{ℕ, _+_, _-_, _*_, _/_, _%_, _≤_}
 use mathlib.Core.Path.{_≡_, refl, sym, ap, _∙_}
 use native.Mathlib.Omega.{arith}
+use lib.Dec.{eqb}
+use borrow.Author.Tests.{eq-eqb, ne-eqb}
 use Rattle.divider.specs.Divider.{forever}
 use Rattle.leap_square.specs.Leap.{squareStill, beatGives, beatTurned}
-use Rattle.leap_square.specs.Lag.{squareSpan, squareLag}
+use Rattle.leap_square.specs.Lag.{squareSpan, runWord, squareKept, squareLag, squareLagOut, runThen, squareRenewed}
 use Rattle.leap_square.specs.declared.Beat.{Beat}
 use Rattle.leap_square.specs.declared.SquareLag.{SquareLag}
-use Rattle.leap_square.proofs.LeapLaws.{BeatRanged, square-still-most}
+use Rattle.leap_square.proofs.LeapLaws.{BeatRanged, square-still-most, gives-most}
 use Rattle.leap_square.proofs.RoundLaws.{turned-again, gives-again}
 
 -- what the field holds of a span is all of it
@@ -17,16 +19,78 @@ span-is row amount b r =
     let m : squareStill row amount b ≤ forever = square-still-most row amount b r in
     omega arith
 
+span-most : (row amount : ℕ) (b : Beat) → squareSpan row amount b ≤ 4294967295
+unfolding squareSpan
+span-most row amount b = omega arith
+
 turned-ranged : (row : ℕ) (b : Beat) → BeatRanged b → BeatRanged (beatTurned row b)
 unfolding beatTurned
 turned-ranged row b r =
     record { n-from = r .n-from; n-to = r .n-to; count-from = r .n-from; count-to = r .n-to; steps = omega arith }
 
--- AT ITS NEXT CHANGE
-pub swapped : (row amount : ℕ) (b : Beat) → BeatRanged b → (at e : ℕ) (l : SquareLag) → l ≡ squareLag row amount b at
-    → record { next = e + l .span; out = l .other; other = l .out; span = l .after; after = l .span } ≡ squareLag row amount (beatTurned row b) e
-unfolding squareLag
-swapped row amount b r at e l q =
-    let s = squareStill row amount (beatTurned row b) in
-    let z : e + (s + 1) ≡ e + s + 1 = omega arith in
-    rw (q, gives-again row b (r .steps) amount, turned-again row b (r .steps), span-is row amount (beatTurned row b) (turned-ranged row b r), z) refl
+-- the two halves of the number kept
+word-out : (out span : ℕ) → span ≤ 4294967295 → runWord out span / 4294967296 ≡ out
+unfolding runWord
+word-out out span h = omega arith
+
+word-span : (out span : ℕ) → span ≤ 4294967295 → runWord out span % 4294967296 ≡ span
+unfolding runWord
+word-span out span h = omega arith
+
+word-most : (out span : ℕ) → out ≤ 4294967295 → span ≤ 4294967295 → runWord out span ≤ 18446744073709551615
+unfolding runWord
+word-most out span h m = omega arith
+
+-- the other number, from the sum
+other : (x y : ℕ) → x ≤ 18446744073709551615 → y ≤ 18446744073709551615 → runThen ((x + y) % 18446744073709551616) x ≡ y
+unfolding runThen
+other x y h m = omega arith
+
+-- what is kept gives what the square gives
+pub kept-gives : (row amount : ℕ) (b : Beat) (at : ℕ) → squareLagOut (squareLag row amount b at) ≡ beatGives row amount b
+unfolding squareLagOut squareLag squareKept
+kept-gives row amount b at = word-out (beatGives row amount b) (squareSpan row amount (beatTurned row b)) (span-most row amount (beatTurned row b))
+
+kept-most : (row amount : ℕ) → amount ≤ 4294967295 → (b : Beat) → squareKept row amount b ≤ 18446744073709551615
+unfolding squareKept
+kept-most row amount h b =
+    let g = gives-most row amount b in
+    word-most (beatGives row amount b) (squareSpan row amount (beatTurned row b)) (omega arith) (span-most row amount (beatTurned row b))
+
+same-lag : {n n₁ k k₁ b b₁ : ℕ} → n ≡ n₁ → k ≡ k₁ → b ≡ b₁
+    → _≡_ {A = SquareLag} (record { next = n; kept = k; both = b }) (record { next = n₁; kept = k₁; both = b₁ })
+same-lag p q r = rw (p, q, r) refl
+
+module _ (row amount : ℕ) (few : amount ≤ 4294967295) (b : Beat) (r : BeatRanged b) where
+  again : squareKept row amount (beatTurned row (beatTurned row b)) ≡ squareKept row amount b
+  unfolding squareKept
+  again = rw (gives-again row b (r .steps) amount, turned-again row b (r .steps)) refl
+
+  ends : (e : ℕ) → e + squareKept row amount b % 4294967296 ≡ e + squareStill row amount (beatTurned row b) + 1
+  unfolding squareKept
+  ends e =
+      let z = word-span (beatGives row amount b) (squareSpan row amount (beatTurned row b)) (span-most row amount (beatTurned row b)) in
+      let s = span-is row amount (beatTurned row b) (turned-ranged row b r) in
+      omega (arith, z, s)
+
+  -- AT ITS NEXT CHANGE
+  pub turned-lag : (at e : ℕ) (l : SquareLag) → l ≡ squareLag row amount b at
+      → _≡_ {A = SquareLag} (record { next = e + l .kept % 4294967296; kept = runThen (l .both) (l .kept); both = l .both }) (squareLag row amount (beatTurned row b) e)
+  unfolding squareLag
+  turned-lag at e l q =
+      let x = squareKept row amount b in
+      let y = squareKept row amount (beatTurned row b) in
+      let z : (x + y) % 18446744073709551616 ≡ (y + x) % 18446744073709551616 = ap (λ (k : ℕ). k % 18446744073709551616) (omega arith) in
+      rw q
+      (same-lag (ends e) (other x y (kept-most row amount few b) (kept-most row amount few (beatTurned row b)))
+      (z ∙ ap (λ (k : ℕ). (y + k) % 18446744073709551616) (sym again)))
+
+-- a square at its next change, and at any other clock
+pub renewed-due : (l : SquareLag) (e : ℕ) → l .next ≡ e
+    → squareRenewed l e ≡ record { next = e + l .kept % 4294967296; kept = runThen (l .both) (l .kept); both = l .both }
+unfolding squareRenewed
+renewed-due l e q = rw (eq-eqb (l .next) e q) refl
+
+pub renewed-waits : (l : SquareLag) (e : ℕ) → (l .next ≡ e → ⊥) → squareRenewed l e ≡ l
+unfolding squareRenewed
+renewed-waits l e q = rw (ne-eqb (l .next) e q) refl

@@ -21,6 +21,7 @@ use Rattle.chip.specs.declared.State.{State}
 use Rattle.chip.proofs.RangeLaws.{StateRanged, noise-period-range, dmc-period-range}
 use Rattle.leap_chip.specs.Between.{stateWith}
 use Rattle.leap_chip.proofs.BetweenLaws.{between}
+use Rattle.leap_square.specs.Lag.{squareLagOut}
 use Rattle.leap_square.specs.declared.SquareLag.{SquareLag}
 use Rattle.leap_triangle.specs.declared.TriangleLag.{TriangleLag}
 use Rattle.leap_noise.specs.declared.lag.NoiseLag.{NoiseLag}
@@ -58,7 +59,7 @@ pub record Lagging (memory : List ℕ) (s : State) (l : Lags) : Type 0 where
   pub dmc : DmcKept memory (dmcPeriod (s .pal) (s .dmc .registers .index)) (s .dmc) (l .now) (l .dmc)
   pub soon : l .soon ≡ sooner (sooner (l .square1 .next) (l .square2 .next)) (l .triangle .next)
   pub next : l .next ≡ sooner (l .soon) (sooner (l .noise .next) (l .dmc .next))
-  pub level : l .level ≡ mixed (l .square1 .out) (l .square2 .out) (triangleAt (l .triangle .position)) (l .noise .out) (l .dmc .out)
+  pub level : l .level ≡ mixed (squareLagOut (l .square1)) (squareLagOut (l .square2)) (triangleAt (l .triangle .position)) (l .noise .out) (l .dmc .out)
 
 -- the start of a stretch
 pub lagging-start : (memory : List ℕ) (s : State) → Lagging memory s (lagsOf s)
@@ -77,7 +78,7 @@ lagging-start memory s =
 
 module _ (memory : List ℕ) (s : State) (l : Lags) (g : Lagging memory s l) where
   -- the next event is past now, and no channel's own is before it
-  soon-past : l .now < l .soon
+  pub soon-past : l .now < l .soon
   soon-past =
       rw (g .soon)
       (sooner-past (l .now) (sooner (l .square1 .next) (l .square2 .next)) (l .triangle .next)

@@ -7,7 +7,7 @@ use lib.Dec.{ltb, eqb}
 use Rattle.arith.specs.Pick.{pick}
 use Rattle.chip_square.specs.Square.{squareAmount}
 use Rattle.leap_square.specs.Leap.{beatOf, withBeat, dutyRow, beatAdvanced}
-use Rattle.leap_square.specs.Lag.{squareLag, squareRenewed}
+use Rattle.leap_square.specs.Lag.{squareLag, squareLagOut, squareRenewed}
 use Rattle.leap_triangle.specs.Leap.{triangleGate, triangleBeatOf, triangleWithBeat, triangleBeatAdvanced}
 use Rattle.leap_triangle.specs.Lag.{triangleLag, triangleRenewed}
 use Rattle.chip_triangle.specs.Triangle.{triangleAt}
@@ -41,7 +41,7 @@ lagsAt a b t n d now =
       now = now;
       soon = sooner (sooner (a .next) (b .next)) (t .next);
       next = sooner (sooner (sooner (a .next) (b .next)) (t .next)) (sooner (n .next) (d .next));
-      level = mixed (a .out) (b .out) (triangleAt (t .position)) (n .out) (d .out);
+      level = mixed (squareLagOut a) (squareLagOut b) (triangleAt (t .position)) (n .out) (d .out);
     }
 
 -- at the start of a stretch

@@ -1,2 +1,3 @@
 pub mod Lagged
 pub mod Lag
+pub mod Voices

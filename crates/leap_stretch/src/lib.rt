@@ -2,8 +2,12 @@
 ghost use mathlib.Core.Path.{_≡_};
 ghost use mathlib.Core.List.{List};
 ghost use Prim.Native.Nat.{ℕ};
+ghost use lib.ListN.{getD};
 ghost use Rattle.leap_chip.specs.Between.{stateWith};
-ghost use Rattle.leap_stretch.specs.Lagged.{sooner, lagsAt, lagsOf, renewed, soundsRenewed, voicesRenewed, stateAt};
+ghost use Rattle.chip_mixer.specs.Parts.{triangleWeight, othersWeight};
+ghost use Rattle.chip_triangle.specs.Triangle.{triangleAt};
+ghost use Rattle.leap_stretch.specs.Lagged.{sooner, lagsAt, lagsOf, renewed, soundsRenewed, stateAt};
+ghost use Rattle.leap_stretch.specs.Voices.{weightTable, squaresAt, squaresTurned, voicesOf, voicesAfter, voicesLevel, lagsWith};
 use chip::State;
 use leap_dmc::lag::DmcLag;
 use leap_noise::lag::NoiseLag;
@@ -38,7 +42,9 @@ fn lags_at(a: SquareLag, b: SquareLag, t: TriangleLag, n: NoiseLag, d: DmcLag, a
     let nd = sooner_of(n.next, d.next);
     let next = sooner_of(soon, nd);
     let value = t.gives();
-    let level = chip_mixer::mix(a.out, b.out, value, n.out as u32, d.out as u32);
+    let out1 = a.out();
+    let out2 = b.out();
+    let level = chip_mixer::mix(out1, out2, value, n.out as u32, d.out as u32);
     Lags {
         square1: a,
         square2: b,
@@ -104,16 +110,160 @@ pub fn renew_sounds(l: Lags, e: u32) -> Lags
     lags_at(l.square1, l.square2, l.triangle, n, l.dmc, e)
 }
 
-// The same with noise and DMC left as they are, for an event at which neither is due.
-pub fn renew_voices(l: Lags, e: u32) -> Lags
-    ensures { λ r. ⌜ r ≡ voicesRenewed l e ⌝ }
+// The two squares and the clock of their next event.
+pub struct Squares {
+    pub first: SquareLag,
+    pub second: SquareLag,
+    pub next: u64,
+}
+
+// Squares and triangle by themselves, for the events at which neither noise nor DMC is due.
+pub struct Voices {
+    pub squares: Squares,
+    pub triangle: TriangleLag,
+    pub now: u32,
+    pub next: u64,
+}
+
+fn squares_at(a: SquareLag, b: SquareLag) -> Squares
+    ensures { λ r. ⌜ r ≡ squaresAt a b ⌝ }
 {
-    let a = l.square1.renewed(e);
-    let b = l.square2.renewed(e);
-    let t = l.triangle.renewed(e);
+    let next = sooner_of(a.next, b.next);
+    Squares {
+        first: a,
+        second: b,
+        next: next,
+    }
+}
+
+pub fn voices_of(l: Lags) -> Voices
+    ensures { λ r. ⌜ r ≡ voicesOf l ⌝ }
+{
+    let q = squares_at(l.square1, l.square2);
+    let t = l.triangle;
+    Voices {
+        squares: q,
+        triangle: t,
+        now: l.now,
+        next: l.soon,
+    }
+}
+
+// The part of noise and DMC in the level.
+pub fn others_of(l: Lags) -> u64
+    ensures { λ r. ⌜ r ≡ othersWeight (l .noise .out) (l .dmc .out) ⌝ }
+{
     let n = l.noise;
     let d = l.dmc;
-    lags_at(a, b, t, n, d, e)
+    chip_mixer::others_weight(n.out as u32, d.out as u32)
+}
+
+// The triangle's part in the level, for each position. A match becomes one load.
+fn weight_entry(p: u32) -> u32
+    ensures { λ r. ⌜ r ≡ getD weightTable p 0 ⌝ }
+{
+    match p {
+        0 => 4156676370,
+        1 => 3879564612,
+        2 => 3602452854,
+        3 => 3325341096,
+        4 => 3048229338,
+        5 => 2771117580,
+        6 => 2494005822,
+        7 => 2216894064,
+        8 => 1939782306,
+        9 => 1662670548,
+        10 => 1385558790,
+        11 => 1108447032,
+        12 => 831335274,
+        13 => 554223516,
+        14 => 277111758,
+        15 => 0,
+        16 => 0,
+        17 => 277111758,
+        18 => 554223516,
+        19 => 831335274,
+        20 => 1108447032,
+        21 => 1385558790,
+        22 => 1662670548,
+        23 => 1939782306,
+        24 => 2216894064,
+        25 => 2494005822,
+        26 => 2771117580,
+        27 => 3048229338,
+        28 => 3325341096,
+        29 => 3602452854,
+        30 => 3879564612,
+        31 => 4156676370,
+        _ => 0,
+    }
+}
+
+fn weight_at(position: u32) -> u32
+    ensures { λ r. ⌜ r ≡ triangleWeight (triangleAt position) ⌝ }
+{
+    weight_entry(position % 32)
+}
+
+impl Squares {
+    fn turned(self, e: u32) -> Squares
+        ensures { λ r. ⌜ r ≡ squaresTurned self e ⌝ }
+    {
+        let a = self.first.renewed(e);
+        let b = self.second.renewed(e);
+        squares_at(a, b)
+    }
+}
+
+impl Voices {
+    // The event at clock e.
+    pub fn renewed(self, e: u32) -> Voices
+        ensures { λ r. ⌜ r ≡ voicesAfter self e ⌝ }
+    {
+        let q = self.squares.turned(e);
+        let t = self.triangle.renewed(e);
+        let next = sooner_of(q.next, t.next);
+        Voices {
+            squares: q,
+            triangle: t,
+            now: e,
+            next: next,
+        }
+    }
+
+    // The level, with the part of noise and DMC.
+    pub fn level(self, others: u64) -> u16
+        ensures { λ r. ⌜ r ≡ voicesLevel self others ⌝ }
+    {
+        let a = self.squares.first.out();
+        let b = self.squares.second.out();
+        let t = weight_at(self.triangle.position);
+        chip_mixer::mix_by(a, b, t, others)
+    }
+}
+
+// The channels with squares and triangle as they are after events of theirs alone.
+pub fn lags_with(l: Lags, v: Voices, level: u16) -> Lags
+    ensures { λ r. ⌜ r ≡ lagsWith l v level ⌝ }
+{
+    let slow = sooner_of(l.noise.next, l.dmc.next);
+    let next = sooner_of(v.next, slow);
+    let a = v.squares.first;
+    let b = v.squares.second;
+    let t = v.triangle;
+    let n = l.noise;
+    let d = l.dmc;
+    Lags {
+        square1: a,
+        square2: b,
+        triangle: t,
+        noise: n,
+        dmc: d,
+        now: v.now,
+        soon: v.next,
+        next: next,
+        level: level,
+    }
 }
 
 fn state_with(

@@ -21,7 +21,11 @@ use Rattle.chip.specs.declared.State.{State}
 use Rattle.chip.proofs.RangeLaws.{StateRanged, state-in, state-back, clock-kept}
 use Rattle.leap_stretch.specs.Lagged.{sooner, lagsAt, lagsOf, renewedWith, renewed, voicesRenewed, stateAt}
 use Rattle.leap_stretch.specs.declared.Lags.{Lags}
-use Rattle.leap_stretch.proofs.LaggedLaws.{sooner-most, Lagging, lagging-start, next-past, next-soon, lagging-renewed, lagging-level, lagging-state, event-level}
+use Rattle.leap_stretch.specs.Voices.{voicesOf, voicesAfter, voicesLevel, lagsWith}
+use Rattle.leap_stretch.specs.declared.Voices.{Voices}
+use Rattle.leap_stretch.proofs.VoiceLaws.{voices-start, event-of-voices}
+use Rattle.chip_mixer.specs.Parts.{othersWeight}
+use Rattle.leap_stretch.proofs.LaggedLaws.{sooner-most, Lagging, lagging-start, soon-past, next-past, next-soon, lagging-renewed, lagging-level, lagging-state, event-level}
 use Rattle.leap_stretch.proofs.WaitLaws.{voices-renewed}
 use Rattle.run_answer.specs.Run.{roomOf, stored}
 use Rattle.run_answer.specs.Held.{Held}
@@ -283,7 +287,7 @@ pub voices-next : (memory : List ℕ) (s : State) (end base from records : ℕ) 
     → Worked memory s end base from records before words l n → l .soon < l .noise .next → l .soon < l .dmc .next → l .next ≡ l .soon
 voices-next memory s end base from records before words l n w p q = next-soon memory s l (w .standing .lagging) p q
 
-pub voices-event : (memory : List ℕ) (bytes : Bytes memory) (s : State) (end base from records : ℕ) (before words : List ℕ) (l : Lags) (n : ℕ)
+voices-event : (memory : List ℕ) (bytes : Bytes memory) (s : State) (end base from records : ℕ) (before words : List ℕ) (l : Lags) (n : ℕ)
     → Worked memory s end base from records before words l n → l .soon ≤ end → l .soon < l .noise .next → l .soon < l .dmc .next
     → n < roomOf words → (after : Lags) → after ≡ voicesRenewed l (l .soon) → (now : List ℕ) (m : ℕ)
     → m ≡ pick (eqb (after .level) (l .level)) n (n + 1)
@@ -295,6 +299,30 @@ voices-event memory bytes s end base from records before words l n w h p q room 
     (y ∙ voices-renewed memory l (l .soon) refl p q ∙ ap (renewed memory l) (sym z)) now m c
     (d ∙ ap (λ (k : ℕ). pick (eqb (after .level) (l .level)) words (stored words n (base + k) (after .level))) (sym z))
 
-pub voices-now : (l : Lags) (e : ℕ) → voicesRenewed l e .now ≡ e
-unfolding voicesRenewed lagsAt
-voices-now l e = refl
+-- squares and triangle by themselves, before any event of theirs
+pub voices-none : (memory : List ℕ) (s : State) (end base : ℕ) (words : List ℕ) (first : Lags) (n : ℕ) → Standing memory s end base words first n
+    → Worked memory s end base (first .now) n words words (lagsWith first (voicesOf first) (first .level)) n
+voices-none memory s end base words first n g =
+    rw (voices-start first (g .lagging .next)) (worked-none memory s end base words first n g)
+
+module _ (memory : List ℕ) (bytes : Bytes memory) (s : State) (end base from records : ℕ) (before words : List ℕ) (first : Lags) (v : Voices) (level n : ℕ)
+    (w : Worked memory s end base from records before words (lagsWith first v level) n) where
+  -- their next event is past now
+  pub voices-past : v .now < v .next
+  unfolding lagsWith
+  voices-past = soon-past memory s (lagsWith first v level) (w .standing .lagging)
+
+  -- ONE EVENT OF THEIRS, with its record where the level is another
+  pub voices-worked : v .next ≤ end → v .next < first .noise .next → v .next < first .dmc .next → n < roomOf words
+      → (after : Voices) → after ≡ voicesAfter v (v .next) → (lv : ℕ) → lv ≡ voicesLevel after (othersWeight (first .noise .out) (first .dmc .out))
+      → (now : List ℕ) (m : ℕ) → m ≡ pick (eqb lv level) n (n + 1) → now ≡ pick (eqb lv level) words (stored words n (base + v .next) lv)
+      → Worked memory s end base from records before now (lagsWith first after lv) m
+  unfolding lagsWith
+  voices-worked h p q room after y lv z now m c d =
+      voices-event memory bytes s end base from records before words (lagsWith first v level) n w h p q room (lagsWith first after lv)
+      (rw (z, y) (event-of-voices first v level (v .next))) now m c d
+
+-- an event of theirs is at the clock that was their next
+pub voices-now : (v : Voices) (e : ℕ) → voicesAfter v e .now ≡ e
+unfolding voicesAfter
+voices-now v e = refl

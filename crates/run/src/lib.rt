@@ -87,14 +87,20 @@ fn voices_on(
     ensures { λ r. ⌜ Worked (now (memory .entry)) s end base (first .now) records (now (words .entry)) (now (words .exit)) (r .lags) (r .records) ⌝ }
 {
     let room = words.len() / 2;
-    let mut l = first;
+    let until = voices_until(first, end);
+    let others = leap_stretch::others_of(first);
+    let mut v = leap_stretch::voices_of(first);
+    let mut level = first.level;
     let mut n = records;
-    while goes(l.soon, voices_until(l, end), n, room) {
-        let e = l.soon as u32;
-        let r = leap_stretch::renew_voices(l, e);
-        n = mark(words, n, base + e, r.level, l.level);
-        l = r;
+    while goes(v.next, until, n, room) {
+        let e = v.next as u32;
+        let r = v.renewed(e);
+        let after = r.level(others);
+        n = mark(words, n, base + e, after, level);
+        v = r;
+        level = after;
     }
+    let l = leap_stretch::lags_with(first, v, level);
     Part {
         lags: l,
         records: n,

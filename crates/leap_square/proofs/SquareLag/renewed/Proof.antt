@@ -1,22 +1,24 @@
-use borrow.Author.Needs.{needs}
-use borrow.Author.Tests.{eq-eqb, ne-eqb}
 use Rattle.leap_square.specs.Lag.{squareRenewed}
+use borrow.Author.Needs.{needs}
 use Rattle.leap_square.proofs.SquareLag.renewed.Statement.{statement}
 use Rattle.leap_square.proofs.SquareLag.renewed.Tie as tie
 
-cast-t6 : tie.Need-cast-t6
-cast-t6 c = search needs
+then-requires : tie.Need-then-requires
+then-requires c κs = search needs
 
-add-t7 : tie.Need-add-t7
-add-t7 c = search needs
+add-pick-u64 : tie.Need-add-pick-u64
+add-pick-u64 c = search needs
+
+pick-u64-requires : tie.Need-pick-u64-requires
+pick-u64-requires c κs = search needs
+
+pick-u64-requires-2 : tie.Need-pick-u64-requires-2
+pick-u64-requires-2 c κs = search needs
 
 returns : tie.Need-returns
 unfolding squareRenewed
-returns c = simp (eq-eqb _ _ (c .before .if1 .taken))
-
-returns-2 : tie.Need-returns-2
-unfolding squareRenewed
-returns-2 c = simp (ne-eqb _ _ (c .if1 .left))
+returns c = simp (c .pick-u642 .ensures, c .before .pick-u64 .ensures, c .before .before .before .then .ensures)
 
 pub renewed-spec : {M : Type 1} → statement M
-renewed-spec = tie.close (tie.spec cast-t6 add-t7 returns returns-2)
+renewed-spec =
+    tie.close (tie.spec then-requires add-pick-u64 pick-u64-requires pick-u64-requires-2 returns)

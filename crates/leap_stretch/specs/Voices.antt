@@ -1,0 +1,59 @@
+-- Helper: nobody has to believe this; squares and triangle by themselves, as the innermost loop keeps them; proved to be the same events (proofs/VoiceLaws).
+use Prim.Native.Nat.{ℕ}
+use mathlib.Core.List.{List, [], _∷_}
+use Rattle.leap_square.specs.Lag.{squareLagOut, squareRenewed}
+use Rattle.leap_triangle.specs.Lag.{triangleRenewed}
+use Rattle.chip_triangle.specs.Triangle.{triangleAt}
+use Rattle.chip_mixer.specs.Parts.{triangleWeight, mixedBy}
+use Rattle.leap_square.specs.declared.SquareLag.{SquareLag}
+use Rattle.leap_stretch.specs.Lagged.{sooner}
+use Rattle.leap_stretch.specs.declared.Squares.{Squares}
+use Rattle.leap_stretch.specs.declared.Voices.{Voices}
+use Rattle.leap_stretch.specs.declared.Lags.{Lags}
+
+-- the table that the code looks the triangle's part in N up in, by its position
+abbrev pub weightTable : List ℕ
+weightTable =
+    4156676370 ∷ 3879564612 ∷ 3602452854 ∷ 3325341096 ∷ 3048229338 ∷ 2771117580 ∷ 2494005822 ∷ 2216894064 ∷
+    1939782306 ∷ 1662670548 ∷ 1385558790 ∷ 1108447032 ∷ 831335274 ∷ 554223516 ∷ 277111758 ∷ 0 ∷
+    0 ∷ 277111758 ∷ 554223516 ∷ 831335274 ∷ 1108447032 ∷ 1385558790 ∷ 1662670548 ∷ 1939782306 ∷
+    2216894064 ∷ 2494005822 ∷ 2771117580 ∷ 3048229338 ∷ 3325341096 ∷ 3602452854 ∷ 3879564612 ∷ 4156676370 ∷ []
+
+unfoldable pub squaresAt : SquareLag → SquareLag → Squares
+squaresAt a b = record { first = a; second = b; next = sooner (a .next) (b .next) }
+
+unfoldable pub squaresTurned : Squares → ℕ → Squares
+squaresTurned q e = squaresAt (squareRenewed (q .first) e) (squareRenewed (q .second) e)
+
+unfoldable pub voicesOf : Lags → Voices
+voicesOf l = record { squares = squaresAt (l .square1) (l .square2); triangle = l .triangle; now = l .now; next = l .soon }
+
+-- their event at clock e
+unfoldable pub voicesAfter : Voices → ℕ → Voices
+voicesAfter v e =
+    record {
+      squares = squaresTurned (v .squares) e;
+      triangle = triangleRenewed (v .triangle) e;
+      now = e;
+      next = sooner (squaresTurned (v .squares) e .next) (triangleRenewed (v .triangle) e .next);
+    }
+
+-- the level, with the part of noise and DMC
+unfoldable pub voicesLevel : Voices → ℕ → ℕ
+voicesLevel v others =
+    mixedBy (squareLagOut (v .squares .first)) (squareLagOut (v .squares .second)) (triangleWeight (triangleAt (v .triangle .position))) others
+
+-- the channels with squares and triangle as they are then
+unfoldable pub lagsWith : Lags → Voices → ℕ → Lags
+lagsWith l v level =
+    record {
+      square1 = v .squares .first;
+      square2 = v .squares .second;
+      triangle = v .triangle;
+      noise = l .noise;
+      dmc = l .dmc;
+      now = v .now;
+      soon = v .next;
+      next = sooner (v .next) (sooner (l .noise .next) (l .dmc .next));
+      level = level;
+    }
