@@ -1,10 +1,12 @@
 -- Squares and triangle by themselves: their events are the channels' events. Assumes nothing.
-use Prim.Native.Nat.{ℕ, _%_, _≤_}
+use Prim.Native.Nat.{ℕ, _%_, _≤_, _<_}
 use mathlib.Core.Path.{_≡_, refl, sym, ap, _∙_}
-use mathlib.Core.Bool.{Bool}
+use mathlib.Core.Bool.{Bool, true, false}
 use native.Mathlib.Omega.{arith}
 use lib.Dec.{T, eqb, eqb→eq}
 use lib.ListN.{getD}
+use borrow.Author.Tests.{eqb-false}
+use Rattle.arith.specs.Pick.{pick}
 use Rattle.arith.specs.Table.{every}
 use Rattle.arith.proofs.TableLaws.{at}
 use Rattle.chip_mixer.specs.Mixer.{mixed}
@@ -12,9 +14,12 @@ use Rattle.chip_mixer.specs.Parts.{triangleWeight, othersWeight, mixedBy}
 use Rattle.chip_mixer.proofs.PartLaws.{parts}
 use Rattle.chip_triangle.specs.Triangle.{triangleAt}
 use Rattle.leap_square.specs.Lag.{squareLagOut, squareRenewed}
+use Rattle.leap_square.proofs.LagLaws.{renewed-waits}
 use Rattle.leap_triangle.specs.Lag.{triangleRenewed}
+use Rattle.leap_stretch.proofs.LaggedLaws.{sooner-most}
 use Rattle.leap_stretch.specs.Lagged.{sooner, lagsAt, voicesRenewed}
-use Rattle.leap_stretch.specs.Voices.{weightTable, squaresAt, squaresTurned, voicesOf, voicesAfter, voicesLevel, lagsWith}
+use Rattle.leap_stretch.specs.Voices.{weightTable, squaresAt, squaresTurned, squaresAfter, voicesOf, voicesTo, voicesAfter, voicesLevel, lagsWith}
+use Rattle.leap_stretch.specs.declared.Squares.{Squares}
 use Rattle.leap_stretch.specs.declared.Voices.{Voices}
 use Rattle.leap_stretch.specs.declared.Lags.{Lags}
 
@@ -53,12 +58,63 @@ voices-start l q =
       level = l .level;
     }) (sym q)
 
--- AN EVENT OF THEIRS
-pub event-of-voices : (l : Lags) (v : Voices) (level e : ℕ)
-    → lagsWith l (voicesAfter v e) (voicesLevel (voicesAfter v e) (othersWeight (l .noise .out) (l .dmc .out))) ≡ voicesRenewed (lagsWith l v level) e
-unfolding lagsWith voicesAfter voicesLevel squaresTurned squaresAt voicesRenewed lagsAt
-event-of-voices l v level e =
-    let p = parts (squareLagOut (squareRenewed (v .squares .first) e)) (squareLagOut (squareRenewed (v .squares .second) e))
-    (triangleAt (triangleRenewed (v .triangle) e .position)) (l .noise .out) (l .dmc .out)
-    in
-    rw p refl
+-- squares that aren't due stay
+module _ (q : Squares) (w : q .next ≡ sooner (q .first .next) (q .second .next)) (e : ℕ) where
+  turned-waits : e < q .next → squaresTurned q e ≡ q
+  unfolding squaresTurned squaresAt
+  turned-waits h =
+      let m = sooner-most (q .first .next) (q .second .next) in
+      let x : q .first .next ≡ e → ⊥ = λ z. omega (arith, m) in
+      let y : q .second .next ≡ e → ⊥ = λ z. omega (arith, m) in
+      rw (renewed-waits (q .first) e x, renewed-waits (q .second) e y)
+      (ap (λ (n : ℕ). record { first = q .first; second = q .second; next = n }) (sym w))
+
+  -- whether they are looked at or not
+  pub squares-after : (each : Bool) → e ≤ q .next → squaresAfter q each e ≡ squaresTurned q e
+  unfolding squaresAfter
+  squares-after true h = refl
+  squares-after false h = go (eqb (q .next) e) refl
+    where
+      go : (t : Bool) → eqb (q .next) e ≡ t → pick t (squaresTurned q e) q ≡ squaresTurned q e
+      go true z = refl
+      go false z = let ne : q .next ≡ e → ⊥ = eqb-false (q .next) e z in sym (turned-waits (omega arith))
+
+-- their next event is their squares' or their triangle's
+pub record Sound (v : Voices) : Type 0 where
+  pub squares : v .squares .next ≡ sooner (v .squares .first .next) (v .squares .second .next)
+  pub next : v .next ≤ v .squares .next
+
+pub sound-start : (l : Lags) → l .soon ≡ sooner (sooner (l .square1 .next) (l .square2 .next)) (l .triangle .next) → Sound (voicesOf l)
+unfolding voicesOf squaresAt
+sound-start l q =
+    record { squares = refl; next = rw q (sooner-most (sooner (l .square1 .next) (l .square2 .next)) (l .triangle .next) .0) }
+
+module _ (v : Voices) (s : Sound v) (each : Bool) where
+  voices-after : voicesAfter v each (v .next) ≡ voicesTo (squaresTurned (v .squares) (v .next)) v (v .next)
+  unfolding voicesAfter
+  voices-after = ap (λ (q : Squares). voicesTo q v (v .next)) (squares-after (v .squares) (s .squares) (v .next) each (s .next))
+
+  turned-sound : Sound (voicesTo (squaresTurned (v .squares) (v .next)) v (v .next))
+  unfolding voicesTo squaresTurned squaresAt
+  turned-sound = record { squares = refl; next = sooner-most _ _ .0 }
+
+  pub sound-after : Sound (voicesAfter v each (v .next))
+  sound-after = rw voices-after turned-sound
+
+  turned-event : (l : Lags) (level : ℕ)
+      → lagsWith l (voicesTo (squaresTurned (v .squares) (v .next)) v (v .next))
+      (voicesLevel (voicesTo (squaresTurned (v .squares) (v .next)) v (v .next)) (othersWeight (l .noise .out) (l .dmc .out)))
+      ≡ voicesRenewed (lagsWith l v level) (v .next)
+  unfolding lagsWith voicesTo voicesLevel squaresTurned squaresAt voicesRenewed lagsAt
+  turned-event l level =
+      let e = v .next in
+      let p = parts (squareLagOut (squareRenewed (v .squares .first) e)) (squareLagOut (squareRenewed (v .squares .second) e))
+      (triangleAt (triangleRenewed (v .triangle) e .position)) (l .noise .out) (l .dmc .out)
+      in
+      rw p refl
+
+  -- AN EVENT OF THEIRS
+  pub event-of-voices : (l : Lags) (level : ℕ)
+      → lagsWith l (voicesAfter v each (v .next)) (voicesLevel (voicesAfter v each (v .next)) (othersWeight (l .noise .out) (l .dmc .out)))
+      ≡ voicesRenewed (lagsWith l v level) (v .next)
+  event-of-voices l level = rw voices-after (turned-event l level)

@@ -1,6 +1,9 @@
 -- Helper: nobody has to believe this; squares and triangle by themselves, as the innermost loop keeps them; proved to be the same events (proofs/VoiceLaws).
 use Prim.Native.Nat.{ℕ}
 use mathlib.Core.List.{List, [], _∷_}
+use mathlib.Core.Bool.{Bool}
+use lib.Dec.{eqb}
+use Rattle.arith.specs.Pick.{pick, either}
 use Rattle.leap_square.specs.Lag.{squareLagOut, squareRenewed}
 use Rattle.leap_triangle.specs.Lag.{triangleRenewed}
 use Rattle.chip_triangle.specs.Triangle.{triangleAt}
@@ -28,15 +31,17 @@ squaresTurned q e = squaresAt (squareRenewed (q .first) e) (squareRenewed (q .se
 unfoldable pub voicesOf : Lags → Voices
 voicesOf l = record { squares = squaresAt (l .square1) (l .square2); triangle = l .triangle; now = l .now; next = l .soon }
 
--- their event at clock e
-unfoldable pub voicesAfter : Voices → ℕ → Voices
-voicesAfter v e =
-    record {
-      squares = squaresTurned (v .squares) e;
-      triangle = triangleRenewed (v .triangle) e;
-      now = e;
-      next = sooner (squaresTurned (v .squares) e .next) (triangleRenewed (v .triangle) e .next);
-    }
+-- looked at where `each`, else only where one of them is due
+unfoldable pub squaresAfter : Squares → Bool → ℕ → Squares
+squaresAfter q each e = pick (either each (eqb (q .next) e)) (squaresTurned q e) q
+
+-- their event at clock e, with the squares as they are then
+unfoldable pub voicesTo : Squares → Voices → ℕ → Voices
+voicesTo q v e =
+    record { squares = q; triangle = triangleRenewed (v .triangle) e; now = e; next = sooner (q .next) (triangleRenewed (v .triangle) e .next) }
+
+unfoldable pub voicesAfter : Voices → Bool → ℕ → Voices
+voicesAfter v each e = voicesTo (squaresAfter (v .squares) each e) v e
 
 -- the level, with the part of noise and DMC
 unfoldable pub voicesLevel : Voices → ℕ → ℕ

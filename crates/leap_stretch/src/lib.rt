@@ -7,7 +7,7 @@ ghost use Rattle.leap_chip.specs.Between.{stateWith};
 ghost use Rattle.chip_mixer.specs.Parts.{triangleWeight, othersWeight};
 ghost use Rattle.chip_triangle.specs.Triangle.{triangleAt};
 ghost use Rattle.leap_stretch.specs.Lagged.{sooner, lagsAt, lagsOf, renewed, soundsRenewed, stateAt};
-ghost use Rattle.leap_stretch.specs.Voices.{weightTable, squaresAt, squaresTurned, voicesOf, voicesAfter, voicesLevel, lagsWith};
+ghost use Rattle.leap_stretch.specs.Voices.{weightTable, squaresAt, squaresTurned, squaresAfter, voicesOf, voicesAfter, voicesLevel, lagsWith};
 use chip::State;
 use leap_dmc::lag::DmcLag;
 use leap_noise::lag::NoiseLag;
@@ -213,14 +213,25 @@ impl Squares {
         let b = self.second.renewed(e);
         squares_at(a, b)
     }
+
+    // Looked at where `each`, else only where one of them is due.
+    fn renewed(self, each: bool, e: u32) -> Squares
+        ensures { λ r. ⌜ r ≡ squaresAfter self each e ⌝ }
+    {
+        let due = arith::either_of(each, self.next == e as u64);
+        if due {
+            return self.turned(e);
+        }
+        self
+    }
 }
 
 impl Voices {
-    // The event at clock e.
-    pub fn renewed(self, e: u32) -> Voices
-        ensures { λ r. ⌜ r ≡ voicesAfter self e ⌝ }
+    // The event at clock e. To look at squares that aren't due is cheaper than a wrong guess, but dear where the triangle changes at nearly each clock.
+    pub fn renewed(self, each: bool, e: u32) -> Voices
+        ensures { λ r. ⌜ r ≡ voicesAfter self each e ⌝ }
     {
-        let q = self.squares.turned(e);
+        let q = self.squares.renewed(each, e);
         let t = self.triangle.renewed(e);
         let next = sooner_of(q.next, t.next);
         Voices {

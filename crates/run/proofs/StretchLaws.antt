@@ -21,9 +21,9 @@ use Rattle.chip.specs.declared.State.{State}
 use Rattle.chip.proofs.RangeLaws.{StateRanged, state-in, state-back, clock-kept}
 use Rattle.leap_stretch.specs.Lagged.{sooner, lagsAt, lagsOf, renewedWith, renewed, voicesRenewed, stateAt}
 use Rattle.leap_stretch.specs.declared.Lags.{Lags}
-use Rattle.leap_stretch.specs.Voices.{voicesOf, voicesAfter, voicesLevel, lagsWith}
+use Rattle.leap_stretch.specs.Voices.{voicesOf, voicesTo, voicesAfter, voicesLevel, lagsWith}
 use Rattle.leap_stretch.specs.declared.Voices.{Voices}
-use Rattle.leap_stretch.proofs.VoiceLaws.{voices-start, event-of-voices}
+use Rattle.leap_stretch.proofs.VoiceLaws.{Sound, sound-after, voices-start, event-of-voices}
 use Rattle.chip_mixer.specs.Parts.{othersWeight}
 use Rattle.leap_stretch.proofs.LaggedLaws.{sooner-most, Lagging, lagging-start, soon-past, next-past, next-soon, lagging-renewed, lagging-level, lagging-state, event-level}
 use Rattle.leap_stretch.proofs.WaitLaws.{voices-renewed}
@@ -313,16 +313,19 @@ module _ (memory : List ℕ) (bytes : Bytes memory) (s : State) (end base from r
   voices-past = soon-past memory s (lagsWith first v level) (w .standing .lagging)
 
   -- ONE EVENT OF THEIRS, with its record where the level is another
-  pub voices-worked : v .next ≤ end → v .next < first .noise .next → v .next < first .dmc .next → n < roomOf words
-      → (after : Voices) → after ≡ voicesAfter v (v .next) → (lv : ℕ) → lv ≡ voicesLevel after (othersWeight (first .noise .out) (first .dmc .out))
+  pub voices-worked : Sound v → v .next ≤ end → v .next < first .noise .next → v .next < first .dmc .next → n < roomOf words
+      → (each : Bool) (after : Voices) → after ≡ voicesAfter v each (v .next) → (lv : ℕ) → lv ≡ voicesLevel after (othersWeight (first .noise .out) (first .dmc .out))
       → (now : List ℕ) (m : ℕ) → m ≡ pick (eqb lv level) n (n + 1) → now ≡ pick (eqb lv level) words (stored words n (base + v .next) lv)
       → Worked memory s end base from records before now (lagsWith first after lv) m
   unfolding lagsWith
-  voices-worked h p q room after y lv z now m c d =
+  voices-worked g h p q room each after y lv z now m c d =
       voices-event memory bytes s end base from records before words (lagsWith first v level) n w h p q room (lagsWith first after lv)
-      (rw (z, y) (event-of-voices first v level (v .next))) now m c d
+      (rw (z, y) (event-of-voices v g each first level)) now m c d
 
 -- an event of theirs is at the clock that was their next
-pub voices-now : (v : Voices) (e : ℕ) → voicesAfter v e .now ≡ e
-unfolding voicesAfter
-voices-now v e = refl
+pub voices-now : (v : Voices) (each : Bool) (e : ℕ) → voicesAfter v each e .now ≡ e
+unfolding voicesAfter voicesTo
+voices-now v each e = refl
+
+pub voices-sound : (v : Voices) → Sound v → (each : Bool) (after : Voices) → after ≡ voicesAfter v each (v .next) → Sound after
+voices-sound v s each after q = rw q (sound-after v s each)

@@ -89,12 +89,13 @@ fn voices_on(
     let room = words.len() / 2;
     let until = voices_until(first, end);
     let others = leap_stretch::others_of(first);
+    let each = 8 < first.triangle.still;
     let mut v = leap_stretch::voices_of(first);
     let mut level = first.level;
     let mut n = records;
     while goes(v.next, until, n, room) {
         let e = v.next as u32;
-        let r = v.renewed(e);
+        let r = v.renewed(each, e);
         let after = r.level(others);
         n = mark(words, n, base + e, after, level);
         v = r;
