@@ -89,7 +89,7 @@ fn voices_on(
     let room = words.len() / 2;
     let until = voices_until(first, end);
     let others = leap_stretch::others_of(first);
-    let each = 8 < first.triangle.still;
+    let each = 64 < first.triangle.still;
     let mut v = leap_stretch::voices_of(first);
     let mut level = first.level;
     let mut n = records;
