@@ -3,61 +3,23 @@ ghost use mathlib.Core.Path.{_≡_};
 ghost use mathlib.Core.Bool.{true};
 ghost use mathlib.Core.List.{List};
 ghost use Prim.Native.Nat.{ℕ, _+_, _-_, _/_, _≤_, _<_};
-ghost use lib.Dec.{eqb, ltb};
+ghost use lib.Dec.{eqb};
 ghost use lib.ListN.{length};
-ghost use Rattle.arith.specs.Pick.{pick, both};
+ghost use Rattle.arith.specs.Pick.{pick};
 ghost use Rattle.leap_stretch.specs.Lagged.{sooner};
 ghost use Rattle.chip.specs.Leap.{beforeStep};
 ghost use Rattle.chip.specs.Range.{inRange};
 ghost use Rattle.run_answer.specs.Run.{answer, answered, lent, readBy, over, flat, stored};
-ghost use Rattle.run.specs.Stretch.{Standing, Worked, stretchEnd, Stretched};
+ghost use Rattle.run_stretch.specs.Stretch.{Standing, Worked, stretchEnd, Stretched};
 use chip::State;
 use leap_stretch::Lags;
 use run_answer::Ran;
-
-// What working a stretch came to: its clocks, or those before an event for whose record there is no room.
-pub struct Stretch {
-    pub state: State,
-    pub clocks: u32,
-    pub records: u32,
-    pub level: u16,
-}
+use run_stretch::Stretch;
 
 // The channels after some events, and the records written so far.
 pub struct Part {
     pub lags: Lags,
     pub records: u32,
-}
-
-fn soonest(x: u64, y: u64) -> u64
-    ensures { λ r. ⌜ r ≡ sooner x y ⌝ }
-{
-    if x < y { x } else { y }
-}
-
-// Up to where only squares and triangle are due.
-fn voices_until(l: Lags, end: u32) -> u64
-    ensures { λ r. ⌜ r ≡ sooner (sooner (l .noise .next) (l .dmc .next)) (end + 1) ⌝ }
-    ensures { λ r. ⌜ (r ≤ l .noise .next) × (r ≤ l .dmc .next) × (r ≤ end + 1) ⌝ }
-{
-    let slow = soonest(l.noise.next, l.dmc.next);
-    soonest(slow, end as u64 + 1)
-}
-
-// Up to where the DMC is not due.
-fn sounds_until(l: Lags, end: u32) -> u64
-    ensures { λ r. ⌜ r ≡ sooner (l .dmc .next) (end + 1) ⌝ }
-    ensures { λ r. ⌜ (r ≤ l .dmc .next) × (r ≤ end + 1) ⌝ }
-{
-    soonest(l.dmc.next, end as u64 + 1)
-}
-
-// Whether the next event is before `until` and there is room for its record.
-fn goes(next: u64, until: u64, n: u32, room: usize) -> bool
-    ensures { λ r. ⌜ r ≡ both (ltb next until) (ltb n room) ⌝ }
-    ensures { λ r. ⌜ (r ≡ true → (next < until) × (n < room)) ⌝ }
-{
-    arith::both_of(next < until, (n as usize) < room)
 }
 
 // Record n, where the level is another than it was; the records then.
@@ -87,13 +49,13 @@ fn voices_on(
     ensures { λ r. ⌜ Worked (now (memory .entry)) s end base (first .now) records (now (words .entry)) (now (words .exit)) (r .lags) (r .records) ⌝ }
 {
     let room = words.len() / 2;
-    let until = voices_until(first, end);
+    let until = run_stretch::voices_until(first, end);
     let others = leap_stretch::others_of(first);
     let each = 64 < first.triangle.still;
     let mut v = leap_stretch::voices_of(first);
     let mut level = first.level;
     let mut n = records;
-    while goes(v.next, until, n, room) {
+    while run_stretch::goes(v.next, until, n, room) {
         let e = v.next as u32;
         let r = v.renewed(each, e);
         let after = r.level(others);
@@ -124,7 +86,7 @@ fn sounds_on(
     let room = words.len() / 2;
     let mut l = first;
     let mut n = records;
-    while goes(l.next, sounds_until(l, end), n, room) {
+    while run_stretch::goes(l.next, run_stretch::sounds_until(l, end), n, room) {
         let e = l.next as u32;
         let r = leap_stretch::renew_sounds(l, e);
         let m = mark(words, n, base + e, r.level, l.level);
@@ -168,7 +130,7 @@ fn stretch_on(
     let room = words.len() / 2;
     let mut l = leap_stretch::lags_of(s);
     let mut n = records;
-    while goes(l.next, end as u64 + 1, n, room) {
+    while run_stretch::goes(l.next, end as u64 + 1, n, room) {
         let e = l.next as u32;
         let r = leap_stretch::renew(l, memory, e);
         let m = mark(words, n, base + e, r.level, l.level);

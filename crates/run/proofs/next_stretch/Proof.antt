@@ -4,8 +4,8 @@ use native.Mathlib.Omega.{arith}
 use borrow.Author.Needs.{needs}
 use Rattle.chip.specs.Leap.{beforeStep}
 use Rattle.leap_stretch.specs.Lagged.{sooner}
-use Rattle.run.specs.Stretch.{stretchEnd}
-use Rattle.run.proofs.StretchLaws.{stretch-most}
+use Rattle.run_stretch.specs.Stretch.{stretchEnd}
+use Rattle.run_stretch.proofs.StretchLaws.{stretch-most}
 use Rattle.run.proofs.next_stretch.Statement.{statement}
 use Rattle.run.proofs.next_stretch.Tie as tie
 

@@ -7,8 +7,8 @@ use Rattle.leap_stretch.specs.Voices.{voicesLevel, lagsWith}
 use Rattle.leap_stretch.specs.declared.Voices.{Voices}
 use Rattle.leap_stretch.proofs.VoiceLaws.{Sound, sound-start}
 use Rattle.run_answer.specs.Run.{roomOf}
-use Rattle.run.specs.Stretch.{Standing, Worked}
-use Rattle.run.proofs.StretchLaws.{voices-none, voices-past, voices-worked, voices-now, voices-sound}
+use Rattle.run_stretch.specs.Stretch.{Standing, Worked}
+use Rattle.run_stretch.proofs.StretchLaws.{voices-none, voices-past, voices-worked, voices-now, voices-sound}
 use Rattle.run.proofs.voices_on.Statement.{statement}
 use Rattle.run.proofs.voices_on.Tie as tie
 

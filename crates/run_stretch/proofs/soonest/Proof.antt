@@ -1,8 +1,8 @@
 use mathlib.Core.Path.{refl}
 use borrow.Author.Tests.{lt-ltb, le-ltb}
 use Rattle.leap_stretch.specs.Lagged.{sooner}
-use Rattle.run.proofs.soonest.Statement.{statement}
-use Rattle.run.proofs.soonest.Tie as tie
+use Rattle.run_stretch.proofs.soonest.Statement.{statement}
+use Rattle.run_stretch.proofs.soonest.Tie as tie
 
 returns : tie.Need-returns
 unfolding sooner

@@ -1,6 +1,6 @@
-use Rattle.run.proofs.StretchLaws.{goes-on}
-use Rattle.run.proofs.goes.Statement.{statement}
-use Rattle.run.proofs.goes.Tie as tie
+use Rattle.run_stretch.proofs.StretchLaws.{goes-on}
+use Rattle.run_stretch.proofs.goes.Statement.{statement}
+use Rattle.run_stretch.proofs.goes.Tie as tie
 
 returns : tie.Need-returns
 returns c =

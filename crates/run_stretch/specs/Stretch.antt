@@ -16,7 +16,7 @@ use Rattle.leap_stretch.proofs.LaggedLaws.{Lagging}
 use Rattle.run_answer.specs.Held.{Held}
 use Rattle.chip.specs.declared.State.{State}
 use Rattle.leap_stretch.specs.declared.Lags.{Lags}
-use Rattle.run.specs.declared.Stretch.{Stretch}
+use Rattle.run_stretch.specs.declared.Stretch.{Stretch}
 
 -- At clock `l .now` of a stretch of at most `end` clocks that began in s with `base` clocks done; n records are written.
 pub record Standing (memory : List ℕ) (s : State) (end base : ℕ) (words : List ℕ) (l : Lags) (n : ℕ) : Type 0 where

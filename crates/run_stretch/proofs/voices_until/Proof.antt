@@ -2,9 +2,9 @@ use mathlib.Core.Path.{_∙_, ap}
 use Prim.Native.Nat.{ℕ, _+_}
 use borrow.Author.Needs.{needs}
 use Rattle.leap_stretch.specs.Lagged.{sooner}
-use Rattle.run.proofs.StretchLaws.{voices-most}
-use Rattle.run.proofs.voices_until.Statement.{statement}
-use Rattle.run.proofs.voices_until.Tie as tie
+use Rattle.run_stretch.proofs.StretchLaws.{voices-most}
+use Rattle.run_stretch.proofs.voices_until.Statement.{statement}
+use Rattle.run_stretch.proofs.voices_until.Tie as tie
 
 add-soonest : tie.Need-add-soonest
 add-soonest c = search needs

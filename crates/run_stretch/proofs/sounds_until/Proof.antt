@@ -1,8 +1,8 @@
 use Prim.Native.Nat.{_+_}
 use borrow.Author.Needs.{needs}
-use Rattle.run.proofs.StretchLaws.{sounds-most}
-use Rattle.run.proofs.sounds_until.Statement.{statement}
-use Rattle.run.proofs.sounds_until.Tie as tie
+use Rattle.run_stretch.proofs.StretchLaws.{sounds-most}
+use Rattle.run_stretch.proofs.sounds_until.Statement.{statement}
+use Rattle.run_stretch.proofs.sounds_until.Tie as tie
 
 add-soonest : tie.Need-add-soonest
 add-soonest c = search needs
