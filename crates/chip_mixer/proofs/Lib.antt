@@ -1,4 +1,4 @@
 pub mod TableLaws
 pub mod FractionLaws
 pub mod LevelLaws
-pub mod PartLaws
+pub mod PartsLaws

@@ -1,8 +1,7 @@
 -- A square as a stretch keeps it, at its next change: with the other number it is what is kept of the square turned. Assumes nothing.
-use Prim.Native.Nat.{ℕ, _+_, _-_, _*_, _/_, _%_, _≤_}
+use Prim.Native.Nat.{ℕ, _+_, _/_, _%_, _≤_}
 use mathlib.Core.Path.{_≡_, refl, sym, ap, _∙_}
 use native.Mathlib.Omega.{arith}
-use lib.Dec.{eqb}
 use borrow.Author.Tests.{eq-eqb, ne-eqb}
 use Rattle.divider.specs.Divider.{forever}
 use Rattle.leap_square.specs.Leap.{squareStill, beatGives, beatTurned}

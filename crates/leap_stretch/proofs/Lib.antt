@@ -7,4 +7,4 @@ pub mod TriangleLaws
 pub mod TurnLaws
 pub mod WaitLaws
 pub mod LagLaws
-pub mod VoiceLaws
+pub mod VoicesLaws

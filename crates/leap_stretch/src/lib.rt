@@ -117,7 +117,7 @@ pub struct Squares {
     pub next: u64,
 }
 
-// Squares and triangle by themselves, for the events at which neither noise nor DMC is due.
+// Squares and triangle by themselves at clock `now`, for the events at which neither noise nor DMC is due; `next` is the clock of their next one.
 pub struct Voices {
     pub squares: Squares,
     pub triangle: TriangleLag,
@@ -136,6 +136,7 @@ fn squares_at(a: SquareLag, b: SquareLag) -> Squares
     }
 }
 
+// Squares and triangle out of the channels.
 pub fn voices_of(l: Lags) -> Voices
     ensures { λ r. ⌜ r ≡ voicesOf l ⌝ }
 {

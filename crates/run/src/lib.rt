@@ -35,7 +35,8 @@ fn mark(words: &mut [u32], n: u32, clock: u32, level: u16, was: u16) -> u32
     n + 1
 }
 
-// Events of squares and triangle alone: in this loop nothing else moves, so all that it keeps stands in registers.
+// Events of squares and triangle alone: this loop keeps nothing else, so what it keeps stands in registers. Squares are looked at at each event, but
+// where the triangle changes so soon that they seldom are due.
 fn voices_on(
     s: State,
     memory: &[u8],

@@ -23,7 +23,7 @@ use Rattle.leap_stretch.specs.Lagged.{sooner, lagsAt, lagsOf, renewedWith, rene
 use Rattle.leap_stretch.specs.declared.Lags.{Lags}
 use Rattle.leap_stretch.specs.Voices.{voicesOf, voicesTo, voicesAfter, voicesLevel, lagsWith}
 use Rattle.leap_stretch.specs.declared.Voices.{Voices}
-use Rattle.leap_stretch.proofs.VoiceLaws.{Sound, sound-after, voices-start, event-of-voices}
+use Rattle.leap_stretch.proofs.VoicesLaws.{Sound, sound-after, voices-start, event-of-voices}
 use Rattle.chip_mixer.specs.Parts.{othersWeight}
 use Rattle.leap_stretch.proofs.LaggedLaws.{sooner-most, Lagging, lagging-start, soon-past, next-past, next-soon, lagging-renewed, lagging-level, lagging-state, event-level}
 use Rattle.leap_stretch.proofs.WaitLaws.{voices-renewed}

@@ -1,7 +1,6 @@
-use mathlib.Core.Path.{_≡_, sym, ap, _∙_}
-use Prim.Native.Nat.{ℕ}
+use mathlib.Core.Path.{sym, ap, _∙_}
 use Rattle.chip_mixer.specs.Parts.{triangleWeight, mixedBy}
-use Rattle.chip_mixer.proofs.PartLaws.{parts}
+use Rattle.chip_mixer.proofs.PartsLaws.{parts}
 use borrow.Author.Needs.{needs}
 use Rattle.chip_mixer.proofs.mix.Statement.{statement}
 use Rattle.chip_mixer.proofs.mix.Tie as tie

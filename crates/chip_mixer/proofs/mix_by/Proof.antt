@@ -2,7 +2,7 @@ use Prim.Native.Nat.{_%_, _+_, _≤_}
 use native.Mathlib.Omega.{arith}
 use Rattle.chip_mixer.specs.Parts.{mixedBy}
 use Rattle.chip_mixer.proofs.LevelLaws.{squares-most}
-use Rattle.chip_mixer.proofs.PartLaws.{rest-by-most}
+use Rattle.chip_mixer.proofs.PartsLaws.{rest-by-most}
 use borrow.Author.Needs.{needs}
 use Rattle.chip_mixer.proofs.mix_by.Statement.{statement}
 use Rattle.chip_mixer.proofs.mix_by.Tie as tie

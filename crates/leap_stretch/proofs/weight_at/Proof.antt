@@ -1,5 +1,5 @@
 use mathlib.Core.Path.{_∙_}
-use Rattle.leap_stretch.proofs.VoiceLaws.{weight-is}
+use Rattle.leap_stretch.proofs.VoicesLaws.{weight-is}
 use Rattle.leap_stretch.proofs.weight_at.Statement.{statement}
 use Rattle.leap_stretch.proofs.weight_at.Tie as tie
 

@@ -1,11 +1,11 @@
-use Prim.Native.Nat.{ℕ, _+_, _-_, _/_, _≤_, _<_}
+use Prim.Native.Nat.{_+_, _-_}
 use mathlib.Core.Path.{_≡_, refl, ap, _∙_}
 use native.Mathlib.Omega.{arith}
 use Rattle.chip.specs.Range.{Bytes}
 use Rattle.chip.specs.declared.State.{State}
 use Rattle.leap_stretch.specs.Voices.{voicesLevel, lagsWith}
 use Rattle.leap_stretch.specs.declared.Voices.{Voices}
-use Rattle.leap_stretch.proofs.VoiceLaws.{Sound, sound-start}
+use Rattle.leap_stretch.proofs.VoicesLaws.{Sound, sound-start}
 use Rattle.run_answer.specs.Run.{roomOf}
 use Rattle.run_stretch.specs.Stretch.{Standing, Worked}
 use Rattle.run_stretch.proofs.StretchLaws.{voices-none, voices-past, voices-worked, voices-now, voices-sound}

@@ -9,9 +9,8 @@ use borrow.Author.Tests.{eqb-false}
 use Rattle.arith.specs.Pick.{pick}
 use Rattle.arith.specs.Table.{every}
 use Rattle.arith.proofs.TableLaws.{at}
-use Rattle.chip_mixer.specs.Mixer.{mixed}
-use Rattle.chip_mixer.specs.Parts.{triangleWeight, othersWeight, mixedBy}
-use Rattle.chip_mixer.proofs.PartLaws.{parts}
+use Rattle.chip_mixer.specs.Parts.{triangleWeight, othersWeight}
+use Rattle.chip_mixer.proofs.PartsLaws.{parts}
 use Rattle.chip_triangle.specs.Triangle.{triangleAt}
 use Rattle.leap_square.specs.Lag.{squareLagOut, squareRenewed}
 use Rattle.leap_square.proofs.LagLaws.{renewed-waits}
