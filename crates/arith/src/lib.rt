@@ -1,7 +1,7 @@
 // Total leaves on numbers and flags: each has an answer for every value of its types.
 ghost use mathlib.Core.Path.{_≡_};
 ghost use mathlib.Core.Bool.{Bool};
-ghost use Prim.Native.Nat.{ℕ, _-_, _/_, _^_};
+ghost use Prim.Native.Nat.{ℕ, _-_, _/_, _^_, _≤_, min};
 ghost use Rattle.arith.specs.Pick.{pick, both, either};
 ghost use Rattle.arith.specs.Bit.{bitSet};
 
@@ -65,6 +65,40 @@ pub fn wide_u16(x: u8) -> u16
     ensures { λ r. ⌜ r ≡ x ⌝ }
 {
     x as u16
+}
+
+// A byte or a word as 64 bits, with the bound of its type.
+pub fn wide_u8(x: u8) -> u64
+    ensures { λ r. ⌜ r ≡ x ⌝ }
+    ensures { λ r. ⌜ r ≤ 255 ⌝ }
+{
+    x as u64
+}
+
+pub fn wide_u32(x: u32) -> u64
+    ensures { λ r. ⌜ r ≡ x ⌝ }
+    ensures { λ r. ⌜ r ≤ 4294967295 ⌝ }
+{
+    x as u64
+}
+
+// The smaller of two.
+pub fn least_u32(x: u32, y: u32) -> u32
+    ensures { λ r. ⌜ r ≡ min x y ⌝ }
+{
+    if x < y { x } else { y }
+}
+
+pub fn least_u64(x: u64, y: u64) -> u64
+    ensures { λ r. ⌜ r ≡ min x y ⌝ }
+{
+    if x < y { x } else { y }
+}
+
+pub fn least_usize(x: usize, y: usize) -> usize
+    ensures { λ r. ⌜ r ≡ min x y ⌝ }
+{
+    if x < y { x } else { y }
 }
 
 // Shifted right by any number of places.

@@ -15,7 +15,8 @@ use Rattle.chip_api.specs.declared.Moved.{Moved}
 use Rattle.chip_api.specs.declared.Answered.{Answered}
 use Rattle.chip_api.specs.declared.Asserted.{Asserted}
 use Rattle.chip_api.specs.declared.Mixed.{Mixed}
-use Rattle.c_state.specs.Bytes.{stateSize, flagByte, stateOf, stateBytes, isState}
+use Rattle.c_bytes.specs.Fields.{flagByte}
+use Rattle.c_state.specs.Bytes.{stateSize, stateOf, stateBytes, isState}
 
 -- "number + 256 x value"
 abbrev pub packed : ℕ → ℕ → ℕ

@@ -1,6 +1,6 @@
 -- CALL k BEHIND A START GIVES ITEM k OF A LOG THAT PASSES, AND THEN THE END, AGAIN AND AGAIN. Assumes nothing.
-use Prim.Native.Nat.{ℕ, zero, suc, _^_, _≤_, _<_}
-use mathlib.Core.Path.{_≡_, refl, ap, sym, _∙_}
+use Prim.Native.Nat.{ℕ, zero, suc, _≤_, _<_}
+use mathlib.Core.Path.{_≡_, refl, ap, _∙_}
 use mathlib.Core.Bool.{Bool, true, false}
 use mathlib.Core.List.{List, [], _∷_}
 use native.Mathlib.Omega.{arith}
@@ -8,18 +8,17 @@ use borrow.Author.Tests.{eq-eqb, lt-ltb, ltb-true, ltb-false}
 use lib.ListN.{length, getD, drop, drop-of-length-le}
 use lib.Seq.{drop-cons}
 use lib.Dec.{ltb}
-use Rattle.arith.specs.Pick.{pick}
-use Rattle.machine.specs.Saying.{Said, over, on, says, refused, Gives}
+use Rattle.machine.specs.Saying.{over, says, Gives}
 use Rattle.log_line.specs.declared.Act.{Act}
 use Rattle.log_line.specs.declared.Act.the-variants.{Wait}
 use Rattle.log_judge.specs.Tree.{acts}
 use Rattle.log_judge.specs.Whole.{treeOf, checkOf}
-use Rattle.log_parts.specs.Items.{nth, itemOf}
+use Rattle.log_item.specs.Items.{nth, itemOf}
 use Rattle.log_cursor.specs.declared.Cursor.{Cursor}
-use Rattle.log_cursor.specs.Stepping.{told, beginning, stepOf}
+use Rattle.log_cursor.specs.Stepping.{beginning, stepOf}
 use Rattle.log_cursor.proofs.Whole.{cursor-gives}
 use Rattle.c_log.specs.Logs.{logPacked, actValue, itemPacked}
-use Rattle.c_cursor.specs.Cursors.{cursorSize, cursorBytes, cursorOf, cursorEncoded, CursorFits}
+use Rattle.c_cursor.specs.Cursors.{cursorSize, cursorBytes, cursorEncoded, CursorFits}
 use Rattle.c_cursor.specs.Next.{nextIn, nextOf, nextPacked, nextBytes, called}
 use Rattle.c_cursor.proofs.PlaceLaws.{cursor-size}
 use Rattle.c_cursor.proofs.CodeLaws.{written-read}

@@ -1,16 +1,16 @@
 -- A cursor written as bytes is read back, and bytes of a cursor's length are written back as they were. Assumes nothing but the ranges of its types.
-use mathlib.Core.Path.{_≡_, refl, sym, ap, _∙_}
+use mathlib.Core.Path.{_≡_, sym, ap, _∙_}
 use mathlib.Core.List.{List, _++_}
 use Prim.Native.Nat.{ℕ, _+_, _*_, _≤_}
 use native.Mathlib.Omega.{arith}
 use lib.ListN.{length, drop, length-drop}
 use lib.Seq.{take-all}
-use Rattle.c_state.specs.Bytes.{byteOf}
+use Rattle.c_bytes.specs.Fields.{byteOf}
 use Rattle.log_cursor.specs.declared.Cursor.{Cursor}
-use Rattle.c_cursor.specs.Numbers.{wideBytes, widesBytes, wideOf, widesOf}
+use Rattle.c_bytes.specs.Numbers.{wideBytes, widesBytes, wideOf, widesOf}
 use Rattle.c_cursor.specs.Cursors.{cursorSize, cursorBytes, cursorOf, CursorFits}
-use Rattle.c_cursor.proofs.WideLaws.{wide-size, wides-size}
-use Rattle.c_cursor.proofs.NumberLaws.{wide-past, wides-past, wide-read, wides-read, wides-last, widths, cut, wide-most, wides-most, wide-kept, wides-kept}
+use Rattle.c_bytes.proofs.WideLaws.{wide-size, wides-size}
+use Rattle.c_bytes.proofs.NumberLaws.{wide-past, wides-past, wide-read, wides-read, wides-last, widths, cut, wide-most, wides-most, wide-kept, wides-kept}
 
 module _ (c : Cursor) (fits : CursorFits c) where
   at-read : wideOf (cursorBytes c) 0 8 ≡ c .at

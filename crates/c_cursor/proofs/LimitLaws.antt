@@ -1,15 +1,13 @@
 -- What a step finds is within document 01's limits, and the cursor keeps the ranges of its types. Assumes nothing.
 use mathlib.Core.Path.{_≡_, refl}
-use mathlib.Core.Bool.{Bool, true, false}
 use mathlib.Core.List.{List, [], _∷_}
-use Prim.Native.Nat.{ℕ, zero, suc, _+_, _-_, _^_, _≤_, _<_}
+use Prim.Native.Nat.{ℕ, zero, suc, _-_, _^_, _≤_, _<_}
 use native.Mathlib.Omega.{arith}
 use borrow.Author.Tests.{ltb-true, ltb-false, leb-true}
 use lib.ListN.{length, getD, set, length-set}
 use lib.Dec.{eqb, leb, ltb}
-use Rattle.arith.specs.Pick.{pick}
 use Rattle.arith.proofs.PickLaws.{pick-both, pick-each}
-use Rattle.machine.specs.Saying.{Said, over, on, says, refused, Turn}
+use Rattle.machine.specs.Saying.{Said, over, on, refused}
 use Rattle.log_line.specs.declared.Act.{Act}
 use Rattle.log_line.specs.declared.Act.the-variants.{Wait}
 use Rattle.log_line.specs.declared.Line.{Line}
@@ -28,12 +26,13 @@ use Rattle.log_judge.specs.Reading.{taken, standing, readIn}
 use Rattle.log_judge.specs.Tree.{actClocks}
 use Rattle.log_judge.proofs.PlaceLaws.{bytes-long, next-le}
 use Rattle.log_cursor.specs.declared.Cursor.{Cursor}
-use Rattle.log_cursor.specs.declared.Found.{Found}
-use Rattle.log_cursor.specs.Stepping.{Go, go, told, loopsOpen, passed, entered, again, turned, followed, readStep, stepOf}
+use Rattle.log_cursor.specs.Stepping.{Go, go, told, loopsOpen, movedTo, entered, again, turned, followed, readStep, stepOf}
 use Rattle.c_cursor.specs.Cursors.{CursorFits}
 use Rattle.c_cursor.specs.Next.{nextIn, nextOf}
 use Rattle.c_cursor.specs.Limits.{FoundIn}
 use Rattle.c_cursor.proofs.NextLaws.{next-keeps, next-says}
+
+-- A LINE THAT WAS READ
 
 -- a line that was read at a place: within the limits, and so are its place and the next line's; a refusal's place is in the log
 abbrev ReadWithin : ℕ → Reading → Type 0
@@ -71,7 +70,7 @@ allowed (Act.Access x) h = omega arith
 module _ (c : Cursor) where
   turned-says : (d p n : ℕ) → SaidIn (turned c d p n)
   unfolding turned
-  turned-says d p n = pick-both SaidIn (eqb n 0) {a = go on (passed c (d - 1) p)} {b = go on (again c d n)} tt tt
+  turned-says d p n = pick-both SaidIn (eqb n 0) {a = go on (movedTo c (d - 1) p)} {b = go on (again c d n)} tt tt
 
   followed-says : (d p : ℕ) (l : Line) → Printable l → c .at ≤ 60000 → SaidIn (followed c d p l)
   unfolding followed
@@ -116,7 +115,7 @@ module _ (c : Cursor) (f : CursorFits c) where
   unfolding loopsOpen
   open-few = pick-each (λ (d : ℕ). d ≤ 8) (leb (c .depth) 8) (λ e. leb-true (c .depth) 8 e) (λ e. omega arith)
 
-  passed-fits : (d p : ℕ) → d ≤ 8 → p ≤ 60000 → CursorFits (passed c d p)
+  passed-fits : (d p : ℕ) → d ≤ 8 → p ≤ 60000 → CursorFits (movedTo c d p)
   passed-fits d p h k = record { at = omega arith; depth = omega arith; starts = f .starts; left = f .left }
 
   entered-fits : (d p n : ℕ) → d ≤ 8 → p ≤ 60000 → n ≤ 255 → CursorFits (entered c d p n)
@@ -140,7 +139,7 @@ module _ (c : Cursor) (f : CursorFits c) where
   turned-fits : (d p n : ℕ) → d ≤ 8 → p ≤ 60000 → n < 256 → GoFits (turned c d p n)
   unfolding turned
   turned-fits d p n h k m =
-      pick-both GoFits (eqb n 0) {a = go on (passed c (d - 1) p)} {b = go on (again c d n)} (passed-fits (d - 1) p (omega arith) k) (again-fits d n h m)
+      pick-both GoFits (eqb n 0) {a = go on (movedTo c (d - 1) p)} {b = go on (again c d n)} (passed-fits (d - 1) p (omega arith) k) (again-fits d n h m)
 
   followed-fits : (d p : ℕ) (l : Line) → d ≤ 8 → p ≤ 60000 → Printable l → GoFits (followed c d p l)
   unfolding followed
@@ -174,16 +173,13 @@ abbrev Stays : Cursor → Go → Type 0
 Stays c t = t .said ≡ over → t .state ≡ c
 
 module _ (c : Cursor) where
-  speaks : (w : Said Act) (c′ : Cursor) → (w ≡ over → ⊥) → Stays c (go w c′)
-  speaks w c′ n e = absurd (n e)
-
   on-no : {w : Said Act} → w ≡ on → w ≡ over → ⊥
   on-no a b = let z : _≡_ {A = ℕ} 0 1 = cc in omega arith
 
   turned-stays : (d p n : ℕ) → Stays c (turned c d p n)
   unfolding turned
   turned-stays d p n =
-      pick-both (Stays c) (eqb n 0) {a = go on (passed c (d - 1) p)} {b = go on (again c d n)}
+      pick-both (Stays c) (eqb n 0) {a = go on (movedTo c (d - 1) p)} {b = go on (again c d n)}
       (λ e. absurd (on-no refl e)) (λ e. absurd (on-no refl e))
 
   followed-stays : (d p : ℕ) (l : Line) → Stays c (followed c d p l)

@@ -12,21 +12,21 @@ use Rattle.log_line.specs.declared.Act.{Act}
 use Rattle.log_cursor.specs.declared.Cursor.{Cursor}
 use Rattle.log_cursor.specs.declared.Found.{Found}
 use Rattle.log_cursor.specs.declared.Stepped.{Stepped}
-use Rattle.log_cursor.specs.Stepping.{told, stepped, stepOf}
-use Rattle.c_cursor.specs.Next.{ended, nextIn}
+use Rattle.log_cursor.specs.Stepping.{told, steppedOf, stepOf}
+use Rattle.c_cursor.specs.Next.{endedBy, nextIn}
 
 module _ {S A : Type 0} (step : S → Turn S A) where
-  pub turn-on : (s : S) (f : ℕ) → 0 < f → step s .said ≡ on → nextIn step f s ≡ nextIn step (f - 1) (step s .state)
-  unfolding nextIn ended
+  turn-on : (s : S) (f : ℕ) → 0 < f → step s .said ≡ on → nextIn step f s ≡ nextIn step (f - 1) (step s .state)
+  unfolding nextIn endedBy
   turn-on s zero h e = absurd (omega arith)
   turn-on s (suc f) h e = rw (e, sub-one)
 
-  pub turn-said : (s : S) (f : ℕ) → 0 < f → (step s .said ≡ on → ⊥) → nextIn step f s ≡ step s
-  unfolding nextIn ended
+  turn-said : (s : S) (f : ℕ) → 0 < f → (step s .said ≡ on → ⊥) → nextIn step f s ≡ step s
+  unfolding nextIn endedBy
   turn-said s zero h n = absurd (omega arith)
   turn-said s (suc f) h n = go (step s .said) n
     where
-      go : (w : Said A) → (w ≡ on → ⊥) → ended w (step s) (nextIn step f (step s .state)) ≡ step s
+      go : (w : Said A) → (w ≡ on → ⊥) → endedBy w (step s) (nextIn step f (step s .state)) ≡ step s
       go over n = refl
       go on n = absurd (n refl)
       go (says a) n = refl
@@ -39,22 +39,22 @@ module _ {S A : Type 0} (step : S → Turn S A) where
 
   -- what a step says and its state keep, the next keeps
   pub next-keeps : (P : S → Type 0) → ((s : S) → P s → P (step s .state)) → (f : ℕ) (s : S) → P s → P (nextIn step f s .state)
-  unfolding nextIn ended
+  unfolding nextIn endedBy
   next-keeps P k zero s h = h
   next-keeps P k (suc f) s h = go (step s .said) (next-keeps P k f (step s .state) (k s h))
     where
-      go : (w : Said A) → P (nextIn step f (step s .state) .state) → P (ended w (step s) (nextIn step f (step s .state)) .state)
+      go : (w : Said A) → P (nextIn step f (step s .state) .state) → P (endedBy w (step s) (nextIn step f (step s .state)) .state)
       go over r = k s h
       go on r = r
       go (says a) r = k s h
       go (refused n p) r = k s h
 
   pub next-says : (Q : Said A → Type 0) → Q on → ((s : S) → Q (step s .said)) → (f : ℕ) (s : S) → Q (nextIn step f s .said)
-  unfolding nextIn ended
+  unfolding nextIn endedBy
   next-says Q z k zero s = z
   next-says Q z k (suc f) s = go (step s .said) (next-says Q z k f (step s .state))
     where
-      go : (w : Said A) → Q (nextIn step f (step s .state) .said) → Q (ended w (step s) (nextIn step f (step s .state)) .said)
+      go : (w : Said A) → Q (nextIn step f (step s .state) .said) → Q (endedBy w (step s) (nextIn step f (step s .state)) .said)
       go over r = k s
       go on r = r
       go (says a) r = k s
@@ -66,7 +66,7 @@ module _ {S A : Type 0} (step : S → Turn S A) where
     pub left : Gives step (nextIn step f s .state) l m
 
   pub first-in : {s : S} {a : A} {l : List A} {k : ℕ} (m f : ℕ) → k ≤ f → k ≤ m → Gives step s (a ∷ l) k → First s a l m f
-  unfolding nextIn ended
+  unfolding nextIn endedBy
   first-in m zero h q (goes j e g p) = absurd (omega arith)
   first-in m zero h q (gives j e g p) = absurd (omega arith)
   first-in m (suc f) h q (goes j e g p) =
@@ -80,7 +80,7 @@ module _ {S A : Type 0} (step : S → Turn S A) where
     pub left : Gives step (nextIn step f s .state) [] m
 
   pub last-in : ((s : S) → step s .said ≡ over → step s .state ≡ s) → {s : S} {k : ℕ} (m f : ℕ) → k ≤ f → k ≤ m → Gives step s [] k → Last s m f
-  unfolding nextIn ended
+  unfolding nextIn endedBy
   last-in stays m zero h q (ends j e p) = absurd (omega arith)
   last-in stays m zero h q (goes j e g p) = absurd (omega arith)
   last-in stays {s = s} m (suc f) h q (ends j e p) = record { said = rw e; left = rw (e, stays s e) (ends m e (omega arith)) }
@@ -102,11 +102,11 @@ told-no on o e = miss (0 ∷ 2 ∷ 3 ∷ []) 1 tt o
 told-no (says a) o e = let z : _≡_ {A = ℕ} 0 1 = cc in omega arith
 told-no (refused k p) o e = let z : _≡_ {A = ℕ} 0 1 = cc in omega arith
 
-module _ (log : List ℕ) (c : Cursor) (f : ℕ) (s : Stepped) (h : 0 < f) (e : s ≡ stepped (stepOf log c)) where
+module _ (log : List ℕ) (c : Cursor) (f : ℕ) (s : Stepped) (h : 0 < f) (e : s ≡ steppedOf (stepOf log c)) where
   pub find-on : s .found ≡ Found.Moved → nextIn (stepOf log) f c ≡ nextIn (stepOf log) (f - 1) (s .cursor)
   find-on w =
       turn-on (stepOf log) c f h (told-on (stepOf log c .said) (sym (ap (λ (r : Stepped). r .found) e) ∙ w))
       ∙ ap (nextIn (stepOf log) (f - 1)) (sym (ap (λ (r : Stepped). r .cursor) e))
 
-  pub find-said : OneOf (0 ∷ 2 ∷ 3 ∷ []) (tagOf Rattle.log_cursor.proofs.Found.the-type (s .found)) → s ≡ stepped (nextIn (stepOf log) f c)
-  find-said o = e ∙ ap stepped (sym (turn-said (stepOf log) c f h (told-no (stepOf log c .said) (rw e at o))))
+  pub find-said : OneOf (0 ∷ 2 ∷ 3 ∷ []) (tagOf Rattle.log_cursor.proofs.Found.the-type (s .found)) → s ≡ steppedOf (nextIn (stepOf log) f c)
+  find-said o = e ∙ ap steppedOf (sym (turn-said (stepOf log) c f h (told-no (stepOf log c .said) (rw e at o))))

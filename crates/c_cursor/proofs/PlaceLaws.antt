@@ -1,33 +1,15 @@
 -- Parts written one behind the other, and a cursor's parts so written are its bytes. Assumes nothing.
-use mathlib.Core.Path.{_≡_, refl, sym, ap, _∙_}
-use mathlib.Core.List.{List, [], _∷_, _++_, append-nil}
-use Prim.Native.Nat.{ℕ, zero, suc, _+_, _≤_}
+use mathlib.Core.Path.{_≡_, sym, _∙_}
+use mathlib.Core.List.{List, _++_}
+use Prim.Native.Nat.{ℕ, _+_}
 use native.Mathlib.Omega.{arith}
-use lib.ListN.{length, set, length-append, drop-of-length-le}
-use lib.Seq.{sets, sets-eq}
-use Rattle.text_print.proofs.StoreLaws.{sets-append}
+use lib.ListN.{length, length-append}
+use lib.Seq.{sets}
 use Rattle.log_cursor.specs.declared.Cursor.{Cursor}
-use Rattle.c_cursor.specs.Numbers.{wideBytes, widesBytes}
+use Rattle.c_bytes.specs.Numbers.{wideBytes, widesBytes}
 use Rattle.c_cursor.specs.Cursors.{cursorSize, cursorBytes}
-use Rattle.c_cursor.proofs.WideLaws.{wide-size, wides-size}
-
--- nothing is stored past the end
-pub set-past : (l : List ℕ) (i v : ℕ) → length l ≤ i → set l i v ≡ l
-set-past [] i v h = refl
-set-past (x ∷ l) zero v h = absurd (omega arith)
-set-past (x ∷ l) (suc i) v h = ap (λ (r : List ℕ). x ∷ r) (set-past l i v (omega arith))
-
--- a part, and another one behind it
-pub put-next : (u v old b₁ b₂ : List ℕ) (i j : ℕ) → i + length u ≡ j → b₁ ≡ sets old i u → b₂ ≡ sets b₁ j v → b₂ ≡ sets old i (u ++ v)
-put-next u v old b₁ b₂ i j l e f = f ∙ ap (λ (b : List ℕ). sets b j v) e ∙ ap (λ (k : ℕ). sets (sets old i u) k v) (sym l) ∙ sets-append u v old i
-
--- a part that is all
-pub put-all : (u old b : List ℕ) → length u ≡ length old → b ≡ sets old 0 u → b ≡ u
-put-all u old b l e =
-    e
-    ∙ sets-eq u old 0 (omega arith)
-    ∙ ap (λ (r : List ℕ). u ++ r) (drop-of-length-le old {i = 0 + length u} (omega arith))
-    ∙ append-nil u
+use Rattle.c_bytes.proofs.PlaceLaws.{put-next, put-all}
+use Rattle.c_bytes.proofs.WideLaws.{wide-size, wides-size}
 
 -- a cursor
 pub cursor-size : (c : Cursor) → length (c .starts) ≡ 8 → length (c .left) ≡ 8 → length (cursorBytes c) ≡ cursorSize

@@ -7,7 +7,7 @@ use lib.ListN.{length, getD}
 use lib.Dec.{eqb}
 use Rattle.arith.specs.Pick.{pick}
 use Rattle.log_cursor.specs.declared.Cursor.{Cursor}
-use Rattle.c_cursor.specs.Numbers.{wideBytes, widesBytes, wideOf, widesOf}
+use Rattle.c_bytes.specs.Numbers.{wideBytes, widesBytes, wideOf, widesOf}
 
 -- how many bytes a cursor is
 abbrev pub cursorSize : ℕ

@@ -1,4 +1,3 @@
-pub mod Numbers
 pub mod Cursors
 pub mod Next
 pub mod Limits

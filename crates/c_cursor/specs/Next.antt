@@ -9,7 +9,7 @@ use Rattle.machine.specs.Saying.{Said, over, on, says, refused, Turn}
 use Rattle.log_cursor.specs.declared.Cursor.{Cursor}
 use Rattle.log_cursor.specs.declared.Found.{Found}
 use Rattle.log_cursor.specs.declared.Stepped.{Stepped}
-use Rattle.log_cursor.specs.Stepping.{stepped, stepOf, beginning}
+use Rattle.log_cursor.specs.Stepping.{steppedOf, stepOf, beginning}
 use Rattle.c_log.specs.Logs.{logPacked, actValue}
 use Rattle.c_cursor.specs.Cursors.{cursorSize, cursorBytes, cursorOf, cursorEncoded}
 
@@ -23,27 +23,27 @@ startBytes b = cursorEncoded beginning b
 -- THE NEXT ITEM
 
 -- a step that said something ends a search
-unfoldable pub ended : {A B : Type 0} → Said A → B → B → B
-ended over here further = here
-ended on here further = further
-ended (says a) here further = here
-ended (refused k p) here further = here
+unfoldable pub endedBy : {A B : Type 0} → Said A → B → B → B
+endedBy over here further = here
+endedBy on here further = further
+endedBy (says a) here further = here
+endedBy (refused k p) here further = here
 
 -- steps up to the first that says something, at most f of them
 unfoldable pub nextIn : {S A : Type 0} → (S → Turn S A) → ℕ → S → Turn S A
 nextIn step zero s = record { said = on; state = s }
-nextIn step (suc f) s = ended (step s .said) (step s) (nextIn step f (step s .state))
+nextIn step (suc f) s = endedBy (step s .said) (step s) (nextIn step f (step s .state))
 
 -- from a cursor on; a log that passes has no more steps in all
 unfoldable pub nextOf : List ℕ → Cursor → Stepped
-nextOf log c = stepped (nextIn (stepOf log) 2000002 c)
+nextOf log c = steppedOf (nextIn (stepOf log) 2000002 c)
 
 -- "kind x 2^24 + what it holds", as an item's; kind 0, the log's end; kind 4, the cursor has moved and came to no item yet
-abbrev pub foundPacked : Found → ℕ
-foundPacked (Found.Act a) = logPacked 0 0 (actValue a)
-foundPacked Found.End = logPacked 0 0 0
-foundPacked Found.Moved = logPacked 0 0 (4 * 2 ^ 24)
-foundPacked (Found.Refused k p) = logPacked k p 0
+abbrev pub nextFound : Found → ℕ
+nextFound (Found.Act a) = logPacked 0 0 (actValue a)
+nextFound Found.End = logPacked 0 0 0
+nextFound Found.Moved = logPacked 0 0 (4 * 2 ^ 24)
+nextFound (Found.Refused k p) = logPacked k p 0
 
 abbrev pub isRefused : Found → Bool
 isRefused (Found.Act a) = false
@@ -53,14 +53,14 @@ isRefused (Found.Refused k p) = true
 
 -- 2 for another length; then the number and the place of the line that the cursor comes to
 unfoldable pub nextPacked : List ℕ → List ℕ → ℕ
-nextPacked log b = pick (eqb (length b) cursorSize) (foundPacked (nextOf log (cursorOf b) .found)) 2
+nextPacked log b = pick (eqb (length b) cursorSize) (nextFound (nextOf log (cursorOf b) .found)) 2
 
 -- the bytes afterwards: the cursor's where it came to; refused, as they were
-abbrev pub moved : Stepped → List ℕ → List ℕ
-moved s b = pick (isRefused (s .found)) b (cursorBytes (s .cursor))
+abbrev pub cursorMoved : Stepped → List ℕ → List ℕ
+cursorMoved s b = pick (isRefused (s .found)) b (cursorBytes (s .cursor))
 
 unfoldable pub nextBytes : List ℕ → List ℕ → List ℕ
-nextBytes log b = pick (eqb (length b) cursorSize) (moved (nextOf log (cursorOf b)) b) b
+nextBytes log b = pick (eqb (length b) cursorSize) (cursorMoved (nextOf log (cursorOf b)) b) b
 
 -- CALLS: the bytes b behind a start and k calls for the next item, each with the bytes as the one before left them
 unfoldable pub called : List ℕ → ℕ → List ℕ → List ℕ

@@ -1,7 +1,7 @@
 // What a cursor comes to, and its answer.
 ghost use mathlib.Core.Path.{_≡_};
 ghost use lib.Dec.{eqb};
-ghost use Rattle.c_cursor.specs.Next.{nextOf, foundPacked, isRefused};
+ghost use Rattle.c_cursor.specs.Next.{nextOf, nextFound, isRefused};
 ghost use Rattle.c_cursor.specs.Limits.{FoundIn};
 use log_cursor::Cursor;
 use log_cursor::Found;
@@ -42,7 +42,7 @@ pub(crate) fn is_refused(f: Found) -> bool
 // What was found in one number.
 pub(crate) fn pack(f: Found) -> u64
     requires { ⌜ FoundIn f ⌝ }
-    ensures { λ r. ⌜ r ≡ foundPacked f ⌝ }
+    ensures { λ r. ⌜ r ≡ nextFound f ⌝ }
 {
     match f {
         Found::Act(a) => c_log::pack(0, 0, c_log::act_value(a) as u32),

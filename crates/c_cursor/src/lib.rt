@@ -5,10 +5,10 @@ ghost use Rattle.c_cursor.specs.Cursors.{cursorSize, cursorOf, cursorEnc
 ghost use Rattle.c_cursor.specs.Next.{startPacked, startBytes, isRefused, nextPacked, nextBytes};
 
 mod found;
-pub mod number;
 mod reader;
 mod writer;
 
+use c_bytes::number;
 use log_cursor::Cursor;
 use log_cursor::Found;
 

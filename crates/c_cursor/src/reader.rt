@@ -1,7 +1,7 @@
 // The parts of a cursor, read from bytes.
 ghost use mathlib.Core.Path.{_≡_};
-ghost use Rattle.c_cursor.specs.Numbers.{widesOf};
-use super::number;
+ghost use Rattle.c_bytes.specs.Numbers.{widesOf};
+use c_bytes::number;
 
 // The starts of loops, eight bytes each.
 pub(crate) fn starts_at(b: &[u8]) -> [usize; 8]

@@ -4,9 +4,9 @@ ghost use mathlib.Core.List.{_++_};
 ghost use Prim.Native.Nat.{_+_, _*_, _≤_};
 ghost use lib.ListN.{length};
 ghost use lib.Seq.{sets};
-ghost use Rattle.c_cursor.specs.Numbers.{widesBytes};
+ghost use Rattle.c_bytes.specs.Numbers.{widesBytes};
 ghost use Rattle.c_cursor.specs.Cursors.{cursorSize};
-use super::number;
+use c_bytes::number;
 
 // The starts of loops, eight bytes each, from `at` on.
 fn put_starts(b: &mut [u8], at: usize, starts: &[usize])

@@ -13,8 +13,8 @@ use Rattle.log_judge.specs.declared.Reading.the-variants.{Item}
 use Rattle.log_judge.specs.Lines.{nextLine}
 use Rattle.log_judge.specs.Reading.{readAt}
 use Rattle.log_judge.proofs.PlaceLaws.{had-at}
-use Rattle.log_parts.specs.Bodies.{bodyCheckOf, bodyOf}
-use Rattle.log_parts.proofs.Limits.{body-answer, body-start, body-length, body-is-part}
+use Rattle.log_body.specs.Bodies.{bodyCheckOf, bodyOf}
+use Rattle.log_body.proofs.Limits.{body-answer, body-start, body-length, body-is-part}
 use Rattle.c_log.specs.Logs.{logPacked, checkValue, bodyValue, bodyPacked}
 
 -- the parts of an answer

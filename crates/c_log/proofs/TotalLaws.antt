@@ -13,7 +13,7 @@ use Rattle.log_judge.specs.declared.Checked.{Checked}
 use Rattle.log_judge.specs.Judge.{Verdict, right, wrong, judged}
 use Rattle.log_judge.specs.Head.{machineOf}
 use Rattle.log_judge.specs.Tree.{Tree, clocks, turns, acts}
-use Rattle.log_judge.specs.Whole.{treeOf, Stopping, stopOf, refusal, passed, heavy, weighed, unlessWrong, checkOf}
+use Rattle.log_judge.specs.Whole.{treeOf, Stopping, stoppingOf, checkRefusal, passedCheck, heavy, weighed, unlessWrong, checkOf}
 use Rattle.log_judge.proofs.CheckLaws.{acts-le}
 
 -- a place in a log has 24 bits
@@ -25,7 +25,7 @@ pub record Counted (c : Checked) : Type 0 where
   pub turns : c .turns ≤ 1000000
   pub items : c .items ≤ 1000000
 
-none : (k p : ℕ) → Counted (refusal k p)
+none : (k p : ℕ) → Counted (checkRefusal k p)
 none k p = record { turns = omega arith; items = omega arith }
 
 light : (t : Tree) → heavy t ≡ false → turns t ≤ 1000000
@@ -54,4 +54,4 @@ pub counted : (log : List ℕ) → Counted (checkOf log)
 unfolding checkOf
 counted log =
     pick-each Counted (ltb 60000 (length log)) (λ e. none 5 0)
-    (λ e. unless-counted (judged log) (weighed (machineOf log) (treeOf log) (stopOf log)) (weighed-counted (machineOf log) (treeOf log) (stopOf log)))
+    (λ e. unless-counted (judged log) (weighed (machineOf log) (treeOf log) (stoppingOf log)) (weighed-counted (machineOf log) (treeOf log) (stoppingOf log)))

@@ -11,10 +11,10 @@ use Rattle.log_line.specs.declared.Act.{Act}
 use Rattle.log_line.specs.declared.Act.the-variants.{Wait}
 use Rattle.log_judge.specs.Lines.{nextLine}
 use Rattle.log_judge.specs.Whole.{checkOf}
-use Rattle.log_parts.specs.declared.Found.{Found}
-use Rattle.log_parts.specs.declared.Found.the-variants.{Is, Refused}
-use Rattle.log_parts.specs.Items.{itemOf}
-use Rattle.log_parts.specs.Bodies.{bodyCheckOf, bodyOf}
+use Rattle.log_item.specs.declared.Found.{Found}
+use Rattle.log_item.specs.declared.Found.the-variants.{Is, Refused}
+use Rattle.log_item.specs.Items.{itemOf}
+use Rattle.log_body.specs.Bodies.{bodyCheckOf, bodyOf}
 
 -- "number + 2^8 x place + 2^32 x value"
 abbrev pub logPacked : ℕ → ℕ → ℕ → ℕ

@@ -2,12 +2,12 @@
 ghost use mathlib.Core.Path.{_≡_};
 ghost use Prim.Native.Nat.{_^_, _%_, _≤_, _<_};
 ghost use Rattle.log_judge.specs.Tree.{actClocks};
-ghost use Rattle.log_parts.specs.Bodies.{bodyCheckOf};
+ghost use Rattle.log_body.specs.Bodies.{bodyCheckOf};
 ghost use Rattle.c_log.specs.Logs.{logPacked, checkValue, checkPacked, turnsPacked, itemsPacked, accessValue, actValue, itemPacked, bodyValue, bodyPacked};
 use bus::Access;
+use log_item::Found;
 use log_judge::Reading;
 use log_line::Act;
-use log_parts::Found;
 
 // An answer about a log in one number. Of the place it has 24 bits; a log's places have 16.
 pub fn pack(number: u8, place: usize, value: u32) -> u64
@@ -75,7 +75,7 @@ pub fn act_value(a: Act) -> u64
 pub fn item(log: &[u8], k: u64) -> u64
     ensures { λ r. ⌜ r ≡ itemPacked (now (log .entry)) k ⌝ }
 {
-    let f = log_parts::item(log, k);
+    let f = log_item::item(log, k);
     match f {
         Found::Is(a) => pack(0, 0, act_value(a) as u32),
         Found::Refused(number, place) => pack(number, place, 0),
@@ -94,7 +94,7 @@ fn body_value(log: &[u8], offset: usize, number: u8) -> u64
     let Reading::Item(_, start) = r else {
         return 0;
     };
-    let part = log_parts::body(log, offset);
+    let part = log_body::body(log, offset);
     start as u64 + 65536 * part.len() as u64
 }
 
@@ -103,7 +103,7 @@ pub fn body(log: &[u8], offset: u64) -> u64
     ensures { λ r. ⌜ r ≡ bodyPacked (now (log .entry)) offset ⌝ }
 {
     let at = offset as usize;
-    let a = log_parts::body_check(log, at);
+    let a = log_body::body_check(log, at);
     let value = body_value(log, at, a.number);
     pack(a.number, a.place, value as u32)
 }

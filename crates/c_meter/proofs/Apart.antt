@@ -5,17 +5,17 @@ use mathlib.Core.List.{List}
 use native.Mathlib.Omega.{arith}
 use Rattle.run_meter.specs.declared.Measured.{Measured}
 use Rattle.run_meter.specs.declared.Measured.the-variants.{Refused, NoLevels, Silent, Steady, Moving}
-use Rattle.run_meter.specs.Measure.{numberOf, measureOf}
+use Rattle.run_meter.specs.Measure.{measuredNumber, measureOf}
 use Rattle.run_meter.proofs.Answers.{Says, says}
 use Rattle.c_meter.specs.Packed.{caseOf, lowestOf, highestOf, meterPacked}
 
 pub record Apart (m : Measured) : Type 0 where
-  pub number : meterPacked m % 2 ^ 8 ≡ numberOf m
+  pub number : meterPacked m % 2 ^ 8 ≡ measuredNumber m
   pub case : meterPacked m / 2 ^ 8 % 2 ^ 8 ≡ caseOf m
   pub lowest : meterPacked m / 2 ^ 16 % 2 ^ 16 ≡ lowestOf m
   pub highest : meterPacked m / 2 ^ 32 ≡ highestOf m
 
-parts : (m : Measured) → numberOf m < 2 ^ 8 → caseOf m < 2 ^ 8 → lowestOf m < 2 ^ 16 → Apart m
+parts : (m : Measured) → measuredNumber m < 2 ^ 8 → caseOf m < 2 ^ 8 → lowestOf m < 2 ^ 16 → Apart m
 parts m a b c = record { number = omega arith; case = omega arith; lowest = omega arith; highest = omega arith }
 
 small : (l : List ℕ) (m : Measured) → Says l m → Apart m

@@ -7,8 +7,8 @@ use Rattle.run_meter.specs.declared.Measured.{Measured}
 use Rattle.run_meter.specs.declared.Measured.the-variants.{Refused, NoLevels, Silent, Steady, Moving}
 use Rattle.run_meter.specs.declared.records.Before.{Before}
 use Rattle.run_meter.specs.declared.records.Before.the-variants.{Nothing, Level}
-use Rattle.run_meter.specs.Measure.{numberOf, measureOf}
-use Rattle.run_meter.specs.Records.{recordLevels, heard}
+use Rattle.run_meter.specs.Measure.{measuredNumber, measureOf}
+use Rattle.run_meter.specs.Records.{recordLevels, levelsHeard}
 
 -- the case of an answer: "0 none, 1 silent, 2 steady, 3 moving", and 0 of a refusal
 abbrev pub caseOf : Measured → ℕ
@@ -35,11 +35,11 @@ highestOf (Moving a b) = b
 
 -- "number + 2^8 x case + 2^16 x lowest + 2^32 x highest"
 abbrev pub meterPacked : Measured → ℕ
-meterPacked m = numberOf m + 2 ^ 8 * caseOf m + 2 ^ 16 * lowestOf m + 2 ^ 32 * highestOf m
+meterPacked m = measuredNumber m + 2 ^ 8 * caseOf m + 2 ^ 16 * lowestOf m + 2 ^ 32 * highestOf m
 
 -- "the level before the first record; a number of more than 32 bits counts nothing"
 abbrev pub beforeOf : ℕ → Before
 beforeOf before = pick (ltb before (2 ^ 32)) (Level before) Nothing
 
 abbrev pub recordsPacked : List ℕ → ℕ → ℕ → ℕ → ℕ
-recordsPacked words start count before = meterPacked (measureOf (heard (beforeOf before) (recordLevels start count words)))
+recordsPacked words start count before = meterPacked (measureOf (levelsHeard (beforeOf before) (recordLevels start count words)))

@@ -8,19 +8,19 @@ use borrow.Author.Tests.{eq-eqb, ne-eqb}
 use lib.ListN.{length, take}
 use lib.Dec.{eqb, leb}
 use Rattle.arith.specs.Pick.{pick}
-use Rattle.c_state.specs.Bytes.{flagByte}
+use Rattle.c_bytes.specs.Fields.{flagByte}
 use Rattle.chip_api.specs.Answer.{isMemory}
 use Rattle.play_model.specs.declared.Player.{Player}
 use Rattle.play.specs.declared.Played.{Played}
 use Rattle.play_model.specs.Turns.{freshPlayer, endedPlayer}
 use Rattle.play.specs.Playing.{PlayedOn}
 use Rattle.play.specs.Calls as play
-use Rattle.play.specs.Whole.{playNumber, begunOf}
+use Rattle.play_begin.specs.Whole.{playNumber, begunOf}
 use Rattle.play.proofs.Whole.{Beginning, pieces-whole, never-halted, gets-line, comes-to-end}
 use Rattle.log_judge.specs.Head.{machineOf}
 use Rattle.log_judge.specs.Tree.{acts}
 use Rattle.log_judge.specs.Whole.{treeOf}
-use Rattle.play_model.specs.Sound.{notesOf}
+use Rattle.play_model.specs.Sound.{entriesOf}
 use Rattle.c_cursor.proofs.Calls.{beginning-fits}
 use Rattle.c_player.specs.Player.{playerSize, playerBytes, playerAt, isPlayer, PlayerFits}
 use Rattle.c_player.proofs.CodeLaws.{written-read, player-right}
@@ -118,5 +118,5 @@ module _ (log memory : List ℕ) where
   piece-on {b = b} {joined = joined} {n = n} p b′ text text′ answer k = gone b b′ joined n text text′ answer (held p) k
 
   -- SO THEY COME TO AN END: behind more texts of 23 bytes or more than there are lines the last call said over
-  pub pieces-end : {b joined : List ℕ} {n : ℕ} (over : Bool) → Pieces log memory b joined n over → length (notesOf (machineOf log) memory (acts (treeOf log))) < n → over ≡ true
+  pub pieces-end : {b joined : List ℕ} {n : ℕ} (over : Bool) → Pieces log memory b joined n over → length (entriesOf (machineOf log) memory (acts (treeOf log))) < n → over ≡ true
   pieces-end over p more = comes-to-end log memory (held p .passes) over (held p .calls) more

@@ -19,10 +19,10 @@ use Rattle.log_judge.proofs.Limits.{check-limits}
 use Rattle.text_print.specs.Printed.{fits, placed}
 use Rattle.play_model.specs.declared.Player.{Player}
 use Rattle.play.specs.declared.Played.{Played}
-use Rattle.play.specs.declared.Begun.{Begun}
-use Rattle.play_text.specs.Notes.{refusalText}
+use Rattle.play_begin.specs.declared.Begun.{Begun}
+use Rattle.play_text.specs.Entries.{refusalText}
 use Rattle.play.specs.Playing.{Piece, Untouched, Answered, Where, PlayedOn}
-use Rattle.play.specs.Whole.{playPlace, begunOf}
+use Rattle.play_begin.specs.Whole.{playPlace, begunOf}
 use Rattle.play_text.proofs.TextLaws.{refusal-size}
 use Rattle.c_player.specs.Player.{playerSize, playerBytes, playerAt, statePart, isPlayer, playerEncoded}
 use Rattle.c_chip.specs.Boundary.{noState}
@@ -56,7 +56,7 @@ module _ (log memory : List ℕ) (p : Player) (text front : List ℕ) (n : ℕ) 
       let l = long in
       let f : r .length ≤ length front = omega (arith, x .fits) in
       record {
-        notes = x .notes;
+        entries = x .entries;
         turns = x .turns;
         fits = omega (arith, x .fits);
         piece = take-append-le (r .length) front (drop n text) f ∙ x .piece;
@@ -99,7 +99,7 @@ module _ (log memory : List ℕ) (p : Player) (before after : List ℕ) (r : Pla
 
 -- only bytes of a player's length are written over
 
-pub player-stored : (t : Bool) (p : Player) (b : List ℕ) → (t ≡ true → length b ≡ playerSize) → pick t (playerEncoded p b) b ≡ pick t (playerBytes p) b
+player-stored : (t : Bool) (p : Player) (b : List ℕ) → (t ≡ true → length b ≡ playerSize) → pick t (playerEncoded p b) b ≡ pick t (playerBytes p) b
 unfolding playerEncoded
 player-stored t p b h = written-by t (playerEncoded p b) (playerBytes p) b (λ e. rw (eq-eqb (length b) playerSize (h e)))
 

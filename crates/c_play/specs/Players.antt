@@ -5,13 +5,13 @@ use mathlib.Core.List.{List}
 use lib.ListN.{length}
 use lib.Dec.{eqb}
 use Rattle.arith.specs.Pick.{pick}
-use Rattle.c_state.specs.Bytes.{flagByte}
+use Rattle.c_bytes.specs.Fields.{flagByte}
 use Rattle.text_print.specs.Printed.{placed}
 use Rattle.play_model.specs.declared.Player.{Player}
 use Rattle.play.specs.declared.Played.{Played}
-use Rattle.play_text.specs.Notes.{refusalText}
+use Rattle.play_text.specs.Entries.{refusalText}
 use Rattle.play.specs.Playing.{Where, Untouched, PlayedOn}
-use Rattle.play.specs.Whole.{begunOf}
+use Rattle.play_begin.specs.Whole.{begunOf}
 use Rattle.c_player.specs.Player.{playerSize, playerBytes, playerAt, isPlayer, PlayerFits}
 use Rattle.c_chip.specs.Boundary.{noState}
 use Rattle.c_log.specs.Logs.{logPacked}

@@ -1,11 +1,11 @@
 // The player in pieces, a player being bytes lent in place (crate `c_player`), which the caller keeps between two pieces. Bytes
 // that are no player's are refused, and stay.
 ghost use mathlib.Core.Path.{_≡_};
-ghost use Prim.Native.Nat.{_≤_, _<_};
+ghost use Prim.Native.Nat.{_≤_};
 ghost use lib.Dec.{eqb};
 ghost use Rattle.arith.specs.Pick.{pick};
 ghost use Rattle.text_print.specs.Printed.{printed};
-ghost use Rattle.play_text.specs.Notes.{refusalText};
+ghost use Rattle.play_text.specs.Entries.{refusalText};
 ghost use Rattle.c_player.specs.Player.{playerEncoded};
 ghost use Rattle.c_play.specs.Players.{beginPacked, beginBytes, piecePacked, PlayedFrom, Continued, refusalPacked};
 use play::Played;
@@ -29,21 +29,10 @@ pub fn begin(player: &mut [u8], log: &[u8], memory: &[u8]) -> u64
         let number = c_chip::no_state(memory);
         return c_log::pack(number, 0, 0);
     }
-    let g = play::begin(log, memory);
+    let g = play_begin::begin(log, memory);
     let p = g.player;
     store_player(g.number, p, player);
     c_log::pack(g.number, g.place, 0)
-}
-
-// As many bytes of a text as the answer can count.
-fn most(length: usize) -> usize
-    ensures { λ r. ⌜ (r ≤ length) × (r ≤ 4294967295) × (r < 23 → r ≡ length) ⌝ }
-{
-    if length < 4294967295 {
-        length
-    } else {
-        4294967295
-    }
 }
 
 fn play_from(b: &[u8], log: &[u8], memory: &[u8], text: &mut [u8]) -> Played
@@ -51,7 +40,8 @@ fn play_from(b: &[u8], log: &[u8], memory: &[u8], text: &mut [u8]) -> Played
 {
     let p = c_player::decode(b);
     if c_player::is_player(b) {
-        let end = most(text.len());
+        // As many bytes of the text as the answer can count.
+        let end = arith::least_usize(text.len(), 4294967295);
         return play::play_on(p, log, memory, &mut text[..end]);
     }
     let number = c_chip::no_state(memory);

@@ -9,10 +9,11 @@ use lib.Seq.{getD-drop, length-take-le}
 use lib.Dec.{eqb}
 use borrow.Author.Tests.{eqb-true}
 use Rattle.arith.proofs.PickLaws.{both-left, both-right}
-use Rattle.c_state.specs.Bytes.{byteOf, isState}
+use Rattle.c_bytes.specs.Fields.{byteOf}
+use Rattle.c_state.specs.Bytes.{isState}
 use Rattle.c_state.proofs.BackLaws.{read-written as state-written}
 use Rattle.c_cursor.specs.Cursors.{cursorSize}
-use Rattle.c_cursor.proofs.NumberLaws.{cut, wide-most, wide-kept}
+use Rattle.c_bytes.proofs.NumberLaws.{cut, wide-most, wide-kept}
 use Rattle.c_cursor.proofs.CodeLaws.{read-fits as cursor-fits, read-written as cursor-written}
 use Rattle.c_player.specs.Player.{cursorPlace, statePlace, playerSize, cursorPart, statePart, playerBytes, playerAt, isPlayer, PlayerFits}
 
@@ -27,7 +28,7 @@ module _ (b : List ℕ) (bytes : (i : ℕ) → byteOf b i ≤ 255) where
   dropped n i = rw (getD-drop n b i 0) (bytes (n + i))
 
   -- what was read has its types' ranges
-  pub read-fits : PlayerFits (playerAt b)
+  read-fits : PlayerFits (playerAt b)
   unfolding playerAt
   read-fits =
       record {
@@ -39,7 +40,7 @@ module _ (b : List ℕ) (bytes : (i : ℕ) → byteOf b i ≤ 255) where
       }
 
   -- what was read is written
-  pub read-written : isPlayer b ≡ true → playerBytes (playerAt b) ≡ b
+  read-written : isPlayer b ≡ true → playerBytes (playerAt b) ≡ b
   unfolding isPlayer playerBytes playerAt
   read-written e =
       let size : length b ≡ playerSize = eqb-true (length b) playerSize (both-left (eqb (length b) playerSize) (isState (statePart b)) e) in

@@ -9,10 +9,10 @@ use lib.Seq.{take-at, drop-at}
 use borrow.Author.Tests.{eq-eqb}
 use Rattle.c_state.specs.Bytes.{stateBytes}
 use Rattle.c_state.proofs.CodeLaws.{state-right, written-read as state-read}
-use Rattle.c_cursor.specs.Numbers.{wideBytes, wideOf}
+use Rattle.c_bytes.specs.Numbers.{wideBytes, wideOf}
 use Rattle.c_cursor.specs.Cursors.{cursorSize, cursorBytes, CursorFits}
-use Rattle.c_cursor.proofs.WideLaws.{wide-size}
-use Rattle.c_cursor.proofs.NumberLaws.{wide-past, wide-read}
+use Rattle.c_bytes.proofs.WideLaws.{wide-size}
+use Rattle.c_bytes.proofs.NumberLaws.{wide-past, wide-read}
 use Rattle.c_cursor.proofs.PlaceLaws.{cursor-size}
 use Rattle.c_cursor.proofs.CodeLaws.{written-read as cursor-read}
 use Rattle.play_model.specs.declared.Player.{Player}

@@ -7,10 +7,11 @@ use lib.ListN.{length, length-append}
 use lib.Seq.{sets}
 use Rattle.c_state.specs.Bytes.{stateSize, stateBytes}
 use Rattle.c_state.proofs.CodeLaws.{state-size}
-use Rattle.c_cursor.specs.Numbers.{wideBytes}
+use Rattle.c_bytes.specs.Numbers.{wideBytes}
 use Rattle.c_cursor.specs.Cursors.{cursorSize, cursorBytes}
-use Rattle.c_cursor.proofs.WideLaws.{wide-size}
-use Rattle.c_cursor.proofs.PlaceLaws.{put-next, put-all, cursor-size}
+use Rattle.c_bytes.proofs.WideLaws.{wide-size}
+use Rattle.c_bytes.proofs.PlaceLaws.{put-next, put-all}
+use Rattle.c_cursor.proofs.PlaceLaws.{cursor-size}
 use Rattle.play_model.specs.declared.Player.{Player}
 use Rattle.c_player.specs.Player.{cursorPlace, statePlace, playerSize, playerBytes}
 

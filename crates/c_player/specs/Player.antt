@@ -7,7 +7,7 @@ use lib.ListN.{length, take, drop}
 use lib.Dec.{eqb}
 use Rattle.arith.specs.Pick.{pick, both}
 use Rattle.c_state.specs.Bytes.{stateSize, stateBytes, stateOf, isState}
-use Rattle.c_cursor.specs.Numbers.{wideBytes, wideOf}
+use Rattle.c_bytes.specs.Numbers.{wideBytes, wideOf}
 use Rattle.c_cursor.specs.Cursors.{cursorSize, cursorBytes, cursorOf, CursorFits}
 use Rattle.play_model.specs.declared.Player.{Player}
 

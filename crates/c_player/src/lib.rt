@@ -6,7 +6,7 @@ ghost use Rattle.c_player.specs.Player.{playerSize, playerAt, isPlayer, 
 mod reader;
 mod writer;
 
-use c_cursor::number;
+use c_bytes::number;
 use play_model::Player;
 
 // Where the cursor and the state begin, and how many bytes a player is.

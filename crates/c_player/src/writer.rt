@@ -4,12 +4,12 @@ ghost use mathlib.Core.List.{_++_};
 ghost use lib.ListN.{length};
 ghost use lib.Seq.{sets};
 ghost use Rattle.c_state.specs.Bytes.{stateBytes};
-ghost use Rattle.c_cursor.specs.Numbers.{wideBytes};
+ghost use Rattle.c_bytes.specs.Numbers.{wideBytes};
 ghost use Rattle.c_cursor.specs.Cursors.{cursorSize, cursorBytes};
 ghost use Rattle.c_player.specs.Player.{cursorPlace, statePlace, playerSize};
 use super::CURSOR;
 use super::STATE;
-use c_cursor::number;
+use c_bytes::number;
 use chip::State;
 use log_cursor::Cursor;
 

@@ -11,7 +11,8 @@ use lib.Dec.{leb, eqb}
 use borrow.Author.Tests.{leb-true, eqb-true}
 use Rattle.arith.specs.Pick.{pick, both}
 use Rattle.arith.proofs.PickLaws.{both-left, both-right}
-use Rattle.c_state.specs.Bytes.{flagByte, low, high, byteOf, flagOf, pairOf, squareBytes, triangleBytes, noiseBytes, dmcBytes, frameBytes, stateBytes, stateSize, squareOf, triangleOf, noiseOf, dmcOf, frameOf, stateOf, flagPlaces, flagsRight, isState}
+use Rattle.c_bytes.specs.Fields.{flagByte, low, high, byteOf, flagOf, pairOf}
+use Rattle.c_state.specs.Bytes.{squareBytes, triangleBytes, noiseBytes, dmcBytes, frameBytes, stateBytes, stateSize, squareOf, triangleOf, noiseOf, dmcOf, frameOf, stateOf, flagPlaces, flagsRight, isState}
 
 -- n bytes, from k places after `at` on
 unfoldable gather : List ℕ → ℕ → ℕ → ℕ → List ℕ

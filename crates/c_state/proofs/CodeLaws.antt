@@ -10,7 +10,8 @@ use Rattle.arith.specs.Pick.{pick, both}
 use Rattle.arith.proofs.PickLaws.{both-left, both-right}
 use Rattle.chip_square.specs.declared.Square.{Square}
 use Rattle.chip.specs.declared.State.{State}
-use Rattle.c_state.specs.Bytes.{stateSize, flagByte, low, high, byteOf, flagOf, pairOf, squareBytes, triangleBytes, noiseBytes, dmcBytes, frameBytes, stateBytes, squareOf, triangleOf, noiseOf, dmcOf, frameOf, stateOf, flagPlaces, flagsRight, isState}
+use Rattle.c_bytes.specs.Fields.{flagByte, low, high, byteOf, flagOf, pairOf}
+use Rattle.c_state.specs.Bytes.{stateSize, squareBytes, triangleBytes, noiseBytes, dmcBytes, frameBytes, stateBytes, squareOf, triangleOf, noiseOf, dmcOf, frameOf, stateOf, flagPlaces, flagsRight, isState}
 
 -- WRITTEN AND READ BACK
 

@@ -1,11 +1,12 @@
 -- A state as 91 bytes: the 78 fields in the order in which document 01's "State, ranges and power-on" names them, square 1, square 2, triangle,
 -- noise, DMC, frame, and behind them the machine, 0 NTSC and 1 PAL. Period, timer, register, address, remaining and clock number take two bytes, low first, every other field one; a flag is 0 or 1.
-use Prim.Native.Nat.{ℕ, _+_, _*_, _/_, _%_}
+use Prim.Native.Nat.{ℕ, _+_}
 use mathlib.Core.Bool.{Bool, true}
 use mathlib.Core.List.{List, [], _∷_, _++_}
-use lib.ListN.{length, getD}
+use lib.ListN.{length}
 use lib.Dec.{leb, eqb}
-use Rattle.arith.specs.Pick.{pick, both}
+use Rattle.arith.specs.Pick.{both}
+use Rattle.c_bytes.specs.Fields.{flagByte, low, high, byteOf, flagOf, pairOf}
 use Rattle.chip_square.specs.declared.Square.{Square}
 use Rattle.chip_triangle.specs.declared.Triangle.{Triangle}
 use Rattle.chip_noise.specs.declared.Noise.{Noise}
@@ -18,15 +19,6 @@ abbrev pub stateSize : ℕ
 stateSize = 91
 
 -- WRITTEN
-
-abbrev pub flagByte : Bool → ℕ
-flagByte on = pick on 1 0
-
-abbrev pub low : ℕ → ℕ
-low x = x % 256
-
-abbrev pub high : ℕ → ℕ
-high x = x / 256
 
 -- "duty; loop and constant flags; n; sweep enable, negate, P, S, sweep-written flag; sweep divider; period; timer; half flag; position; envelope
 -- start flag, divider, counter; length; enabled"
@@ -132,15 +124,6 @@ stateBytes s =
     ++ (triangleBytes (s .triangle) ++ (noiseBytes (s .noise) ++ (dmcBytes (s .dmc) ++ frameBytes (s .frame) (s .pal)))))
 
 -- READ: the fields of a part whose first byte stands at `at`
-
-abbrev pub byteOf : List ℕ → ℕ → ℕ
-byteOf b i = getD b i 0
-
-abbrev pub flagOf : List ℕ → ℕ → Bool
-flagOf b i = eqb (byteOf b i) 1
-
-abbrev pub pairOf : List ℕ → ℕ → ℕ
-pairOf b i = byteOf b i + 256 * byteOf b (i + 1)
 
 unfoldable pub squareOf : List ℕ → ℕ → Square
 squareOf b at =

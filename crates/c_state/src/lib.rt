@@ -4,10 +4,10 @@ ghost use lib.ListN.{getD};
 ghost use Rattle.c_state.specs.Bytes.{stateSize, flagPlaces, flagsRight, isState, stateOf};
 ghost use Rattle.c_state.specs.Encoded.{encoded};
 
-pub mod field;
 mod reader;
 mod writer;
 
+use c_bytes::field;
 use chip::State;
 
 // How many bytes a state is.

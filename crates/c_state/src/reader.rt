@@ -1,7 +1,7 @@
 // The parts of a state, read from bytes: each function reads the part whose first byte stands at `at`.
 ghost use mathlib.Core.Path.{_≡_};
 ghost use Rattle.c_state.specs.Bytes.{squareOf, triangleOf, noiseOf, dmcOf, frameOf};
-use super::field;
+use c_bytes::field;
 use chip_dmc::Dmc;
 use chip_dmc::Output;
 use chip_dmc::Reader;

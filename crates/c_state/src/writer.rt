@@ -4,7 +4,7 @@ ghost use Prim.Native.Nat.{_+_, _≤_};
 ghost use lib.ListN.{length};
 ghost use lib.Seq.{paste};
 ghost use Rattle.c_state.specs.Bytes.{squareBytes, triangleBytes, noiseBytes, dmcBytes, frameBytes};
-use super::field;
+use c_bytes::field;
 use chip_dmc::Dmc;
 use chip_frame::Frame;
 use chip_noise::Noise;

@@ -10,24 +10,24 @@ use Rattle.chip.specs.Range.{inRange}
 use Rattle.chip.specs.declared.State.{State}
 use Rattle.c_state.specs.Bytes.{stateOf, isState}
 use Rattle.chip_why.specs.Why.{whyAnswer}
-use Rattle.chip_why.specs.Value.{numberOf, valueOf}
+use Rattle.chip_why.specs.Value.{reasonNumber, valueOf}
 use Rattle.chip_why.specs.declared.Reason.{Reason}
 use Rattle.chip_why.proofs.Numbers.{refusals, nought, never-nought, reasonOf, told-apart}
 use Rattle.c_why.specs.Packed.{whyFrom, whyPacked}
 
-answer-most : (channel : ℕ) (s : State) → numberOf (whyAnswer channel s) ≤ 24
+answer-most : (channel : ℕ) (s : State) → reasonNumber (whyAnswer channel s) ≤ 24
 answer-most channel s =
     let P : ℕ → Type 0 = λ k. k ≤ 24 in
     rw (refusals channel s)
     (pick-both P (inRange s) (pick-both P (eqb channel 0) (omega arith) (pick-both P (eqb channel 1) (omega arith) (pick-both P (eqb channel 3) (omega arith) (omega arith)))) (omega arith))
 
-number-most : (channel : ℕ) (b : List ℕ) → numberOf (whyFrom channel b) ≤ 24
+number-most : (channel : ℕ) (b : List ℕ) → reasonNumber (whyFrom channel b) ≤ 24
 unfolding whyFrom
-number-most channel b = pick-both (λ (r : Reason). numberOf r ≤ 24) (isState b) (answer-most channel (stateOf b)) (omega arith)
+number-most channel b = pick-both (λ (r : Reason). reasonNumber r ≤ 24) (isState b) (answer-most channel (stateOf b)) (omega arith)
 
 -- THE PARTS OF AN ANSWER
 pub apart : (channel : ℕ) (b : List ℕ)
-    → (whyPacked channel b % 2 ^ 8 ≡ numberOf (whyFrom channel b)) × (whyPacked channel b / 2 ^ 8 ≡ valueOf (whyFrom channel b))
+    → (whyPacked channel b % 2 ^ 8 ≡ reasonNumber (whyFrom channel b)) × (whyPacked channel b / 2 ^ 8 ≡ valueOf (whyFrom channel b))
 unfolding whyPacked
 apart channel b = let h = number-most channel b in (omega arith, omega arith)
 

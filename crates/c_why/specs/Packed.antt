@@ -5,7 +5,7 @@ use Rattle.arith.specs.Pick.{pick}
 use Rattle.c_state.specs.Bytes.{stateOf, isState}
 use Rattle.c_chip.specs.Boundary.{packed}
 use Rattle.chip_why.specs.Why.{whyAnswer}
-use Rattle.chip_why.specs.Value.{numberOf, valueOf}
+use Rattle.chip_why.specs.Value.{reasonNumber, valueOf}
 use Rattle.chip_why.specs.declared.Reason.{Reason}
 use Rattle.chip_why.specs.declared.Reason.the-variants.{Refused}
 
@@ -15,4 +15,4 @@ whyFrom channel b = pick (isState b) (whyAnswer channel (stateOf b)) (Refused 2)
 
 -- "number + 256 x value", by the number and the value of each answer
 unfoldable pub whyPacked : ℕ → List ℕ → ℕ
-whyPacked channel b = packed (numberOf (whyFrom channel b)) (valueOf (whyFrom channel b))
+whyPacked channel b = packed (reasonNumber (whyFrom channel b)) (valueOf (whyFrom channel b))

@@ -19,7 +19,7 @@ pub record Elsewhere (channel : ℕ) (s r : State) : Type 0 where
   pub dmc : (channel ≡ 4 → ⊥) → r .dmc ≡ s .dmc
   pub frame : r .frame ≡ s .frame
 
-pub elsewhere-kept : (channel place value : ℕ) (s : State) → channel ≤ 4 → Elsewhere channel s (channelWritten channel place value s)
+elsewhere-kept : (channel place value : ℕ) (s : State) → channel ≤ 4 → Elsewhere channel s (channelWritten channel place value s)
 unfolding channelWritten
 elsewhere-kept channel place value s h =
     let P : State → Type 0 = Elsewhere channel s in

@@ -7,7 +7,7 @@ use lib.Dec.{eqb}
 use Rattle.arith.specs.Bit.{bitSet}
 use Rattle.arith.proofs.PickLaws.{pick-both}
 use Rattle.chip_frame.specs.Frame.{nextStep, frameDue, frameMoved, frameWritten, clocksEnvelopes, clocksLengths}
-use Rattle.chip.specs.Table.{frameTimes}
+use Rattle.chip_tables.specs.Table.{frameTimes}
 use Rattle.chip.specs.Clock.{withFrame, timersClocked, readerClocked, envelopesClocked, lengthsClocked, envelopesIf, lengthsIf, stepped, framed, chipClock}
 use Rattle.chip.specs.Write.{channelOf, placeOf, enablesWritten, sequencerWritten, controlWritten, channelWritten, registerWritten}
 use Rattle.chip.specs.Status.{statusRead}
@@ -20,11 +20,11 @@ pub record Alike (s x : State) : Type 0 where
 same : (s : State) → Alike s s
 same s = record { pal = refl }
 
-pub envelopes-machine : (s : State) → Alike s (envelopesClocked s)
+envelopes-machine : (s : State) → Alike s (envelopesClocked s)
 unfolding envelopesClocked
 envelopes-machine s = record { pal = refl }
 
-pub lengths-machine : (s : State) → Alike s (lengthsClocked s)
+lengths-machine : (s : State) → Alike s (lengthsClocked s)
 unfolding lengthsClocked
 lengths-machine s = record { pal = refl }
 

@@ -22,7 +22,7 @@ use Rattle.chip_frame.specs.Frame.{nextStep, frameDue, frameMoved, clocksEnvelo
 use Rattle.chip_frame.proofs.RangeLaws.{FrameRanged, frame-in, frame-back, frame-on, frame-moved, frame-stepped, frame-written, frame-read}
 use Rattle.chip_frame.proofs.LeapLaws.{Rising, Gaps, before-most}
 use Rattle.chip_mixer.proofs.LevelLaws.{mixed-most}
-use Rattle.chip.specs.Table.{noiseNtsc, noisePal, dmcNtsc, dmcPal, noisePeriod, dmcPeriod, noiseTop, dmcTop, frameTimes}
+use Rattle.chip_tables.specs.Table.{noiseNtsc, noisePal, dmcNtsc, dmcPal, noisePeriod, dmcPeriod, noiseTop, dmcTop, frameTimes}
 use Rattle.chip.specs.Clock.{withFrame, timersClocked, readerClocked, envelopesClocked, lengthsClocked, envelopesIf, lengthsIf, stepped, framed, chipClock}
 use Rattle.chip.specs.Write.{enablesWritten, sequencerWritten, controlWritten, channelWritten, registerWritten}
 use Rattle.chip.specs.Leap.{beforeStep}
@@ -40,6 +40,8 @@ pub record StateRanged (s : State) : Type 0 where
   pub dmc : DmcRanged (dmcTop (s .pal)) (s .dmc)
   pub frame : FrameRanged (frameTimes (s .pal)) (s .frame)
 
+-- THE TEST AND THE FACTS
+
 -- the facts, from the test
 pub state-in : (s : State) → inRange s ≡ true → StateRanged s
 unfolding inRange
@@ -55,6 +57,7 @@ state-back s h =
     (both-true _ _ (noise-back (s .noise) (h .noise))
     (both-true _ _ (dmc-back (s .dmc) (h .dmc)) (frame-back (frameTimes (s .pal)) (s .frame) (h .frame))))))
 
+-- PERIODS AND TIMES, FOR EITHER MACHINE
 holds : (b : Bool) → T b → b ≡ true
 holds true h = refl
 holds false h = absurd h
@@ -102,6 +105,7 @@ unfolding inRange powerOn
 power-on-in pal =
     both-true _ _ square-on (both-true _ _ square-on (both-true _ _ triangle-on (both-true _ _ (noise-back _ (noise-on (noisePeriod pal 0) (noise-period-range pal 0 .0) (noise-period-range pal 0 .1))) (both-true _ _ (dmc-back _ (dmc-on (dmcPeriod pal 0) (dmc-period-range pal 0 .0) (dmc-period-range pal 0 .1))) (frame-on (frameTimes pal))))))
 
+-- EACH PART OF A CLOCK KEEPS THE RANGE
 frame-put : (s : State) (h : StateRanged s) {f : Rattle.chip_frame.specs.declared.Frame.Frame} → FrameRanged (frameTimes (s .pal)) f → StateRanged (withFrame s f)
 frame-put s h r =
     record { square1 = h .square1; square2 = h .square2; triangle = h .triangle; noise = h .noise; dmc = h .dmc; frame = r }

@@ -3,7 +3,7 @@ use mathlib.Core.Path.{_≡_, ap}
 use mathlib.Core.Bool.{Bool}
 use Rattle.arith.specs.Pick.{either}
 use Rattle.chip_frame.proofs.RangeLaws.{asserts-flag}
-use Rattle.chip.specs.Table.{frameTimes}
+use Rattle.chip_tables.specs.Table.{frameTimes}
 use Rattle.chip.specs.Status.{lineAsserted}
 use Rattle.chip.specs.declared.State.{State}
 use Rattle.chip.proofs.RangeLaws.{StateRanged}

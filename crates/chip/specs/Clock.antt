@@ -10,7 +10,7 @@ use Rattle.chip_dmc.specs.Clock.{dmcTimed, dmcRead}
 use Rattle.chip_frame.specs.Frame.{nextStep, frameDue, frameMoved, clocksEnvelopes, clocksLengths, frameStepped}
 use Rattle.chip_dmc.specs.declared.Dmc.{Dmc}
 use Rattle.chip_frame.specs.declared.Frame.{Frame}
-use Rattle.chip.specs.Table.{noisePeriod, dmcPeriod, frameTimes}
+use Rattle.chip_tables.specs.Table.{noisePeriod, dmcPeriod, frameTimes}
 use Rattle.chip.specs.declared.State.{State}
 
 abbrev pub withDmc : State → Dmc → State

@@ -4,7 +4,7 @@ use mathlib.Core.Bool.{Bool}
 use Rattle.chip_frame.specs.Frame.{frameDue}
 use Rattle.chip_frame.specs.Leap.{frameBefore, framePassed}
 use Rattle.chip_frame.specs.declared.Frame.{Frame}
-use Rattle.chip.specs.Table.{frameTimes}
+use Rattle.chip_tables.specs.Table.{frameTimes}
 use Rattle.chip.specs.declared.State.{State}
 
 -- whether the next clock brings a frame step

@@ -3,5 +3,4 @@ pub mod Leap
 pub mod Level
 pub mod Range
 pub mod Status
-pub mod Table
 pub mod Write

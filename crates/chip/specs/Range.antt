@@ -9,7 +9,7 @@ use Rattle.chip_triangle.specs.Triangle.{triangleIn, triangleOn}
 use Rattle.chip_noise.specs.Noise.{noiseIn, noiseOn}
 use Rattle.chip_dmc.specs.Range.{dmcIn, dmcOn}
 use Rattle.chip_frame.specs.Frame.{frameIn, frameOn}
-use Rattle.chip.specs.Table.{noisePeriod, dmcPeriod, noiseTop, dmcTop, frameTimes}
+use Rattle.chip_tables.specs.Table.{noisePeriod, dmcPeriod, noiseTop, dmcTop, frameTimes}
 use Rattle.chip.specs.declared.State.{State}
 
 -- every field within its range

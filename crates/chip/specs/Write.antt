@@ -1,6 +1,5 @@
 -- Document 01, "Register bits" and "$4015": a write, decoded to a channel and a place.
 use Prim.Native.Nat.{ℕ, _-_, _/_, _%_}
-use mathlib.Core.Bool.{Bool}
 use lib.Dec.{eqb}
 use Rattle.arith.specs.Pick.{pick}
 use Rattle.arith.specs.Bit.{bitSet}

@@ -20,8 +20,6 @@ use chip_noise::Noise;
 use chip_square::Square;
 use chip_triangle::Triangle;
 
-pub mod tables;
-
 // `pal` is the machine, PAL or NTSC: fixed at power-on.
 pub struct State {
     pub square1: Square,
@@ -37,8 +35,8 @@ pub struct State {
 pub fn power_on(pal: bool) -> State
     ensures { λ r. ⌜ r ≡ powerOn pal ⌝ }
 {
-    let noise_first = tables::noise_period(pal, 0);
-    let dmc_first = tables::dmc_period(pal, 0);
+    let noise_first = chip_tables::noise_period(pal, 0);
+    let dmc_first = chip_tables::dmc_period(pal, 0);
     let square = Square::power_on();
     let triangle = Triangle::power_on();
     let noise = Noise::power_on(noise_first);
@@ -63,11 +61,11 @@ impl State {
         let a = self.square1.in_range();
         let b = self.square2.in_range();
         let t = self.triangle.in_range();
-        let noise_top = tables::noise_top(self.pal);
+        let noise_top = chip_tables::noise_top(self.pal);
         let n = self.noise.in_range(noise_top);
-        let dmc_top = tables::dmc_top(self.pal);
+        let dmc_top = chip_tables::dmc_top(self.pal);
         let d = self.dmc.in_range(dmc_top);
-        let times = tables::frame_times(self.pal);
+        let times = chip_tables::frame_times(self.pal);
         let f = self.frame.in_range(times);
         let df = arith::both_of(d, f);
         let ndf = arith::both_of(n, df);
@@ -80,8 +78,8 @@ impl State {
     fn timed(self) -> State
         ensures { λ r. ⌜ r ≡ timersClocked self ⌝ }
     {
-        let n = tables::noise_period(self.pal, self.noise.index);
-        let d = tables::dmc_period(self.pal, self.dmc.registers.index);
+        let n = chip_tables::noise_period(self.pal, self.noise.index);
+        let d = chip_tables::dmc_period(self.pal, self.dmc.registers.index);
         let mut s = self;
         s.square1 = self.square1.timed();
         s.square2 = self.square2.timed();
@@ -159,7 +157,7 @@ impl State {
     fn frame_clocked(self) -> State
         ensures { λ r. ⌜ r ≡ framed self ⌝ }
     {
-        let times = tables::frame_times(self.pal);
+        let times = chip_tables::frame_times(self.pal);
         let step = self.frame.next_step(times);
         let mut s = self;
         s.frame = self.frame.moved(times);
@@ -182,7 +180,7 @@ impl State {
     pub fn before_step(self) -> u32
         ensures { λ r. ⌜ r ≡ beforeStep self ⌝ }
     {
-        let times = tables::frame_times(self.pal);
+        let times = chip_tables::frame_times(self.pal);
         self.frame.before(times)
     }
 
@@ -190,7 +188,7 @@ impl State {
     pub fn passed_frame(self, g: u32) -> Frame
         ensures { λ r. ⌜ r ≡ passedFrame g self ⌝ }
     {
-        let times = tables::frame_times(self.pal);
+        let times = chip_tables::frame_times(self.pal);
         self.frame.passed(times, g)
     }
 

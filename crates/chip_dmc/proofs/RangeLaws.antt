@@ -7,12 +7,10 @@ use native.Mathlib.Omega.{arith}
 use lib.Dec.{leb, ltb, eqb}
 use lib.ListN.{getD}
 use borrow.Author.Tests.{leb-true, le-leb, leb-false, ltb-true}
-use Rattle.arith.specs.Iterate.{iterate}
 use Rattle.arith.specs.Pick.{pick, both}
-use Rattle.arith.proofs.IterateLaws.{iterate-keeps}
 use Rattle.arith.proofs.PickLaws.{both-left, both-right, both-true, pick-both, pick-each}
 use Rattle.divider.specs.Divider.{due, tick}
-use Rattle.chip_dmc.specs.Clock.{levelMoved, outputStep, withTimer, outputClock, takes, emptied, nextAddress, restarted, flagged, byteAt, fetched, sampleEnded, pending, readerClock, dmcTimed, dmcRead, dmcClock, dmcOutput}
+use Rattle.chip_dmc.specs.Clock.{levelMoved, outputStep, withTimer, outputClock, takes, emptied, nextAddress, restarted, flagged, byteAt, fetched, sampleEnded, pending, readerClock, dmcTimed, dmcRead, dmcClock}
 use Rattle.chip_dmc.specs.Write.{withInterrupt, withRemaining, dmcWrite0, dmcWrite1, dmcWrite2, dmcWrite3, dmcWrite, switched, dmcEnabled}
 use Rattle.chip_dmc.specs.Range.{registersIn, outputIn, readerIn, dmcIn, dmcOn}
 use Rattle.chip_dmc.specs.declared.Registers.{Registers}
@@ -106,11 +104,6 @@ dmc-on n from to =
       reader =
           record { address-from = omega arith; address-to = omega arith; remaining = omega arith; buffer = omega arith };
     }
-
--- what it gives
-pub dmc-output-most : {top : ℕ} (d : Dmc) → DmcRanged top d → dmcOutput d ≤ 127
-unfolding dmcOutput
-dmc-output-most d r = r .output .level
 
 -- THE TIMER KEEPS IT
 pub level-moved-most : (byte level : ℕ) → level ≤ 127 → levelMoved byte level ≤ 127
@@ -233,14 +226,10 @@ module _ (memory : List ℕ) (bytes : (i : ℕ) → getD memory i 0 ≤ 255) whe
         reader = reader-kept (d .registers) (d .reader) (r .registers) (r .reader);
       }
 
-  -- ONE CLOCK KEEPS IT, and so does any number of clocks
+  -- ONE CLOCK KEEPS IT
   pub dmc-clock-kept : {top : ℕ} (n : ℕ) → 1 ≤ n → n ≤ top → (d : Dmc) → DmcRanged top d → DmcRanged top (dmcClock memory n d)
   unfolding dmcClock
   dmc-clock-kept n from to d r = dmc-read-kept (dmcTimed n d) (dmc-timed-kept n from to d r)
-
-  pub dmc-clocks-kept : {top : ℕ} (n : ℕ) → 1 ≤ n → n ≤ top → (g : ℕ) (d : Dmc) → DmcRanged top d
-      → DmcRanged top (iterate (dmcClock memory n) g d)
-  dmc-clocks-kept {top} n from to g d r = iterate-keeps (DmcRanged top) (dmcClock memory n) (dmc-clock-kept n from to) g d r
 
 -- WRITES KEEP IT
 write0-kept : {top : ℕ} (value : ℕ) (d : Dmc) → DmcRanged top d → DmcRanged top (dmcWrite0 value d)

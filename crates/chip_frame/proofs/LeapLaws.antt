@@ -219,6 +219,8 @@ module _ (t : Times) (rise : Rising t) (f : Frame) (h : FrameRanged t f) where
   unfolding frameDue
   before-due = ap not (ap (λ (k : ℕ). eqb k 0) (next-is (frameBefore t f)) ∙ brink .due)
 
+-- HOW LONG A STRETCH CAN BE
+
 -- where no gap between two times is longer, and the first comes no later, a stretch between two steps is no longer either
 pub record Gaps (t : Times) (most : ℕ) : Type 0 where
   pub first : t .first ≤ most

@@ -6,9 +6,7 @@ use native.Mathlib.Omega.{arith}
 use lib.Dec.{leb, eqb}
 use borrow.Author.Tests.{leb-true, le-leb, leb-false}
 use Rattle.arith.specs.Bit.{bitSet}
-use Rattle.arith.specs.Iterate.{iterate}
 use Rattle.arith.specs.Pick.{pick, both}
-use Rattle.arith.proofs.IterateLaws.{iterate-keeps}
 use Rattle.arith.proofs.PickLaws.{both-left, both-right, both-true, pick-both}
 use Rattle.chip_units.specs.Envelope.{volume}
 use Rattle.chip_units.proofs.RangeLaws.{EnvelopeRanged, envelope-in, envelope-back, envelope-clocked, envelope-set, envelope-begun, volume-most, LengthRanged, length-in, length-back, length-clocked, length-loaded, length-enabled}
@@ -32,11 +30,11 @@ pub record NoiseRanged (top : ℕ) (c : Noise) : Type 0 where
 
 module _ {top : ℕ} where
   -- THE TEST AND THE FACTS
-  pub shifter-in : (h : Shifter) → shifterIn top h ≡ true → ShifterRanged top h
+  shifter-in : (h : Shifter) → shifterIn top h ≡ true → ShifterRanged top h
   unfolding shifterIn
   shifter-in h e = search (both-left, both-right, leb-true)
 
-  pub shifter-back : (h : Shifter) → ShifterRanged top h → shifterIn top h ≡ true
+  shifter-back : (h : Shifter) → ShifterRanged top h → shifterIn top h ≡ true
   unfolding shifterIn
   shifter-back h r = search (both-true, le-leb)
 
@@ -69,7 +67,7 @@ module _ {top : ℕ} where
       }
 
   -- what it gives
-  pub noise-amount-most : (c : Noise) → NoiseRanged top c → noiseAmount c ≤ 15
+  noise-amount-most : (c : Noise) → NoiseRanged top c → noiseAmount c ≤ 15
   unfolding noiseAmount
   noise-amount-most c r =
       pick-both (λ (x : ℕ). x ≤ 15) (eqb (c .length .count) 0) (omega arith) (volume-most (c .envelope) (r .envelope))
@@ -79,7 +77,7 @@ module _ {top : ℕ} where
   noise-output-most c r =
       pick-both (λ (x : ℕ). x ≤ 15) (bitSet (c .shifter .register) 0) (omega arith) (noise-amount-most c r)
 
-  -- A CLOCK KEEPS IT, and so does any number of clocks
+  -- A CLOCK KEEPS IT
   pub shifter-clock-kept : (n : ℕ) (mode : Bool) → 1 ≤ n → n ≤ top → (h : Shifter) → ShifterRanged top h
       → ShifterRanged top (shifterClock n mode h)
   unfolding shifterClock
@@ -101,11 +99,6 @@ module _ {top : ℕ} where
             register-from = r .register-from;
             register-to = r .register-to;
           }
-
-  pub shifter-clocks-kept : (n : ℕ) (mode : Bool) → 1 ≤ n → n ≤ top → (g : ℕ) (h : Shifter) → ShifterRanged top h
-      → ShifterRanged top (iterate (shifterClock n mode) g h)
-  shifter-clocks-kept n mode from to g h r =
-      iterate-keeps (ShifterRanged top) (shifterClock n mode) (shifter-clock-kept n mode from to) g h r
 
   pub noise-timed-kept : (n : ℕ) → 1 ≤ n → n ≤ top → (c : Noise) → NoiseRanged top c → NoiseRanged top (noiseTimed n c)
   unfolding noiseTimed

@@ -12,7 +12,7 @@ use Rattle.arith.proofs.IterateLaws.{iterate-keeps}
 use Rattle.chip_noise.specs.Shifter.{tapOf, shiftedOf}
 
 -- XOR of two bits of a register is their sum without the carry
-pub xor-sum : (r k : ℕ) → bitXor (bitOf r 0) (bitOf r k) ≡ (bitOf r 0 + bitOf r k) % 2
+xor-sum : (r k : ℕ) → bitXor (bitOf r 0) (bitOf r k) ≡ (bitOf r 0 + bitOf r k) % 2
 xor-sum r k = xor-bits (bitOf r 0) (bitOf r k) (omega arith) (omega arith)
 
 -- THE STEP IN SUMS

@@ -1,11 +1,11 @@
 -- Document 01, "Units", Noise: the channel.
 use Prim.Native.Nat.{ℕ, _%_}
-use mathlib.Core.Bool.{Bool, true, false}
+use mathlib.Core.Bool.{Bool, false}
 use lib.Dec.{leb, eqb}
 use Rattle.arith.specs.Pick.{pick, both}
 use Rattle.arith.specs.Bit.{bitSet}
-use Rattle.chip_units.specs.Envelope.{envelopeClock, envelopeSet, envelopeBegun, envelopeIn, volume}
-use Rattle.chip_units.specs.Length.{lengthClock, lengthLoaded, lengthEnabled, lengthIn}
+use Rattle.chip_units.specs.Envelope.{envelopeClock, envelopeSet, envelopeBegun, envelopeIn, envelopeOn, volume}
+use Rattle.chip_units.specs.Length.{lengthClock, lengthLoaded, lengthEnabled, lengthIn, lengthOn}
 use Rattle.chip_units.specs.declared.envelope.Envelope.{Envelope}
 use Rattle.chip_units.specs.declared.length.Length.{Length}
 use Rattle.chip_noise.specs.Shifter.{shifterClock, shifterIn}
@@ -92,6 +92,6 @@ noiseOn n =
       mode = false;
       index = 0;
       shifter = record { timer = n; register = 1 };
-      envelope = record { looped = false; constant = false; n = 0; start = false; divider = 1; counter = 0 };
-      length = record { count = 0; enabled = false };
+      envelope = envelopeOn;
+      length = lengthOn;
     }

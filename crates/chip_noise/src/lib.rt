@@ -74,18 +74,8 @@ impl Noise {
             timer: period,
             register: 1,
         };
-        let envelope = Envelope {
-            looped: false,
-            constant: false,
-            n: 0,
-            start: false,
-            divider: 1,
-            counter: 0,
-        };
-        let length = Length {
-            count: 0,
-            enabled: false,
-        };
+        let envelope = Envelope::power_on();
+        let length = Length::power_on();
         Noise {
             mode: false,
             index: 0,

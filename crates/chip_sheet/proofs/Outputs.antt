@@ -8,12 +8,12 @@ use borrow.Author.Tests.{lt-leb}
 use Rattle.arith.specs.Iterate.{iterate}
 use Rattle.chip_dmc.specs.Clock.{outputStep}
 use Rattle.chip_dmc.specs.declared.Output.{Output}
-use Rattle.chip_sheet.specs.Byte.{stepsOf, eightSteps}
+use Rattle.chip_sheet.specs.Byte.{lowSteps, eightSteps}
 
 module _ (period : ℕ) (full : Bool) (buffer : ℕ) where
   -- as long as bits are left: that many outputs are that many steps
-  outputs : (k : ℕ) (o : Output) → o .silence ≡ false → k ≤ o .bits → iterate (outputStep period full buffer) k o .level ≡ stepsOf k (o .shift) (o .level)
-  unfolding iterate stepsOf outputStep
+  outputs : (k : ℕ) (o : Output) → o .silence ≡ false → k ≤ o .bits → iterate (outputStep period full buffer) k o .level ≡ lowSteps k (o .shift) (o .level)
+  unfolding iterate lowSteps outputStep
   outputs zero o e h = refl
   outputs (suc zero) o e h = rw e
   outputs (suc (suc k)) o e h =

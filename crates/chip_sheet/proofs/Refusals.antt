@@ -9,7 +9,7 @@ use lib.ListN.{length, drop}
 use borrow.Author.Tests.{ltb-false, eqb-true, not-false, eq-eqb, ne-eqb}
 use Rattle.arith.specs.Pick.{pick, either}
 use Rattle.arith.proofs.PickLaws.{pick-both}
-use Rattle.chip_sheet.specs.Sheet.{levelsOf, firstNumber, sheetNumber, sheetAnswer, sheetBuffer}
+use Rattle.chip_sheet.specs.Sheet.{sheetLevels, firstNumber, sheetNumber, sheetAnswer, sheetBuffer}
 use Rattle.chip_sheet.specs.declared.Written.{Written}
 
 passed : (t : Bool) (k rest : ℕ) → (k ≡ 0 → ⊥) → pick t k rest ≡ 0 → (t ≡ false) × (rest ≡ 0)
@@ -49,7 +49,7 @@ done memory level address n room e =
 module _ (memory : List ℕ) (level address n : ℕ) (buffer : List ℕ) where
   pub drawn-out : sheetNumber memory level address n (length buffer) ≡ 0
       → (_≡_ {A = Written} (record { number = 0; length = n }) (sheetAnswer memory level address n buffer))
-      × (levelsOf memory n address level ++ drop n buffer ≡ sheetBuffer memory level address n buffer)
+      × (sheetLevels memory n address level ++ drop n buffer ≡ sheetBuffer memory level address n buffer)
   unfolding sheetAnswer sheetBuffer
   drawn-out e = rw (eq-eqb (sheetNumber memory level address n (length buffer)) 0 e) (refl, refl)
 

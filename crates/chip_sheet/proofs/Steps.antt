@@ -7,7 +7,7 @@ use native.Mathlib.Omega.{arith}
 use lib.Count.{ones, ones-step, ones-le}
 use borrow.Author.Tests.{lt-ltb, eq-eqb, ne-eqb}
 use Rattle.chip_dmc.specs.Clock.{levelMoved}
-use Rattle.chip_sheet.specs.Byte.{stepsOf, eightSteps, byOnes}
+use Rattle.chip_sheet.specs.Byte.{lowSteps, eightSteps, byOnes}
 
 -- one step away from the ends: 2 down, and 4 up for a set bit
 one : (byte b l : ℕ) → byte % 2 ≡ b → 2 ≤ l → l ≤ 125 → levelMoved byte l + 2 ≡ l + 4 * b
@@ -17,8 +17,8 @@ one byte (suc zero) l e h k = rw (ne-eqb (byte % 2) 0 (λ z. omega arith), lt-lt
 one byte (suc (suc b)) l e h k = absurd (omega arith)
 
 steps : (k byte level : ℕ) → byte < 2 ^ k → 2 * k ≤ level → level + 2 * k ≤ 127
-    → stepsOf k byte level + 2 * k ≡ level + 4 * ones byte
-unfolding stepsOf
+    → lowSteps k byte level + 2 * k ≡ level + 4 * ones byte
+unfolding lowSteps
 steps zero byte level hb h l = omega (arith, ones-le 0 byte hb)
 steps (suc k) byte level hb h l =
     let e = one byte (byte % 2) level refl (omega arith) (omega arith) in
@@ -35,10 +35,10 @@ pub ones-most : (byte : ℕ) → byte ≤ 255 → ones byte ≤ 8
 ones-most byte b = ones-le 8 byte (omega arith)
 
 -- a step taken off the front
-pub steps-on : (k byte level : ℕ) → stepsOf (suc k) byte level ≡ stepsOf k (byte / 2) (levelMoved byte level)
-unfolding stepsOf
+pub steps-on : (k byte level : ℕ) → lowSteps (suc k) byte level ≡ lowSteps k (byte / 2) (levelMoved byte level)
+unfolding lowSteps
 steps-on k byte level = refl
 
-pub steps-none : (byte level : ℕ) → stepsOf 0 byte level ≡ level
-unfolding stepsOf
+pub steps-none : (byte level : ℕ) → lowSteps 0 byte level ≡ level
+unfolding lowSteps
 steps-none byte level = refl

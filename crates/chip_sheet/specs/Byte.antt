@@ -4,13 +4,13 @@ use lib.Count.{ones}
 use Rattle.chip_dmc.specs.Clock.{levelMoved}
 
 -- the steps of a byte's k lowest bits, bit 0 first: document 01's DMC rule moves the level by bit 0, then "shift right"
-unfoldable pub stepsOf : ℕ → ℕ → ℕ → ℕ
-stepsOf zero byte level = level
-stepsOf (suc k) byte level = stepsOf k (byte / 2) (levelMoved byte level)
+unfoldable pub lowSteps : ℕ → ℕ → ℕ → ℕ
+lowSteps zero byte level = level
+lowSteps (suc k) byte level = lowSteps k (byte / 2) (levelMoved byte level)
 
 -- "by the DMC rule": a byte's eight steps
 abbrev pub eightSteps : ℕ → ℕ → ℕ
-eightSteps byte level = stepsOf 8 byte level
+eightSteps byte level = lowSteps 8 byte level
 
 -- "Starting at 16 to 111, a byte moves the level by four times its count of ones, less 16"
 abbrev pub byOnes : ℕ → ℕ → ℕ

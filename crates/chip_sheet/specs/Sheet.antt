@@ -10,11 +10,11 @@ use Rattle.chip_sheet.specs.Byte.{eightSteps}
 use Rattle.chip_sheet.specs.declared.Written.{Written}
 
 -- "the level after each byte": n levels from an address and a level on. "Address wraps as in 01." "Length 0 gives no levels."
-unfoldable pub levelsOf : List ℕ → ℕ → ℕ → ℕ → List ℕ
-levelsOf memory zero address level = []
-levelsOf memory (suc n) address level =
+unfoldable pub sheetLevels : List ℕ → ℕ → ℕ → ℕ → List ℕ
+sheetLevels memory zero address level = []
+sheetLevels memory (suc n) address level =
     eightSteps (byteAt memory address) level
-    ∷ levelsOf memory n (nextAddress address) (eightSteps (byteAt memory address) level)
+    ∷ sheetLevels memory n (nextAddress address) (eightSteps (byteAt memory address) level)
 
 -- "Refusals: 1 first, then 20 .., 21 .., 22 .., 23": the number of the first test that is true; 0 is done
 unfoldable pub firstNumber : (unfit loud outside long tight : Bool) → ℕ
@@ -46,5 +46,5 @@ sheetAnswer memory level address n buffer =
 unfoldable pub sheetBuffer : List ℕ → ℕ → ℕ → ℕ → List ℕ → List ℕ
 sheetBuffer memory level address n buffer =
     pick (eqb (sheetNumber memory level address n (length buffer)) 0)
-    (levelsOf memory n address level ++ drop n buffer)
+    (sheetLevels memory n address level ++ drop n buffer)
     buffer

@@ -4,7 +4,7 @@ ghost use Prim.Native.Nat.{_≤_};
 ghost use mathlib.Core.List.{_++_};
 ghost use lib.ListN.{length, drop};
 ghost use Rattle.chip_sheet.specs.Byte.{eightSteps};
-ghost use Rattle.chip_sheet.specs.Sheet.{levelsOf, firstNumber, sheetNumber, sheetAnswer, sheetBuffer};
+ghost use Rattle.chip_sheet.specs.Sheet.{sheetLevels, firstNumber, sheetNumber, sheetAnswer, sheetBuffer};
 
 // A number, and how many levels were written.
 pub struct Written {
@@ -43,7 +43,7 @@ pub fn level_after(byte: u8, level: u8) -> u8
 // The first n bytes of the buffer made the levels.
 fn draw(memory: &[u8], level: u8, address: u16, n: usize, buffer: &mut [u8])
     requires { ⌜ n ≤ length (now buffer) ⌝ }
-    ensures { λ r. ⌜ now (buffer .exit) ≡ levelsOf (now (memory .entry)) n address level ++ drop n (now (buffer .entry)) ⌝ }
+    ensures { λ r. ⌜ now (buffer .exit) ≡ sheetLevels (now (memory .entry)) n address level ++ drop n (now (buffer .entry)) ⌝ }
 {
     let mut l = level;
     let mut a = address;

@@ -29,6 +29,7 @@ pub record SquareRanged (s : Square) : Type 0 where
   pub sweep : SweepRanged (s .sweep)
   pub length : LengthRanged (s .length)
 
+-- THE TEST AND THE FACTS
 sequencer-in : (q : Sequencer) → sequencerIn q ≡ true → SequencerRanged q
 unfolding sequencerIn
 sequencer-in q e = search (both-left, both-right, leb-true, timer-in)
@@ -51,12 +52,13 @@ square-back s h =
     (both-true _ _ (envelope-back (s .envelope) (h .envelope))
     (both-true _ _ (sweep-back (s .sweep) (h .sweep)) (length-back (s .length) (h .length)))))
 
--- power-on is in range
+-- POWER-ON IS IN RANGE
 pub square-on : squareIn squareOn ≡ true
 unfolding squareIn sequencerIn Rattle.chip_units.specs.Timer.timerIn Rattle.chip_units.specs.Envelope.envelopeIn Rattle.chip_units.specs.Sweep.sweepIn Rattle.chip_units.specs.Length.lengthIn
 square-on = refl
 
-pub sequencer-clocked : (q : Sequencer) → SequencerRanged q → SequencerRanged (sequencerClock q)
+-- CLOCKS KEEP IT
+sequencer-clocked : (q : Sequencer) → SequencerRanged q → SequencerRanged (sequencerClock q)
 unfolding sequencerClock
 sequencer-clocked q h =
     record {
@@ -107,6 +109,7 @@ square-swept second s h =
       length = length-clocked (s .envelope .looped) (s .length) (h .length);
     }
 
+-- WRITES KEEP IT
 pub square-enabled : (on : Bool) (s : Square) → SquareRanged s → SquareRanged (squareEnabled on s)
 unfolding squareEnabled
 square-enabled on s h =
@@ -177,7 +180,7 @@ module _ (value : ℕ) (byte : value ≤ 255) (s : Square) (h : SquareRanged s) 
       pick-both SquareRanged (eqb place 0) write0
       (pick-both SquareRanged (eqb place 1) write1 (pick-both SquareRanged (eqb place 2) write2 write3))
 
--- what it gives is at most 15
+-- WHAT IT GIVES IS AT MOST 15
 pub square-output-most : (second : Bool) (s : Square) → SquareRanged s → squareOutput second s ≤ 15
 unfolding squareOutput squareAmount
 square-output-most second s h =

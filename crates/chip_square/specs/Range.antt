@@ -1,11 +1,11 @@
 -- Document 01, "State, ranges and power-on": a square.
-use mathlib.Core.Bool.{Bool, true, false}
+use mathlib.Core.Bool.{Bool, false}
 use lib.Dec.{leb}
 use Rattle.arith.specs.Pick.{both}
-use Rattle.chip_units.specs.Envelope.{envelopeIn}
-use Rattle.chip_units.specs.Length.{lengthIn}
+use Rattle.chip_units.specs.Envelope.{envelopeIn, envelopeOn}
+use Rattle.chip_units.specs.Length.{lengthIn, lengthOn}
 use Rattle.chip_units.specs.Sweep.{sweepIn}
-use Rattle.chip_units.specs.Timer.{timerIn}
+use Rattle.chip_units.specs.Timer.{timerIn, timerOn}
 use Rattle.chip_square.specs.declared.Sequencer.{Sequencer}
 use Rattle.chip_square.specs.declared.Square.{Square}
 
@@ -24,8 +24,8 @@ abbrev pub squareOn : Square
 squareOn =
     record {
       duty = 0;
-      sequencer = record { timer = record { period = 0; count = 1 }; half = false; position = 0 };
-      envelope = record { looped = false; constant = false; n = 0; start = false; divider = 1; counter = 0 };
+      sequencer = record { timer = timerOn; half = false; position = 0 };
+      envelope = envelopeOn;
       sweep = record { enable = false; negate = false; period = 0; shift = 0; written = false; divider = 1 };
-      length = record { count = 0; enabled = false };
+      length = lengthOn;
     }

@@ -129,23 +129,13 @@ impl Square {
     pub fn power_on() -> Square
         ensures { λ r. ⌜ r ≡ squareOn ⌝ }
     {
-        let timer = Timer {
-            period: 0,
-            count: 1,
-        };
+        let timer = Timer::power_on();
         let sequencer = Sequencer {
             timer: timer,
             half: false,
             position: 0,
         };
-        let envelope = Envelope {
-            looped: false,
-            constant: false,
-            n: 0,
-            start: false,
-            divider: 1,
-            counter: 0,
-        };
+        let envelope = Envelope::power_on();
         let sweep = Sweep {
             enable: false,
             negate: false,
@@ -154,10 +144,7 @@ impl Square {
             written: false,
             divider: 1,
         };
-        let length = Length {
-            count: 0,
-            enabled: false,
-        };
+        let length = Length::power_on();
         Square {
             duty: 0,
             sequencer: sequencer,

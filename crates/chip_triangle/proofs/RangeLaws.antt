@@ -1,15 +1,15 @@
 -- The triangle's range: the test, the facts that it stands for, and that every operation keeps them. Assumes nothing.
-use Prim.Native.Nat.{ℕ, _+_, _-_, _%_, _≤_}
+use Prim.Native.Nat.{ℕ, _+_, _-_, _≤_}
 use mathlib.Core.Path.{_≡_, refl}
 use mathlib.Core.Bool.{Bool, true, false}
 use native.Mathlib.Omega.{arith}
-use lib.Dec.{leb, ltb, eqb}
+use lib.Dec.{leb, eqb}
 use borrow.Author.Tests.{leb-true, le-leb, ltb-true, ltb-false}
 use Rattle.arith.specs.Pick.{pick, both}
-use Rattle.arith.proofs.PickLaws.{both-left, both-right, both-true, pick-both, pick-each}
+use Rattle.arith.proofs.PickLaws.{both-left, both-right, both-true, pick-both}
 use Rattle.divider.specs.Divider.{due}
 use Rattle.chip_units.proofs.RangeLaws.{TimerRanged, timer-in, timer-back, timer-clocked, period-low-kept, period-high-kept, LengthRanged, length-in, length-back, length-clocked, length-loaded, length-enabled, LinearRanged, linear-in, linear-back, linear-clocked, linear-set, linear-halted}
-use Rattle.chip_triangle.specs.Triangle.{runs, triangleSequenced, triangleTimed, triangleLinear, triangleLengthened, triangleEnabled, triangleAt, triangleOutput, triangleSequencerIn, triangleIn, triangleOn}
+use Rattle.chip_triangle.specs.Triangle.{runs, triangleSequenced, triangleTimed, triangleLinear, triangleLengthened, triangleEnabled, triangleSequencerIn, triangleIn, triangleOn}
 use Rattle.chip_triangle.specs.Write.{triangleWrite0, triangleWrite2, triangleWrite3, triangleWrite}
 use Rattle.chip_triangle.specs.declared.Sequencer.{Sequencer}
 use Rattle.chip_triangle.specs.declared.Triangle.{Triangle}
@@ -48,7 +48,7 @@ pub triangle-on : triangleIn triangleOn ≡ true
 unfolding triangleIn triangleSequencerIn Rattle.chip_units.specs.Timer.timerIn Rattle.chip_units.specs.Linear.linearIn Rattle.chip_units.specs.Length.lengthIn
 triangle-on = refl
 
-pub sequencer-clocked : (on : Bool) (q : Sequencer) → SequencerRanged q → SequencerRanged (triangleSequenced on q)
+sequencer-clocked : (on : Bool) (q : Sequencer) → SequencerRanged q → SequencerRanged (triangleSequenced on q)
 unfolding triangleSequenced
 sequencer-clocked on q h =
     record {
@@ -111,9 +111,3 @@ module _ (value : ℕ) (byte : value ≤ 255) (t : Triangle) (h : TriangleRanged
   triangle-written place =
       pick-both TriangleRanged (eqb place 0) write0
       (pick-both TriangleRanged (eqb place 2) write2 (pick-both TriangleRanged (eqb place 3) write3 h))
-
--- what it gives is at most 15
-pub triangle-output-most : (t : Triangle) → triangleOutput t ≤ 15
-unfolding triangleOutput triangleAt
-triangle-output-most t =
-    pick-each (λ (k : ℕ). k ≤ 15) (ltb (t .sequencer .position % 32) 16) (λ e. omega arith) (λ e. omega arith)

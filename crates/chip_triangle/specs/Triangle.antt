@@ -1,12 +1,12 @@
 -- Document 01, "Units", Triangle: the channel's clocks, what it gives, its range.
 use Prim.Native.Nat.{ℕ, _+_, _-_, _%_}
-use mathlib.Core.Bool.{Bool, true, false}
+use mathlib.Core.Bool.{Bool, false}
 use lib.Dec.{leb, ltb}
 use Rattle.arith.specs.Pick.{pick, both}
 use Rattle.divider.specs.Divider.{due}
-use Rattle.chip_units.specs.Length.{lengthClock, lengthEnabled, lengthIn}
+use Rattle.chip_units.specs.Length.{lengthClock, lengthEnabled, lengthIn, lengthOn}
 use Rattle.chip_units.specs.Linear.{linearClock, linearIn}
-use Rattle.chip_units.specs.Timer.{timerClock, timerIn}
+use Rattle.chip_units.specs.Timer.{timerClock, timerIn, timerOn}
 use Rattle.chip_units.specs.declared.length.Length.{Length}
 use Rattle.chip_units.specs.declared.linear.Linear.{Linear}
 use Rattle.chip_triangle.specs.declared.Sequencer.{Sequencer}
@@ -67,7 +67,7 @@ triangleIn t = both (triangleSequencerIn (t .sequencer)) (both (linearIn (t .lin
 abbrev pub triangleOn : Triangle
 triangleOn =
     record {
-      sequencer = record { timer = record { period = 0; count = 1 }; position = 0 };
+      sequencer = record { timer = timerOn; position = 0 };
       linear = record { control = false; reload = 0; count = 0; halt = false };
-      length = record { count = 0; enabled = false };
+      length = lengthOn;
     }

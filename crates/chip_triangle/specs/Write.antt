@@ -1,6 +1,5 @@
 -- Document 01, "Register bits": the triangle's registers, $4008 to $400B.
 use Prim.Native.Nat.{ℕ}
-use mathlib.Core.Bool.{Bool}
 use lib.Dec.{eqb}
 use Rattle.arith.specs.Pick.{pick}
 use Rattle.chip_units.specs.Length.{lengthLoaded}

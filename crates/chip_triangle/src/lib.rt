@@ -67,10 +67,7 @@ impl Triangle {
     pub fn power_on() -> Triangle
         ensures { λ r. ⌜ r ≡ triangleOn ⌝ }
     {
-        let timer = Timer {
-            period: 0,
-            count: 1,
-        };
+        let timer = Timer::power_on();
         let sequencer = Sequencer {
             timer: timer,
             position: 0,
@@ -81,10 +78,7 @@ impl Triangle {
             count: 0,
             halt: false,
         };
-        let length = Length {
-            count: 0,
-            enabled: false,
-        };
+        let length = Length::power_on();
         Triangle {
             sequencer: sequencer,
             linear: linear,

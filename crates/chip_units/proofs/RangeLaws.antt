@@ -96,7 +96,7 @@ length-clocked halt l h =
 table-most : (k : ℕ) → k < 32 → getD lengths k 0 ≤ 254
 table-most k h = leb→le (getD lengths k 0) 254 (at (λ i x. leb x 254) lengths tt k h)
 
-pub length-of-most : (v : ℕ) → v ≤ 255 → lengthOf v ≤ 254
+length-of-most : (v : ℕ) → v ≤ 255 → lengthOf v ≤ 254
 length-of-most v h = table-most (v / 8) (omega arith)
 
 pub length-loaded : (v : ℕ) (l : Length) → v ≤ 255 → LengthRanged l → LengthRanged (lengthLoaded v l)

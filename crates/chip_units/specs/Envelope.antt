@@ -74,3 +74,7 @@ envelopeBegun e =
 unfoldable pub envelopeIn : Envelope → Bool
 envelopeIn e =
     both (leb (e .n) 15) (both (both (leb 1 (e .divider)) (leb (e .divider) 16)) (leb (e .counter) 15))
+
+-- at power-on: "envelope .. divider .. (1)", the rest 0 and clear
+abbrev pub envelopeOn : Envelope
+envelopeOn = record { looped = false; constant = false; n = 0; start = false; divider = 1; counter = 0 }

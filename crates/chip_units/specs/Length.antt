@@ -1,6 +1,6 @@
 -- Document 01, "Units": the length.
 use Prim.Native.Nat.{ℕ, _-_, _/_}
-use mathlib.Core.Bool.{Bool, true}
+use mathlib.Core.Bool.{Bool, true, false}
 use mathlib.Core.List.{List, [], _∷_}
 use lib.ListN.{getD}
 use lib.Dec.{leb, eqb}
@@ -30,3 +30,7 @@ lengthEnabled on l = record { count = pick on (l .count) 0; enabled = on }
 -- "length 0..254"; "A channel that isn't enabled has length 0."
 unfoldable pub lengthIn : Length → Bool
 lengthIn l = both (leb (l .count) 254) (pick (l .enabled) true (eqb (l .count) 0))
+
+-- at power-on
+abbrev pub lengthOn : Length
+lengthOn = record { count = 0; enabled = false }

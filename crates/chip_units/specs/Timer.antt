@@ -24,3 +24,7 @@ periodHigh value t = record { period = value % 8 * 256 + t .period % 256; count 
 -- "period 0..2047; timer 1..2048"
 unfoldable pub timerIn : Timer → Bool
 timerIn t = both (leb (t .period) 2047) (both (leb 1 (t .count)) (leb (t .count) 2048))
+
+-- at power-on: "timer .. (1)"
+abbrev pub timerOn : Timer
+timerOn = record { period = 0; count = 1 }

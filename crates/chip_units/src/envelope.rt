@@ -1,6 +1,6 @@
 // The volume envelope of a square or the noise.
 ghost use mathlib.Core.Path.{_≡_};
-ghost use Rattle.chip_units.specs.Envelope.{envelopeStarted, decayed, envelopeDivided, envelopeClock, volume, envelopeSet, envelopeBegun, envelopeIn};
+ghost use Rattle.chip_units.specs.Envelope.{envelopeStarted, decayed, envelopeDivided, envelopeClock, volume, envelopeSet, envelopeBegun, envelopeIn, envelopeOn};
 
 // `looped` is also the halt flag of the channel's length; `n` is the volume or the divider's period less one.
 pub struct Envelope {
@@ -21,6 +21,19 @@ fn decayed_from(looped: bool, counter: u8) -> u8
 }
 
 impl Envelope {
+    pub fn power_on() -> Envelope
+        ensures { λ r. ⌜ r ≡ envelopeOn ⌝ }
+    {
+        Envelope {
+            looped: false,
+            constant: false,
+            n: 0,
+            start: false,
+            divider: 1,
+            counter: 0,
+        }
+    }
+
     fn started(self) -> Envelope
         ensures { λ r. ⌜ r ≡ envelopeStarted self ⌝ }
     {

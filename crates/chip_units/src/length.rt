@@ -1,6 +1,6 @@
 // The length counter of a channel.
 ghost use mathlib.Core.Path.{_≡_};
-ghost use Rattle.chip_units.specs.Length.{lengthOf, lengthLoaded, lengthClock, lengthEnabled, lengthIn};
+ghost use Rattle.chip_units.specs.Length.{lengthOf, lengthLoaded, lengthClock, lengthEnabled, lengthIn, lengthOn};
 
 pub struct Length {
     pub count: u8,
@@ -51,6 +51,15 @@ pub fn length_of(value: u8) -> u8
 }
 
 impl Length {
+    pub fn power_on() -> Length
+        ensures { λ r. ⌜ r ≡ lengthOn ⌝ }
+    {
+        Length {
+            count: 0,
+            enabled: false,
+        }
+    }
+
     pub fn loaded(self, value: u8) -> Length
         ensures { λ r. ⌜ r ≡ lengthLoaded value self ⌝ }
     {

@@ -1,6 +1,6 @@
 // A timer with a period of its own: that of a square or the triangle.
 ghost use mathlib.Core.Path.{_≡_};
-ghost use Rattle.chip_units.specs.Timer.{timerClock, periodLow, periodHigh, timerIn};
+ghost use Rattle.chip_units.specs.Timer.{timerClock, periodLow, periodHigh, timerIn, timerOn};
 
 pub struct Timer {
     pub period: u16,
@@ -8,6 +8,15 @@ pub struct Timer {
 }
 
 impl Timer {
+    pub fn power_on() -> Timer
+        ensures { λ r. ⌜ r ≡ timerOn ⌝ }
+    {
+        Timer {
+            period: 0,
+            count: 1,
+        }
+    }
+
     pub fn clocked(self) -> Timer
         ensures { λ r. ⌜ r ≡ timerClock self ⌝ }
     {

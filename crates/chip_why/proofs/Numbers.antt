@@ -10,12 +10,12 @@ use Rattle.chip_square.specs.declared.Square.{Square}
 use Rattle.chip_noise.specs.declared.Noise.{Noise}
 use Rattle.chip.specs.Range.{inRange}
 use Rattle.chip.specs.declared.State.{State}
-use Rattle.chip_why.specs.Value.{numberOf, valueOf}
+use Rattle.chip_why.specs.Value.{reasonNumber, valueOf}
 use Rattle.chip_why.specs.Why.{firstReason, squareWhy, noiseWhy, channelWhy, whyAnswer}
 use Rattle.chip_why.specs.declared.Reason.{Reason}
 use Rattle.chip_why.specs.declared.Reason.the-variants.{Refused, NotEnabled, LengthZero, PeriodLow, TargetHigh, StepLow, VolumeZero, Sounds}
 
-number-pick : (t : Bool) (a b : Reason) → numberOf (pick t a b) ≡ pick t (numberOf a) (numberOf b)
+number-pick : (t : Bool) (a b : Reason) → reasonNumber (pick t a b) ≡ pick t (reasonNumber a) (reasonNumber b)
 number-pick true a b = refl
 number-pick false a b = refl
 
@@ -23,17 +23,17 @@ either-way : {A : Type 0} (t : Bool) (a : A) → pick t a a ≡ a
 either-way true a = refl
 either-way false a = refl
 
-square-done : (second : Bool) (s : Square) → numberOf (squareWhy second s) ≡ 0
+square-done : (second : Bool) (s : Square) → reasonNumber (squareWhy second s) ≡ 0
 unfolding squareWhy firstReason
 square-done second s = simp (number-pick, either-way)
 
-noise-done : (c : Noise) → numberOf (noiseWhy c) ≡ 0
+noise-done : (c : Noise) → reasonNumber (noiseWhy c) ≡ 0
 unfolding noiseWhy firstReason
 noise-done c = simp (number-pick, either-way)
 
 -- WHICH CALLS ARE REFUSED: 2 a state out of range, then 24 "any other channel"
 pub refusals : (channel : ℕ) (s : State)
-    → numberOf (whyAnswer channel s) ≡ pick (inRange s) (pick (eqb channel 0) 0 (pick (eqb channel 1) 0 (pick (eqb channel 3) 0 24))) 2
+    → reasonNumber (whyAnswer channel s) ≡ pick (inRange s) (pick (eqb channel 0) 0 (pick (eqb channel 1) 0 (pick (eqb channel 3) 0 24))) 2
 unfolding whyAnswer channelWhy
 refusals channel s = simp (number-pick, square-done, noise-done)
 
@@ -68,7 +68,7 @@ reasonOf number value =
     (Refused number)
 
 -- NUMBER AND VALUE TELL EVERY ANSWER FROM EVERY OTHER
-pub told-apart : (r : Reason) → nought r ≡ false → reasonOf (numberOf r) (valueOf r) ≡ r
+pub told-apart : (r : Reason) → nought r ≡ false → reasonOf (reasonNumber r) (valueOf r) ≡ r
 told-apart (Refused n) h = rw h
 told-apart NotEnabled h = refl
 told-apart LengthZero h = refl

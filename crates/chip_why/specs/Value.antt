@@ -4,15 +4,15 @@ use Rattle.chip_why.specs.declared.Reason.{Reason}
 use Rattle.chip_why.specs.declared.Reason.the-variants.{Refused, NotEnabled, LengthZero, PeriodLow, TargetHigh, StepLow, VolumeZero, Sounds}
 
 -- the number: a refusal's own, else 0, "done"
-abbrev pub numberOf : Reason → ℕ
-numberOf (Refused n) = n
-numberOf NotEnabled = 0
-numberOf LengthZero = 0
-numberOf PeriodLow = 0
-numberOf TargetHigh = 0
-numberOf StepLow = 0
-numberOf VolumeZero = 0
-numberOf (Sounds n) = 0
+abbrev pub reasonNumber : Reason → ℕ
+reasonNumber (Refused n) = n
+reasonNumber NotEnabled = 0
+reasonNumber LengthZero = 0
+reasonNumber PeriodLow = 0
+reasonNumber TargetHigh = 0
+reasonNumber StepLow = 0
+reasonNumber VolumeZero = 0
+reasonNumber (Sounds n) = 0
 
 -- the value: of a reason its place in the request's order, from 1; of what sounds 16 + the number that the channel gives; refused, 0
 abbrev pub valueOf : Reason → ℕ

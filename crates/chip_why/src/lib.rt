@@ -1,7 +1,7 @@
 // Why a channel is silent: the first true reason, or that it sounds, for any state and any channel number.
 ghost use mathlib.Core.Path.{_≡_};
 ghost use Rattle.chip_why.specs.Why.{firstReason, squareWhy, noiseWhy, channelWhy, whyAnswer};
-ghost use Rattle.chip_why.specs.Value.{numberOf, valueOf};
+ghost use Rattle.chip_why.specs.Value.{reasonNumber, valueOf};
 use chip::State;
 use chip_noise::Noise;
 use chip_square::Square;
@@ -103,7 +103,7 @@ pub fn why(s: State, channel: u64) -> Reason
 
 // The number that an answer carries.
 pub fn number_of(r: Reason) -> u8
-    ensures { λ n. ⌜ n ≡ numberOf r ⌝ }
+    ensures { λ n. ⌜ n ≡ reasonNumber r ⌝ }
 {
     match r {
         Reason::Refused(n) => n,

@@ -11,6 +11,7 @@ use Rattle.arith.specs.Pick.{pick}
 use Rattle.divider.specs.Divider.{due, Driven, drive, outputs, countAfter}
 use Rattle.arith.proofs.IterateLaws.{iterate-add, iterate-one}
 
+-- ANY NUMBER OF TICKS IN CLOSED FORM
 module _ {A : Type 0} (n : ℕ) (step : A → A) where
   -- fewer ticks than the count: no output
   pub drive-before : (g c : ℕ) (x : A) → g < c
@@ -35,7 +36,7 @@ module _ {A : Type 0} (n : ℕ) (step : A → A) where
       ∙ rw one
 
   -- q whole turns
-  pub drive-turns : 0 < n → (q : ℕ) (x : A)
+  drive-turns : 0 < n → (q : ℕ) (x : A)
       → iterate (drive n step) (q * n) (record { count = n; part = x }) ≡ record { count = n; part = iterate step q x }
   unfolding iterate
   drive-turns h zero x = rw zero-mul
@@ -46,7 +47,7 @@ module _ {A : Type 0} (n : ℕ) (step : A → A) where
       ∙ drive-turns h q (step x)
 
   -- as many ticks as the count or more: by the quotient and the remainder of the rest
-  pub drive-after : 0 < n → (g c : ℕ) (x : A) → 0 < c → c ≤ g
+  drive-after : 0 < n → (g c : ℕ) (x : A) → 0 < c → c ≤ g
       → iterate (drive n step) g (record { count = c; part = x })
       ≡ record { count = n - (g - c) % n; part = iterate step (suc ((g - c) / n)) x }
   unfolding iterate
@@ -79,17 +80,19 @@ module _ {A : Type 0} (n : ℕ) (step : A → A) where
       go true e = drive-before g c x (ltb-true g c e)
       go false e = drive-after hn g c x hc (ltb-false g c e)
 
--- a divider's count stays from 1 to what bounds both the count and the period
-pub count-after-most : (n c g m : ℕ) → 0 < n → 0 < c → n ≤ m → c ≤ m → (0 < countAfter n c g) × (countAfter n c g ≤ m)
+-- THE COUNT AND THE OUTPUTS BY THEMSELVES
+
+-- a count is at most what bounds the count before and the period
+pub count-after-top : (n c g m : ℕ) → n ≤ m → c ≤ m → countAfter n c g ≤ m
 unfolding countAfter
-count-after-most n c g m hn hc nm cm = go (ltb g c) refl
+count-after-top n c g m nm cm = go (ltb g c)
   where
-    go : (t : Bool) → ltb g c ≡ t → (0 < pick t (c - g) (n - (g - c) % n)) × (pick t (c - g) (n - (g - c) % n) ≤ m)
-    go true e = let h : g < c = ltb-true g c e in omega arith
-    go false e = omega (arith, mod-lt (g - c) hn)
+    go : (t : Bool) → pick t (c - g) (n - (g - c) % n) ≤ m
+    go true = omega arith
+    go false = omega arith
 
 -- in fewer ticks than q turns after the count there are at most q outputs
-pub outputs-most : (n c g q : ℕ) → 0 < n → 0 < c → g < c + q * n → outputs n c g ≤ q
+outputs-most : (n c g q : ℕ) → 0 < n → 0 < c → g < c + q * n → outputs n c g ≤ q
 unfolding outputs
 outputs-most n c g q hn hc h = go (ltb g c) refl
   where
@@ -101,11 +104,11 @@ outputs-most n c g q hn hc h = go (ltb g c) refl
         omega arith
 
 -- exactly at an output: q turns after the count
-pub count-at-turn : (n c q : ℕ) → countAfter n c (c + q * n) ≡ n
+count-at-turn : (n c q : ℕ) → countAfter n c (c + q * n) ≡ n
 unfolding countAfter
 count-at-turn n c q = rw (le-ltb (c + q * n) c (omega arith), add-sub-cancel-left c (q * n), mul-mod-left q n) (sub-zero n)
 
-pub outputs-at-turn : (n c q : ℕ) → 0 < n → outputs n c (c + q * n) ≡ suc q
+outputs-at-turn : (n c q : ℕ) → 0 < n → outputs n c (c + q * n) ≡ suc q
 unfolding outputs
 outputs-at-turn n c q h = rw (le-ltb (c + q * n) c (omega arith), add-sub-cancel-left c (q * n), mul-div-cancel q h)
 
@@ -142,12 +145,3 @@ module _ {A : Type 0} (n : ℕ) (step : A → A) (hn : 0 < n) where
       ∙ ap (iterate (drive n step) (n - 1)) (drive-turned q c x hc)
       ∙ drive-before n step (n - 1) n (iterate step q (step x)) (omega arith)
       ∙ ap (λ (k : ℕ). record { count = k; part = iterate step q (step x) }) one
-
--- a count is at most what bounds the count before and the period
-pub count-after-top : (n c g m : ℕ) → n ≤ m → c ≤ m → countAfter n c g ≤ m
-unfolding countAfter
-count-after-top n c g m nm cm = go (ltb g c)
-  where
-    go : (t : Bool) → pick t (c - g) (n - (g - c) % n) ≤ m
-    go true = omega arith
-    go false = omega arith

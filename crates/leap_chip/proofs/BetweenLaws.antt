@@ -17,7 +17,7 @@ use Rattle.chip_dmc.specs.Clock.{dmcTimed, dmcRead, dmcClock}
 use Rattle.chip_frame.specs.Frame.{frameDue, frameMoved}
 use Rattle.chip_frame.proofs.RangeLaws.{FrameRanged}
 use Rattle.chip_frame.proofs.LeapLaws.{passed-none, passed-due, passed-more}
-use Rattle.chip.specs.Table.{noisePeriod, dmcPeriod, frameTimes}
+use Rattle.chip_tables.specs.Table.{noisePeriod, dmcPeriod, frameTimes}
 use Rattle.chip.specs.Leap.{beforeStep, passedFrame}
 use Rattle.chip.proofs.RangeLaws.{times-rise}
 use Rattle.chip.specs.Clock.{timersClocked, readerClocked, framed, chipClock}
@@ -35,7 +35,7 @@ registers-kept : (memory : List ℕ) (n : ℕ) (r : Registers) (d : Dmc) → d .
 unfolding dmcClock dmcRead dmcTimed
 registers-kept memory n r d e = e
 
-pub registers-stay : (memory : List ℕ) (n g : ℕ) (d : Dmc) → iterate (dmcClock memory n) g d .registers ≡ d .registers
+registers-stay : (memory : List ℕ) (n g : ℕ) (d : Dmc) → iterate (dmcClock memory n) g d .registers ≡ d .registers
 registers-stay memory n g d =
     iterate-keeps (λ (x : Dmc). x .registers ≡ d .registers) (dmcClock memory n) (λ x e. registers-kept memory n (d .registers) x e) g d refl
 

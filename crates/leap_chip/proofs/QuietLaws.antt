@@ -43,12 +43,14 @@ use Rattle.chip.specs.Clock.{chipClock}
 use Rattle.chip.specs.Leap.{stepDue, beforeStep, passedFrame}
 use Rattle.chip.specs.Level.{stateLevel}
 use Rattle.chip.specs.Range.{inRange}
-use Rattle.chip.specs.Table.{noisePeriod, dmcPeriod, frameTimes}
+use Rattle.chip_tables.specs.Table.{noisePeriod, dmcPeriod, frameTimes}
 use Rattle.chip.specs.declared.State.{State}
 use Rattle.chip.proofs.RangeLaws.{StateRanged, state-in, noise-period-range, dmc-period-range, times-rise}
 use Rattle.leap_chip.specs.Between.{stateWith}
 use Rattle.leap_chip.specs.Quiet.{Quiet, squareAfter, triangleAfter, quietAfter, NoStep, Leapt, LeapLaw}
 use Rattle.leap_chip.proofs.BetweenLaws.{between}
+
+-- A SQUARE WITH NO LENGTH
 
 -- what the code makes of a square, count and steps by their remainders, is the law's text
 pub square-plain : (q : square1.Sequencer) → SequencerRanged q → (g : ℕ) → withBeat q (beatAdvanced g (beatOf q)) ≡ squareAfter g q
@@ -94,10 +96,12 @@ square-silent second q r z g =
     ∙ sym (none (beatOf (q .sequencer)))
     ∙ sym (squares.square-gives second q)
 
--- a triangle with no length is held
-held : (t : Triangle) → t .length .count ≡ 0 → triangleGate t ≡ 0
+-- A TRIANGLE WITH NO LENGTH
+
+-- a triangle with no length is gated
+pub gate-shut : (t : Triangle) → t .length .count ≡ 0 → triangleGate t ≡ 0
 unfolding triangleGate triangle.runs
-held t z = rw z
+gate-shut t z = rw z
 
 triangle-goes : (t : Triangle) → TriangleRanged t → (g : ℕ)
     → iterate (triangle.triangleSequenced (triangle.runs t)) g (t .sequencer)
@@ -124,7 +128,7 @@ triangle-rests t r z g =
     let b = triangles.beat-ranged (t .sequencer) (r .sequencer) in
     triangle-goes t r g
     ∙ ap (triangleWithBeat (t .sequencer))
-    (rw (held t z) (triangles.triangle-beat-closed 0 g (triangleBeatOf (t .sequencer)) (b .n-from) (b .count-from) (b .position)))
+    (rw (gate-shut t z) (triangles.triangle-beat-closed 0 g (triangleBeatOf (t .sequencer)) (b .n-from) (b .count-from) (b .position)))
     ∙ triangle-plain (t .sequencer) (r .sequencer) g
 
 -- and gives what it gave
@@ -135,8 +139,10 @@ triangle-holds t r z g =
     let b = triangleBeatOf (t .sequencer) in
     ap (λ (x : triangle1.Sequencer). triangle.triangleOutput (triangle.withSequencer t x)) (triangle-goes t r g)
     ∙ triangles.triangle-gives-at t (iterate (triangleBeatClock (triangleGate t)) g b)
-    ∙ triangles.triangle-held (triangleGate t) b (triangles.beat-ranged (t .sequencer) (r .sequencer)) (eq-eqb (triangleGate t) 0 (held t z)) g
+    ∙ triangles.triangle-held (triangleGate t) b (triangles.beat-ranged (t .sequencer) (r .sequencer)) (eq-eqb (triangleGate t) 0 (gate-shut t z)) g
     ∙ sym (triangles.triangle-gives t)
+
+-- A NOISE WITH NO LENGTH, AND AN IDLE DMC
 
 -- a noise with no length gives nothing, whatever its register
 noise-silent : (n : ℕ) (c : Noise) → c .length .count ≡ 0 → (h : Shifter)
@@ -150,6 +156,7 @@ noise-silent n c z h =
 idle : (s : State) → Quiet s → DmcIdle (s .dmc)
 idle s q = record { silence = q .silence; full = q .buffer; remaining = q .remaining }
 
+-- CLOCKS THAT BRING NO STEP
 module _ (memory : List ℕ) (s : State) (ranged : inRange s ≡ true) where
   abbrev r : StateRanged s
   r = state-in s ranged
@@ -178,7 +185,7 @@ module _ (memory : List ℕ) (s : State) (ranged : inRange s ≡ true) (q : Quie
   dmc-n = dmcPeriod (s .pal) (s .dmc .registers .index)
 
   -- EVERY FIELD
-  pub quiet-closed : iterate (chipClock memory) g s ≡ quietAfter g s
+  quiet-closed : iterate (chipClock memory) g s ≡ quietAfter g s
   unfolding quietAfter
   quiet-closed =
       let r = state-in s ranged in
@@ -192,7 +199,7 @@ module _ (memory : List ℕ) (s : State) (ranged : inRange s ≡ true) (q : Quie
       between memory s (r .frame) g few ∙ rw (a, b, t, n, d)
 
   -- THE LEVEL
-  pub quiet-level : stateLevel (iterate (chipClock memory) g s) ≡ stateLevel s
+  quiet-level : stateLevel (iterate (chipClock memory) g s) ≡ stateLevel s
   unfolding stateLevel stateWith
   quiet-level =
       let r = state-in s ranged in

@@ -19,7 +19,7 @@ use Rattle.chip.specs.Clock.{chipClock}
 use Rattle.chip.specs.Leap.{stepDue, passedFrame}
 use Rattle.chip.specs.Level.{stateLevel}
 use Rattle.chip.specs.Range.{inRange}
-use Rattle.chip.specs.Table.{noisePeriod, dmcPeriod}
+use Rattle.chip_tables.specs.Table.{noisePeriod, dmcPeriod}
 use Rattle.chip.specs.declared.State.{State}
 use Rattle.leap_chip.specs.Between.{stateWith}
 

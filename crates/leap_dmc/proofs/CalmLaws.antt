@@ -19,6 +19,8 @@ use Rattle.chip_dmc.specs.declared.Reader.{Reader}
 use Rattle.chip_dmc.specs.declared.Dmc.{Dmc}
 use Rattle.leap_dmc.specs.Leap.{withOutput, withTape}
 
+-- THE TAPE THAT THE TIMER DRIVES
+
 -- what the timer drives while nothing is taken from the buffer: the shift byte and the bits
 pub record Tape : Type 0 where
   pub shift : ℕ
@@ -34,6 +36,8 @@ seen d e = withOutput d (withTape (d .output) (e .count) (e .part .shift) (e .pa
 -- its own
 abbrev pub ownTape : Output → Driven Tape
 ownTape o = record { count = o .timer; part = record { shift = o .shift; bits = o .bits } }
+
+-- WHAT RESTS
 
 -- a reader with no fetch to make rests
 reader-rests : (memory : List ℕ) (s : Registers) (r : Reader) → pending r ≡ false → readerClock memory s r ≡ r
@@ -58,6 +62,7 @@ emptied-none t r e =
     go true f e = sym e
     go false f e = refl
 
+-- THE CLOCKS BEFORE THE EIGHT BITS END
 some : (k n : ℕ) → 0 < k * n → 0 < k
 some zero n h = let z : 0 * n ≡ 0 = zero-mul n in omega arith
 some (suc k) n h = omega arith
@@ -87,6 +92,7 @@ left-next n hn m e q = go (leb (e .count) 1) refl
         rw (lt-leb (e .part .bits) 1 b) (hn, omega (arith, q .1, leb-true (e .count) 1 t))
     go false t = let b : 1 < e .count = leb-false _ _ t in (omega arith, omega (arith, q .1))
 
+-- ONE CLOCK, AND ANY NUMBER OF CLOCKS
 module _ (memory : List ℕ) (n : ℕ) (d : Dmc) (p : pending (d .reader) ≡ false) where
   -- no timer output: the count falls
   calm-counts : (e : Driven Tape) → 1 < e .count → dmcClock memory n (seen d e) ≡ seen d (drive n tapeStep e)
@@ -154,6 +160,8 @@ module _ (memory : List ℕ) (n : ℕ) (d : Dmc) (p : pending (d .reader) ≡ fa
           → dmcClock memory n (seen d e) ≡ seen d (drive n tapeStep e)
       goes m e q true t = calm-shifts e (leb-true _ _ t) s (left-more n m e q (leb-true _ _ t))
       goes m e q false t = calm-counts e (leb-false _ _ t)
+
+-- THE TAPE IN CLOSED FORM
 
 -- k outputs on, the tape: the byte halved k times, the bits a divider of period 8
 tape-shift : (k : ℕ) (t : Tape) → iterate tapeStep k t .shift ≡ t .shift / 2 ^ k

@@ -3,13 +3,12 @@ use Prim.Native.Nat.{ℕ, _+_, _-_, _*_, _/_, _^_, _≤_, _<_}
 use mathlib.Core.Path.{_≡_, refl, sym, ap, _∙_}
 use mathlib.Core.Bool.{Bool, true, false}
 use mathlib.Core.List.{List}
-use native.Mathlib.Nat.{mul-le-mul}
 use native.Mathlib.Omega.{arith}
 use borrow.Author.Tests.{lt-ltb}
 use Rattle.arith.specs.Iterate.{iterate}
 use Rattle.arith.specs.Pick.{pick}
 use Rattle.arith.proofs.IterateLaws.{iterate-zero, iterate-more}
-use Rattle.arith.proofs.PickLaws.{pick-both, pick-each}
+use Rattle.arith.proofs.PickLaws.{pick-each}
 use Rattle.divider.specs.Divider.{drive, outputs, countAfter, forever}
 use Rattle.divider.proofs.DividerLaws.{drive-before, drive-closed, drive-brink}
 use Rattle.chip_dmc.specs.Clock.{withTimer, pending, dmcClock, dmcOutput}
@@ -47,16 +46,6 @@ seen-closed n g d hn r =
 count-last : (b : ℕ) → 0 < b → countAfter 8 b (b - 1) ≡ 1
 unfolding countAfter
 count-last b h = rw (lt-ltb (b - 1) b (omega arith)) (omega arith)
-
--- still fits in 32 bits, for any fields of their types
-pub still-most : (n : ℕ) (d : Dmc) → n ≤ 65535 → d .output .timer ≤ 65535 → d .output .bits ≤ 255 → dmcStill n d ≤ 20000000
-unfolding dmcStill outputStill
-still-most n d hn ht hb =
-    pick-both (λ (x : ℕ). x ≤ 20000000) (pending (d .reader)) (omega arith)
-    (pick-both (λ (x : ℕ). x ≤ 20000000) (d .output .silence)
-    (pick-both (λ (x : ℕ). x ≤ 20000000) (d .reader .full)
-    (omega (arith, mul-le-mul {n₁ = d .output .bits - 1} {m₁ = n} {n₂ = 254} {m₂ = 65535} (omega arith) hn)) (omega arith))
-    (omega arith))
 
 module _ (memory : List ℕ) (n : ℕ) (hn : 0 < n) (d : Dmc) {top : ℕ} (r : DmcRanged top d) where
   -- THE LAW OF THE QUIET STATE, the DMC's share: idle, any number of clocks has the closed form, and the output stays
@@ -133,7 +122,7 @@ module _ (memory : List ℕ) (n : ℕ) (hn : 0 < n) (d : Dmc) {top : ℕ} (r : D
           (drive-before n tapeStep (d .output .timer - 1) (d .output .timer) tape (omega (arith, r .output .timer-from))
           ∙ rw one))
 
-  pub dmc-brink : dmcStill n d < forever → iterate (dmcClock memory n) (dmcStill n d) d ≡ dmcBrink d
+  dmc-brink : dmcStill n d < forever → iterate (dmcClock memory n) (dmcStill n d) d ≡ dmcBrink d
   dmc-brink m = calm (dmcStill n d) (omega arith) ∙ brink-at (dmcStill n d) refl m
 
   -- THE NEXT CHANGE

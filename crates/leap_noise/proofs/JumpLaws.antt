@@ -11,6 +11,8 @@ use Rattle.arith.specs.Iterate.{iterate}
 use Rattle.chip_noise.specs.Shifter.{tapOf, shiftedOf}
 use Rattle.chip_noise.proofs.ShifterLaws.{shifted-sum, shifted-most}
 
+-- WHAT THE OUTPUTS FEED BACK
+
 -- the bit that an output feeds back, of a register whose low bits are x
 fed : Bool → ℕ → ℕ
 fed mode x = (x % 2 + x / 2 ^ tapOf mode % 2) % 2
@@ -39,6 +41,8 @@ all-step mode x =
     swap : (mode : Bool) → x / 2 ^ tapOf mode / 2 ≡ x / 2 / 2 ^ tapOf mode
     swap false = refl
     swap true = omega arith
+
+-- ONE OUTPUT, AND THE OTHERS BEHIND IT
 
 -- one output of a register whose low bits are x
 one : (mode : Bool) (x u : ℕ) → x + 256 * u ≤ 32767

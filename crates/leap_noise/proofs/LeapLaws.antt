@@ -2,10 +2,10 @@
 use Prim.Native.Nat.{ℕ, zero, suc, _+_, _-_, _*_, _/_, _%_, _^_, _≤_, _<_}
 use mathlib.Core.Path.{_≡_, refl, sym, ap, _∙_}
 use mathlib.Core.Bool.{Bool, true, false}
-use native.Mathlib.Nat.{pow-succ', mul-left-comm, suc-add, div-one, mul-le-mul}
+use native.Mathlib.Nat.{pow-succ', mul-left-comm, suc-add, div-one}
 use native.Mathlib.Omega.{arith}
 use lib.Dec.{eqb}
-use borrow.Author.Tests.{eqb-true, eq-eqb}
+use borrow.Author.Tests.{eqb-true}
 use Rattle.arith.specs.Bit.{bitOf, bitSet}
 use Rattle.arith.specs.Iterate.{iterate}
 use Rattle.arith.specs.Pick.{pick}
@@ -13,11 +13,11 @@ use Rattle.arith.proofs.IterateLaws.{iterate-along}
 use Rattle.arith.proofs.PickLaws.{pick-each}
 use Rattle.divider.specs.Divider.{due, Driven, drive, forever}
 use Rattle.divider.proofs.DividerLaws.{drive-closed, drive-still, drive-turned}
-use Rattle.chip_noise.specs.Noise.{withShifter, noiseTimed, noiseAmount, noiseOutput}
+use Rattle.chip_noise.specs.Noise.{withShifter, noiseAmount, noiseOutput}
 use Rattle.chip_noise.specs.Shifter.{tapOf, shiftedOf, shifterClock}
 use Rattle.chip_noise.specs.declared.Shifter.{Shifter}
 use Rattle.chip_noise.specs.declared.Noise.{Noise}
-use Rattle.chip_noise.proofs.RangeLaws.{ShifterRanged, NoiseRanged}
+use Rattle.chip_noise.proofs.RangeLaws.{ShifterRanged}
 use Rattle.chip_noise.proofs.ShifterLaws.{shifted-sum, shifted-most}
 use Rattle.leap_noise.specs.Leap.{shifterGives, alike, noiseStill, shifterAdvanced, shifterTurned}
 
@@ -109,24 +109,6 @@ alike-leaves mode (suc k) (suc j) x r h m a q =
     go true e ih q = ih (omega arith) ∙ eqb-true _ _ e
     go false e ih q = absurd (let no : ⊥ = omega arith in no)
 
-pub alike-most : (k x : ℕ) → alike k x ≤ k
-unfolding alike
-alike-most zero x = omega arith
-alike-most (suc k) x = go (eqb (x / 2 % 2) (x % 2)) (alike-most k (x / 2))
-  where
-    go : (t : Bool) → alike k (x / 2) ≤ k → pick t (suc (alike k (x / 2))) 0 ≤ suc k
-    go true h = omega arith
-    go false h = omega arith
-
--- still fits in 32 bits, for any fields of their types
-pub still-most : (amount n : ℕ) (h : Shifter) → n ≤ 65535 → h .timer ≤ 65535 → noiseStill amount n h ≤ 1000000
-unfolding noiseStill
-still-most amount n h hn ht =
-    pick-each (λ (x : ℕ). x ≤ 1000000) (eqb amount 0) (λ e. omega arith)
-    (λ e.
-    omega
-    (arith, mul-le-mul {n₁ = alike 14 (h .register)} {m₁ = n} {n₂ = 14} {m₂ = 65535} (alike-most 14 (h .register)) hn))
-
 -- with an amount of 0 it gives 0, whatever its register
 pub gives-none : (h : Shifter) → shifterGives 0 h ≡ 0
 unfolding shifterGives
@@ -184,25 +166,8 @@ module _ (n : ℕ) (hn : 0 < n) (mode : Bool) (amount : ℕ) (h : Shifter) {top 
           (driven n mode (h .timer + q * n) h
           ∙ ap shifterOf (drive-turned n (shiftedOf mode) hn q (h .timer) (h .register) (r .timer-from)))
 
--- OF THE CHANNEL: between frame steps only its timer and register move
+-- OF THE CHANNEL
 module _ (n : ℕ) (c : Noise) where
-  pub noise-clocks : (g : ℕ)
-      → iterate (noiseTimed n) g c ≡ withShifter c (iterate (shifterClock n (c .mode)) g (c .shifter))
-  unfolding noiseTimed
-  noise-clocks g = iterate-along (noiseTimed n) (shifterClock n (c .mode)) (withShifter c) (λ h. refl) g (c .shifter)
-
   pub noise-gives : (h : Shifter) → noiseOutput (withShifter c h) ≡ shifterGives (noiseAmount c) h
   unfolding noiseOutput noiseAmount shifterGives
   noise-gives h = refl
-
-  -- THE LAW OF THE QUIET STATE, the noise's share: any number of clocks has the closed form, and with no length the output stays 0
-  pub noise-closed : 0 < n → {top : ℕ} → NoiseRanged top c → (g : ℕ)
-      → iterate (noiseTimed n) g c ≡ withShifter c (shifterAdvanced n (c .mode) g (c .shifter))
-  noise-closed hn r g =
-      noise-clocks g ∙ ap (withShifter c) (shifter-closed n (c .mode) hn g (c .shifter) (r .shifter .timer-from))
-
-  pub noise-quiet : c .length .count ≡ 0 → (g : ℕ) → noiseOutput (iterate (noiseTimed n) g c) ≡ 0
-  unfolding noiseAmount
-  noise-quiet z g =
-      let h = iterate (shifterClock n (c .mode)) g (c .shifter) in
-      ap noiseOutput (noise-clocks g) ∙ noise-gives h ∙ rw (eq-eqb (c .length .count) 0 z) (gives-none h)

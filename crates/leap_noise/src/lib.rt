@@ -1,10 +1,7 @@
 // The noise in the leap: for how many clocks it surely gives the same, and its timer and register g clocks on and at its next change.
 ghost use mathlib.Core.Path.{_≡_};
-ghost use mathlib.Core.Bool.{Bool};
-ghost use Prim.Native.Nat.{ℕ, _+_, _*_, _≤_};
-ghost use lib.Dec.{ltb};
+ghost use Prim.Native.Nat.{_+_, _*_, _≤_};
 ghost use Rattle.arith.specs.Iterate.{iterate};
-ghost use Rattle.arith.specs.Pick.{pick};
 ghost use Rattle.chip_noise.specs.Shifter.{shiftedOf};
 ghost use Rattle.leap_noise.specs.Leap.{shifterGives, alike, noiseStill, shifterAdvanced, shifterTurned};
 use chip_noise::Shifter;
@@ -69,18 +66,12 @@ pub fn shifted_by(mode: bool, register: u16, k: u64) -> u16
     blocks(mode, x, k / 8)
 }
 
-// At most 14.
-fn capped(zeros: u32) -> u16
-    ensures { λ r. ⌜ r ≡ pick (ltb zeros 14) zeros 14 ⌝ }
-{
-    if zeros < 14 { zeros as u16 } else { 14 }
-}
-
 // How many of the 14 bits above bit 0 are as it is, up to the first that differs. Adding a set bit 0 turns the ones above it into zeros.
 fn alike_of(register: u16) -> u16
     ensures { λ r. ⌜ r ≡ alike 14 register ⌝ }
 {
-    capped(u16::trailing_zeros(register / 2 + register % 2))
+    let zeros = u16::trailing_zeros(register / 2 + register % 2);
+    arith::least_u32(zeros, 14) as u16
 }
 
 // What the noise gives, from what it gives while bit 0 is clear (`Noise::amount`).

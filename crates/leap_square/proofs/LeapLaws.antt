@@ -10,19 +10,19 @@ use lib.Dec.{eqb}
 use borrow.Author.Tests.{leb-false, eqb-true, eqb-false, eq-eqb, ne-eqb}
 use Rattle.arith.specs.Iterate.{iterate}
 use Rattle.arith.specs.Pick.{pick}
-use Rattle.arith.proofs.IterateLaws.{iterate-along, iterate-along-while, iterate-keeps}
+use Rattle.arith.proofs.IterateLaws.{iterate-along, iterate-along-while}
 use Rattle.arith.proofs.PickLaws.{pick-each}
 use Rattle.divider.specs.Divider.{due, Driven, drive, outputs, countAfter, forever}
 use Rattle.divider.proofs.DividerLaws.{drive-closed, drive-still, drive-turned}
 use Rattle.chip_units.specs.Timer.{timerPeriod, timerClock}
 use Rattle.chip_units.proofs.RangeLaws.{tick-ranged}
 use Rattle.chip_square.specs.Sequencer.{dutyBit, sequencerClock}
-use Rattle.chip_square.specs.Square.{withSequencer, squareTimed, squareAmount, squareOutput}
+use Rattle.chip_square.specs.Square.{withSequencer, squareAmount, squareOutput}
 use Rattle.leap_square.specs.Leap.{stepsOf, beatOf, withBeat, beatClock, dutyRow, beatGives, dutyTurns, squareStill, beatAdvanced, beatTurned}
 use Rattle.chip_square.specs.declared.Sequencer.{Sequencer}
 use Rattle.chip_square.specs.declared.Square.{Square}
 use Rattle.leap_square.specs.declared.Beat.{Beat}
-use Rattle.chip_square.proofs.RangeLaws.{SequencerRanged, SquareRanged}
+use Rattle.chip_square.proofs.RangeLaws.{SequencerRanged}
 use Rattle.leap_square.proofs.TurnLaws.{turns-most, turns-leave}
 
 pub record BeatRanged (b : Beat) : Type 0 where
@@ -175,10 +175,6 @@ beat-closed g b hn hc hs =
     ∙ ap (λ (k : ℕ). beatWith (b .n) (record { count = countAfter (b .n) (b .count) g; part = k }))
     (steps-on (outputs (b .n) (b .count) g) (b .steps) hs)
 
--- any number of clocks keeps the range
-pub beats-ranged : (g : ℕ) (b : Beat) → BeatRanged b → BeatRanged (iterate beatClock g b)
-beats-ranged g b r = iterate-keeps BeatRanged beatClock beat-clocked g b r
-
 -- still fits in 64 bits with room to spare, for any fields of their types
 pub still-most : (row amount : ℕ) (b : Beat) → b .n ≤ 4294967295 → b .count ≤ 4294967295
     → squareStill row amount b ≤ 70000000000
@@ -264,14 +260,6 @@ module _ (row amount : ℕ) (b : Beat) (r : BeatRanged b) where
 
 -- OF THE CHANNEL: between frame steps only its sequencer moves
 module _ (second : Bool) (s : Square) where
-  pub square-clocks : SquareRanged s → (g : ℕ)
-      → iterate squareTimed g s
-      ≡ withSequencer s (withBeat (s .sequencer) (iterate beatClock g (beatOf (s .sequencer))))
-  unfolding squareTimed
-  square-clocks r g =
-      iterate-along squareTimed sequencerClock (withSequencer s) (λ q. refl) g (s .sequencer)
-      ∙ ap (withSequencer s) (sequencer-beats (s .sequencer) (r .sequencer) g)
-
   -- what it gives at a beat
   pub square-gives-at : (b : Beat)
       → squareOutput second (withSequencer s (withBeat (s .sequencer) b))
@@ -290,20 +278,3 @@ module _ (second : Bool) (s : Square) where
       pick-each (λ (k : ℕ). (2 * s .sequencer .position + k) / 2 ≡ s .sequencer .position) (s .sequencer .half)
       (λ h. omega arith) (λ h. omega arith)
       in rw (e, p)
-
-  -- THE LAW OF THE QUIET STATE, a square's share: any number of clocks has the closed form, and with no length the output stays 0
-  pub square-closed : SquareRanged s → (g : ℕ)
-      → iterate squareTimed g s ≡ withSequencer s (withBeat (s .sequencer) (beatAdvanced g (beatOf (s .sequencer))))
-  square-closed r g =
-      let b = beat-ranged (s .sequencer) (r .sequencer) in
-      square-clocks r g
-      ∙ ap (λ (x : Beat). withSequencer s (withBeat (s .sequencer) x))
-      (beat-closed g (beatOf (s .sequencer)) (b .n-from) (b .count-from) (b .steps))
-
-  pub square-quiet : SquareRanged s → s .length .count ≡ 0 → (g : ℕ) → squareOutput second (iterate squareTimed g s) ≡ 0
-  unfolding squareAmount
-  square-quiet r z g =
-      let b = iterate beatClock g (beatOf (s .sequencer)) in
-      ap (squareOutput second) (square-clocks r g)
-      ∙ square-gives-at b
-      ∙ rw (eq-eqb (s .length .count) 0 z) (gives-none (dutyRow (s .duty)) b)

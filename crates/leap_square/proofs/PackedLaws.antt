@@ -9,13 +9,13 @@ use Rattle.arith.specs.Pick.{pick}
 use Rattle.arith.specs.Table.{every}
 use Rattle.arith.proofs.TableLaws.{at}
 use Rattle.chip_square.specs.Sequencer.{duties, dutyBit}
-use Rattle.leap_square.specs.Leap.{turns, dutyTurns}
+use Rattle.leap_square.specs.Leap.{turnTable, dutyTurns}
 use Rattle.leap_square.specs.Packed.{turnsWord, bitsWord}
 
 abbrev word-right : ℕ → ℕ → Bool
 word-right k x = eqb (turnsWord k / 2 ^ (4 * (k % 16)) % 16) x
 
-words : T (every word-right 0 turns)
+words : T (every word-right 0 turnTable)
 unfolding turnsWord
 words = tt
 
@@ -29,14 +29,14 @@ turns-word row steps =
     let k : ℕ = row / 16 % 4 * 16 + steps % 16 in
     let w : turnsWord k ≡ turnsWord row = same-word row k (omega arith) in
     let s : k % 16 ≡ steps % 16 = omega arith in
-    let e : turnsWord k / 2 ^ (4 * (k % 16)) % 16 ≡ getD turns k 0 = eqb→eq _ _ (at word-right turns words k (omega arith)) in
+    let e : turnsWord k / 2 ^ (4 * (k % 16)) % 16 ≡ getD turnTable k 0 = eqb→eq _ _ (at word-right turnTable words k (omega arith)) in
     rw (w, s) at e
 
 -- the duty bits are tested at each place of a table, which is that of turns
 abbrev bit-right : ℕ → ℕ → Bool
 bit-right k x = eqb (bitsWord / 2 ^ k % 2) (dutyBit (k / 16) (k % 16 / 2))
 
-bits : T (every bit-right 0 turns)
+bits : T (every bit-right 0 turnTable)
 unfolding bitsWord dutyBit
 bits = tt
 
@@ -51,6 +51,6 @@ same-place duty p q e = ap (λ (r : ℕ). getD duties (duty % 4 * 8 + r) 0) e
 pub bits-word : (row steps : ℕ) → bitsWord / 2 ^ (row / 16 % 4 * 16 + steps % 16) % 2 ≡ dutyBit (row / 16) (steps / 2)
 bits-word row steps =
     let k : ℕ = row / 16 % 4 * 16 + steps % 16 in
-    eqb→eq (bitsWord / 2 ^ k % 2) (dutyBit (k / 16) (k % 16 / 2)) (at bit-right turns bits k (omega arith))
+    eqb→eq (bitsWord / 2 ^ k % 2) (dutyBit (k / 16) (k % 16 / 2)) (at bit-right turnTable bits k (omega arith))
     ∙ same-bit row k (k % 16 / 2) (omega arith)
     ∙ same-place (row / 16) (k % 16 / 2) (steps / 2) (omega arith)

@@ -11,7 +11,7 @@ use Rattle.arith.specs.Table.{every}
 use Rattle.arith.proofs.PickLaws.{both-left, both-right}
 use Rattle.arith.proofs.TableLaws.{at}
 use Rattle.chip_square.specs.Sequencer.{duties, dutyBit}
-use Rattle.leap_square.specs.Leap.{turns, dutyTurns, beatGives, beatTurned}
+use Rattle.leap_square.specs.Leap.{turnTable, dutyTurns, beatGives, beatTurned}
 use Rattle.leap_square.specs.declared.Beat.{Beat}
 
 -- the steps at the next change
@@ -28,7 +28,7 @@ gives k = eqb (dutyBit (k / 16) (on k (on k (k % 16)) / 2)) (dutyBit (k / 16) (k
 abbrev right : ℕ → ℕ → Bool
 right k x = both (begins k) (gives k)
 
-all : T (every right 0 turns)
+all : T (every right 0 turnTable)
 unfolding dutyBit dutyTurns
 all = tt
 
@@ -37,7 +37,7 @@ holds true t = refl
 holds false t = absurd t
 
 entry : (k : ℕ) → k ≤ 63 → both (begins k) (gives k) ≡ true
-entry k h = holds _ (at right turns all k (omega arith))
+entry k h = holds _ (at right turnTable all k (omega arith))
 
 same-row : (row k s : ℕ) → k / 16 % 4 ≡ row / 16 % 4 → dutyTurns k s ≡ dutyTurns row s
 unfolding dutyTurns

@@ -11,7 +11,7 @@ use Rattle.arith.specs.Table.{every}
 use Rattle.arith.proofs.PickLaws.{both-left, both-right}
 use Rattle.arith.proofs.TableLaws.{at}
 use Rattle.chip_square.specs.Sequencer.{duties, dutyBit}
-use Rattle.leap_square.specs.Leap.{turns, dutyTurns}
+use Rattle.leap_square.specs.Leap.{turnTable, dutyTurns}
 
 -- the test passes at each number up to n
 abbrev upTo : ℕ → (ℕ → Bool) → Bool
@@ -37,7 +37,7 @@ same k j = eqb (dutyBit (k / 16) ((k % 16 + j) % 16 / 2)) (dutyBit (k / 16) (k %
 abbrev right : ℕ → ℕ → Bool
 right k x = both (leb x 13) (upTo x (same k))
 
-all : T (every right 0 turns)
+all : T (every right 0 turnTable)
 unfolding dutyBit
 all = tt
 
@@ -50,7 +50,7 @@ place row steps = row / 16 % 4 * 16 + steps % 16
 
 entry : (row steps : ℕ) → right (place row steps) (dutyTurns row steps) ≡ true
 unfolding dutyTurns place
-entry row steps = holds _ (at right turns all (row / 16 % 4 * 16 + steps % 16) (omega arith))
+entry row steps = holds _ (at right turnTable all (row / 16 % 4 * 16 + steps % 16) (omega arith))
 
 pub turns-most : (row steps : ℕ) → dutyTurns row steps ≤ 13
 turns-most row steps =

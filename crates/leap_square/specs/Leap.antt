@@ -42,15 +42,15 @@ unfoldable pub beatGives : ℕ → ℕ → Beat → ℕ
 beatGives row amount b = pick (eqb (dutyBit (row / 16) (b .steps / 2)) 1) amount 0
 
 -- the outputs that leave the duty bit as it is, a row for each duty, by steps
-abbrev pub turns : List ℕ
-turns =
+abbrev pub turnTable : List ℕ
+turnTable =
     1 ∷ 0 ∷ 1 ∷ 0 ∷ 13 ∷ 12 ∷ 11 ∷ 10 ∷ 9 ∷ 8 ∷ 7 ∷ 6 ∷ 5 ∷ 4 ∷ 3 ∷ 2
     ∷ 1 ∷ 0 ∷ 3 ∷ 2 ∷ 1 ∷ 0 ∷ 11 ∷ 10 ∷ 9 ∷ 8 ∷ 7 ∷ 6 ∷ 5 ∷ 4 ∷ 3 ∷ 2
     ∷ 1 ∷ 0 ∷ 7 ∷ 6 ∷ 5 ∷ 4 ∷ 3 ∷ 2 ∷ 1 ∷ 0 ∷ 7 ∷ 6 ∷ 5 ∷ 4 ∷ 3 ∷ 2
     ∷ 1 ∷ 0 ∷ 3 ∷ 2 ∷ 1 ∷ 0 ∷ 11 ∷ 10 ∷ 9 ∷ 8 ∷ 7 ∷ 6 ∷ 5 ∷ 4 ∷ 3 ∷ 2 ∷ []
 
 unfoldable pub dutyTurns : ℕ → ℕ → ℕ
-dutyTurns row steps = getD turns (row / 16 % 4 * 16 + steps % 16) 0
+dutyTurns row steps = getD turnTable (row / 16 % 4 * 16 + steps % 16) 0
 
 -- with an amount of 0 for ever, else up to the clock before the output that changes the duty bit
 unfoldable pub squareStill : ℕ → ℕ → Beat → ℕ

@@ -1,6 +1,6 @@
 -- The DMC as a stretch keeps it. Assumes nothing.
-use Prim.Native.Nat.{ℕ, _+_, _-_, _≤_, _<_}
-use mathlib.Core.Path.{_≡_, refl, sym, ap, _∙_}
+use Prim.Native.Nat.{ℕ, _-_, _≤_, _<_}
+use mathlib.Core.Path.{_≡_, refl, sym, _∙_}
 use mathlib.Core.Bool.{Bool, true, false}
 use mathlib.Core.List.{List}
 use native.Mathlib.Omega.{arith}
@@ -12,7 +12,7 @@ use Rattle.divider.specs.Divider.{forever}
 use Rattle.leap_stretch.specs.Lag.{Follows}
 use Rattle.leap_stretch.proofs.LagLaws.{lag-start, lag-to, lag-wait}
 use Rattle.chip_dmc.specs.Clock.{dmcClock, dmcOutput}
-use Rattle.leap_dmc.specs.Leap.{dmcStill, dmcAdvanced, dmcTurned}
+use Rattle.leap_dmc.specs.Leap.{dmcStill, dmcTurned}
 use Rattle.leap_dmc.specs.Lag.{dmcLag, dmcRenewed, dmcAt}
 use Rattle.chip_dmc.specs.declared.Dmc.{Dmc}
 use Rattle.leap_dmc.specs.declared.lag.DmcLag.{DmcLag}

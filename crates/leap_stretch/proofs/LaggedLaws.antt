@@ -1,13 +1,12 @@
 -- A stretch whose channels lag: what is kept is the machine. Assumes nothing.
-use Prim.Native.Nat.{ℕ, _+_, _-_, _≤_, _<_}
+use Prim.Native.Nat.{ℕ, _-_, _≤_, _<_, min}
 use mathlib.Core.Path.{_≡_, refl, sym, ap, _∙_}
 use mathlib.Core.Bool.{Bool, true, false}
 use mathlib.Core.List.{List}
 use native.Mathlib.Omega.{arith}
-use lib.Dec.{eqb, ltb}
-use borrow.Author.Tests.{eqb-false, lt-ltb, ltb-true, ltb-false}
+use lib.Dec.{eqb}
+use borrow.Author.Tests.{eqb-false}
 use Rattle.arith.specs.Iterate.{iterate}
-use Rattle.arith.specs.Pick.{pick}
 use Rattle.divider.specs.Divider.{forever}
 use Rattle.chip_mixer.specs.Mixer.{mixed}
 use Rattle.chip_triangle.specs.Triangle.{triangleAt}
@@ -16,17 +15,13 @@ use Rattle.chip.proofs.RangeLaws.{before-step-most}
 use Rattle.chip.specs.Clock.{chipClock}
 use Rattle.chip.specs.Level.{stateLevel}
 use Rattle.chip.specs.Range.{Bytes}
-use Rattle.chip.specs.Table.{noisePeriod, dmcPeriod}
+use Rattle.chip_tables.specs.Table.{noisePeriod, dmcPeriod}
 use Rattle.chip.specs.declared.State.{State}
 use Rattle.chip.proofs.RangeLaws.{StateRanged, noise-period-range, dmc-period-range}
 use Rattle.leap_chip.specs.Between.{stateWith}
 use Rattle.leap_chip.proofs.BetweenLaws.{between}
 use Rattle.leap_square.specs.Lag.{squareLagOut}
-use Rattle.leap_square.specs.declared.SquareLag.{SquareLag}
-use Rattle.leap_triangle.specs.declared.TriangleLag.{TriangleLag}
-use Rattle.leap_noise.specs.declared.lag.NoiseLag.{NoiseLag}
-use Rattle.leap_dmc.specs.declared.lag.DmcLag.{DmcLag}
-use Rattle.leap_stretch.specs.Lagged.{sooner, lagsAt, lagsOf, renewedWith, renewed, stateAt}
+use Rattle.leap_stretch.specs.Lagged.{lagsAt, lagsOf, renewedWith, renewed, stretchState}
 use Rattle.leap_stretch.specs.declared.Lags.{Lags}
 use Rattle.leap_stretch.proofs.SquareLaws.{SquareKept, square-start, square-kept, square-out, square-at}
 use Rattle.leap_stretch.proofs.TriangleLaws.{TriangleKept, triangle-start, triangle-kept, triangle-out, triangle-at}
@@ -34,21 +29,11 @@ use Rattle.leap_stretch.proofs.NoiseLaws.{NoiseKept, noise-start, noise
 use Rattle.leap_stretch.proofs.DmcLaws.{DmcKept, dmc-start, dmc-renewed, dmc-out, dmc-at}
 
 -- the sooner of two
-pub sooner-most : (x y : ℕ) → (sooner x y ≤ x) × (sooner x y ≤ y)
-unfolding sooner
-sooner-most x y = go (ltb x y) refl
-  where
-    go : (t : Bool) → ltb x y ≡ t → (pick t x y ≤ x) × (pick t x y ≤ y)
-    go true e = let h : x < y = ltb-true x y e in omega arith
-    go false e = let h : y ≤ x = ltb-false x y e in omega arith
+pub sooner-most : (x y : ℕ) → (min x y ≤ x) × (min x y ≤ y)
+sooner-most x y = (omega arith, omega arith)
 
-pub sooner-past : (k x y : ℕ) → k < x → k < y → k < sooner x y
-unfolding sooner
-sooner-past k x y h q = go (ltb x y)
-  where
-    go : (t : Bool) → k < pick t x y
-    go true = h
-    go false = q
+pub sooner-past : (k x y : ℕ) → k < x → k < y → k < min x y
+sooner-past k x y h q = omega arith
 
 -- THE INVARIANT: at clock `l .now` of a stretch that began in s
 pub record Lagging (memory : List ℕ) (s : State) (l : Lags) : Type 0 where
@@ -57,8 +42,8 @@ pub record Lagging (memory : List ℕ) (s : State) (l : Lags) : Type 0 where
   pub triangle : TriangleKept (s .triangle) (l .now) (l .triangle)
   pub noise : NoiseKept (noisePeriod (s .pal) (s .noise .index)) (s .noise) (l .now) (l .noise)
   pub dmc : DmcKept memory (dmcPeriod (s .pal) (s .dmc .registers .index)) (s .dmc) (l .now) (l .dmc)
-  pub soon : l .soon ≡ sooner (sooner (l .square1 .next) (l .square2 .next)) (l .triangle .next)
-  pub next : l .next ≡ sooner (l .soon) (sooner (l .noise .next) (l .dmc .next))
+  pub soon : l .soon ≡ min (min (l .square1 .next) (l .square2 .next)) (l .triangle .next)
+  pub next : l .next ≡ min (l .soon) (min (l .noise .next) (l .dmc .next))
   pub level : l .level ≡ mixed (squareLagOut (l .square1)) (squareLagOut (l .square2)) (triangleAt (l .triangle .position)) (l .noise .out) (l .dmc .out)
 
 -- the start of a stretch
@@ -81,23 +66,19 @@ module _ (memory : List ℕ) (s : State) (l : Lags) (g : Lagging memory s l) whe
   pub soon-past : l .now < l .soon
   soon-past =
       rw (g .soon)
-      (sooner-past (l .now) (sooner (l .square1 .next) (l .square2 .next)) (l .triangle .next)
+      (sooner-past (l .now) (min (l .square1 .next) (l .square2 .next)) (l .triangle .next)
       (sooner-past (l .now) (l .square1 .next) (l .square2 .next) (g .square1 .follows .ahead) (g .square2 .follows .ahead))
       (g .triangle .follows .ahead))
 
   pub next-past : l .now < l .next
   next-past =
       rw (g .next)
-      (sooner-past (l .now) (l .soon) (sooner (l .noise .next) (l .dmc .next)) soon-past
+      (sooner-past (l .now) (l .soon) (min (l .noise .next) (l .dmc .next)) soon-past
       (sooner-past (l .now) (l .noise .next) (l .dmc .next) (g .noise .follows .ahead) (g .dmc .follows .ahead)))
 
   -- where neither noise nor DMC is due, the next event is one of squares and triangle
   pub next-soon : l .soon < l .noise .next → l .soon < l .dmc .next → l .next ≡ l .soon
-  unfolding sooner
-  next-soon n d =
-      g .next
-      ∙ ap (λ (t : Bool). pick t (l .soon) (sooner (l .noise .next) (l .dmc .next)))
-      (lt-ltb (l .soon) (sooner (l .noise .next) (l .dmc .next)) (sooner-past (l .soon) (l .noise .next) (l .dmc .next) n d))
+  next-soon n d = omega (arith, g .next, n, d)
 
   -- what each channel's next change is at least
   pub record Soonest (a b t n d : ℕ) : Type 0 where
@@ -114,9 +95,9 @@ module _ (memory : List ℕ) (s : State) (l : Lags) (g : Lagging memory s l) whe
   pub next-most : Soonest (l .square1 .next) (l .square2 .next) (l .triangle .next) (l .noise .next) (l .dmc .next)
   next-most =
       let ab = sooner-most (l .square1 .next) (l .square2 .next) in
-      let abt = sooner-most (sooner (l .square1 .next) (l .square2 .next)) (l .triangle .next) in
+      let abt = sooner-most (min (l .square1 .next) (l .square2 .next)) (l .triangle .next) in
       let nd = sooner-most (l .noise .next) (l .dmc .next) in
-      let all = sooner-most (l .soon) (sooner (l .noise .next) (l .dmc .next)) in
+      let all = sooner-most (l .soon) (min (l .noise .next) (l .dmc .next)) in
       let s = g .soon in
       let e = g .next in
       record {
@@ -177,8 +158,8 @@ module _ (memory : List ℕ) (bytes : Bytes memory) (s : State) (r : StateRanged
         ap stateLevel (between memory s (r .frame) k few) ∙ rw (a, b, t, n, d) (sym (g .level))
 
     -- the state brought to clock k is the machine's
-    pub lagging-state : stateAt s l k ≡ iterate (chipClock memory) k s
-    unfolding stateAt
+    pub lagging-state : stretchState s l k ≡ iterate (chipClock memory) k s
+    unfolding stretchState
     lagging-state =
         let m = next-most memory s l g in
         let pn = noise-period-range (s .pal) (s .noise .index) in

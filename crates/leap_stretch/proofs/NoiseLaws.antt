@@ -1,6 +1,6 @@
 -- The noise as a stretch keeps it. Assumes nothing.
-use Prim.Native.Nat.{ℕ, _+_, _-_, _≤_, _<_}
-use mathlib.Core.Path.{_≡_, refl, sym, ap, _∙_}
+use Prim.Native.Nat.{ℕ, _-_, _≤_, _<_}
+use mathlib.Core.Path.{_≡_, refl, sym, _∙_}
 use mathlib.Core.Bool.{Bool, true, false}
 use native.Mathlib.Omega.{arith}
 use lib.Dec.{eqb}
@@ -12,9 +12,8 @@ use Rattle.leap_stretch.specs.Lag.{Follows}
 use Rattle.leap_stretch.proofs.LagLaws.{lag-start, lag-to, lag-wait}
 use Rattle.chip_noise.specs.Shifter.{shifterClock}
 use Rattle.chip_noise.specs.Noise.{withShifter, noiseAmount, noiseOutput}
-use Rattle.leap_noise.specs.Leap.{shifterGives, noiseStill, shifterAdvanced, shifterTurned}
+use Rattle.leap_noise.specs.Leap.{shifterGives, noiseStill, shifterTurned}
 use Rattle.leap_noise.specs.Lag.{noiseLag, noiseRenewed, noiseShifterAt}
-use Rattle.chip_noise.specs.declared.Shifter.{Shifter}
 use Rattle.chip_noise.specs.declared.Noise.{Noise}
 use Rattle.leap_noise.specs.declared.lag.NoiseLag.{NoiseLag}
 use Rattle.chip_noise.proofs.RangeLaws.{ShifterRanged, NoiseRanged, shifter-clock-kept}

@@ -1,6 +1,6 @@
 -- In the quiet state a stretch is one leap: no event comes before its end. Assumes nothing.
 use Prim.Native.Nat.{ℕ, _+_, _≤_, _<_}
-use mathlib.Core.Path.{_≡_, refl, sym, ap, _∙_}
+use mathlib.Core.Path.{_≡_, refl}
 use mathlib.Core.Bool.{Bool, true, false}
 use native.Mathlib.Nat.{sub-zero}
 use native.Mathlib.Omega.{arith}
@@ -21,17 +21,16 @@ use Rattle.leap_noise.specs.Leap.{noiseStill}
 use Rattle.leap_noise.specs.Lag.{noiseLag, noiseShifterAt}
 use Rattle.chip_noise.specs.declared.Noise.{Noise}
 use Rattle.chip_noise.specs.declared.Shifter.{Shifter}
-use Rattle.leap_dmc.specs.Leap.{dmcStill}
 use Rattle.leap_dmc.specs.Lag.{dmcLag, dmcAt}
 use Rattle.leap_dmc.proofs.LeapLaws.{DmcIdle, idle-forever}
 use Rattle.chip.specs.Leap.{beforeStep}
 use Rattle.chip.proofs.RangeLaws.{before-step-most}
-use Rattle.chip.specs.Table.{dmcPeriod}
+use Rattle.chip_tables.specs.Table.{dmcPeriod}
 use Rattle.chip.specs.declared.State.{State}
 use Rattle.chip.proofs.RangeLaws.{StateRanged}
 use Rattle.leap_chip.specs.Quiet.{Quiet, quietAfter}
-use Rattle.leap_chip.proofs.QuietLaws.{square-plain, triangle-plain}
-use Rattle.leap_stretch.specs.Lagged.{sooner, lagsAt, lagsOf, stateAt}
+use Rattle.leap_chip.proofs.QuietLaws.{gate-shut, square-plain, triangle-plain}
+use Rattle.leap_stretch.specs.Lagged.{lagsAt, lagsOf, stretchState}
 use Rattle.leap_stretch.proofs.LaggedLaws.{sooner-past}
 
 square-still : (second : Bool) (q : Square) → q .length .count ≡ 0 → (row : ℕ) (b : square1.Beat) → squareStill row (squareAmount second q) b ≡ forever
@@ -60,13 +59,9 @@ quiet-leaps s q =
     let d = far _ (idle-forever (dmcPeriod (s .pal) (s .dmc .registers .index)) (s .dmc) i) in
     sooner-past _ _ _ (sooner-past _ _ _ (sooner-past _ _ _ a b) t) (sooner-past _ _ _ n d)
 
-gate-shut : (t : Triangle) → t .length .count ≡ 0 → triangleGate t ≡ 0
-unfolding triangleGate runs
-gate-shut t z = rw z
-
 -- and the state that it makes of k clocks of it is the law's
-pub quiet-passed : (s : State) → StateRanged s → Quiet s → (k : ℕ) → k ≤ beforeStep s → stateAt s (lagsOf s) k ≡ quietAfter k s
-unfolding stateAt lagsOf lagsAt squareLag triangleLag noiseLag dmcLag noiseShifterAt dmcAt quietAfter
+pub quiet-passed : (s : State) → StateRanged s → Quiet s → (k : ℕ) → k ≤ beforeStep s → stretchState s (lagsOf s) k ≡ quietAfter k s
+unfolding stretchState lagsOf lagsAt squareLag triangleLag noiseLag dmcLag noiseShifterAt dmcAt quietAfter
 quiet-passed s r q k few =
     rw (sub-zero k, gate-shut (s .triangle) (q .triangle))
     (rw (square-plain (s .square1 .sequencer) (r .square1 .sequencer) k, square-plain (s .square2 .sequencer) (r .square2 .sequencer) k, triangle-plain (s .triangle .sequencer) (r .triangle .sequencer) k) refl)

@@ -20,7 +20,7 @@ use Rattle.leap_triangle.specs.declared.TriangleLag.{TriangleLag}
 use Rattle.chip_triangle.proofs.RangeLaws.{TriangleRanged}
 use Rattle.leap_triangle.proofs.LeapLaws.{BeatRanged, beat-clocked, beat-ranged, triangle-beat-closed, triangle-beats, triangle-still, triangle-turned, triangle-gives-at}
 use Rattle.leap_triangle.proofs.LagLaws.{moved}
-use Rattle.leap_stretch.proofs.TurnLaws.{Leaps, held-fine, turned-follows, held-gives}
+use Rattle.leap_stretch.proofs.TurnLaws.{Leaps, turned-follows, held-gives}
 
 -- kept at clock `now` of a stretch that began with the triangle q: there is a beat, reached at clock `at`, of which it is what is kept
 pub record TriangleKept (q : Triangle) (now : ℕ) (l : TriangleLag) : Type 0 where

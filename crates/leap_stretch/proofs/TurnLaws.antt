@@ -1,6 +1,6 @@
 -- A channel that lags, at an event: for any channel. Assumes nothing.
 use Prim.Native.Nat.{ℕ, _+_, _-_, _≤_, _<_}
-use mathlib.Core.Path.{_≡_, refl, sym, ap, _∙_}
+use mathlib.Core.Path.{_≡_, sym, ap, _∙_}
 use native.Mathlib.Omega.{arith}
 use Rattle.arith.specs.Iterate.{iterate}
 use Rattle.divider.specs.Divider.{forever}

@@ -1,5 +1,5 @@
 -- Squares and triangle by themselves: their events are the channels' events. Assumes nothing.
-use Prim.Native.Nat.{ℕ, _%_, _≤_, _<_}
+use Prim.Native.Nat.{ℕ, _%_, _≤_, _<_, min}
 use mathlib.Core.Path.{_≡_, refl, sym, ap, _∙_}
 use mathlib.Core.Bool.{Bool, true, false}
 use native.Mathlib.Omega.{arith}
@@ -16,7 +16,7 @@ use Rattle.leap_square.specs.Lag.{squareLagOut, squareRenewed}
 use Rattle.leap_square.proofs.LagLaws.{renewed-waits}
 use Rattle.leap_triangle.specs.Lag.{triangleRenewed}
 use Rattle.leap_stretch.proofs.LaggedLaws.{sooner-most}
-use Rattle.leap_stretch.specs.Lagged.{sooner, lagsAt, voicesRenewed}
+use Rattle.leap_stretch.specs.Lagged.{lagsAt, voicesRenewed}
 use Rattle.leap_stretch.specs.Voices.{weightTable, squaresAt, squaresTurned, squaresAfter, voicesOf, voicesTo, voicesAfter, voicesLevel, lagsWith}
 use Rattle.leap_stretch.specs.declared.Squares.{Squares}
 use Rattle.leap_stretch.specs.declared.Voices.{Voices}
@@ -42,7 +42,7 @@ pub weight-is : (p : ℕ) → getD weightTable (p % 32) 0 ≡ triangleWeight (tr
 weight-is p = entry-is (p % 32) (omega arith) ∙ ap triangleWeight (same-position p)
 
 -- before any event of theirs
-pub voices-start : (l : Lags) → l .next ≡ sooner (l .soon) (sooner (l .noise .next) (l .dmc .next)) → lagsWith l (voicesOf l) (l .level) ≡ l
+pub voices-start : (l : Lags) → l .next ≡ min (l .soon) (min (l .noise .next) (l .dmc .next)) → lagsWith l (voicesOf l) (l .level) ≡ l
 unfolding lagsWith voicesOf squaresAt
 voices-start l q =
     ap (λ (n : ℕ). record {
@@ -58,7 +58,7 @@ voices-start l q =
     }) (sym q)
 
 -- squares that aren't due stay
-module _ (q : Squares) (w : q .next ≡ sooner (q .first .next) (q .second .next)) (e : ℕ) where
+module _ (q : Squares) (w : q .next ≡ min (q .first .next) (q .second .next)) (e : ℕ) where
   turned-waits : e < q .next → squaresTurned q e ≡ q
   unfolding squaresTurned squaresAt
   turned-waits h =
@@ -80,13 +80,13 @@ module _ (q : Squares) (w : q .next ≡ sooner (q .first .next) (q .second .next
 
 -- their next event is their squares' or their triangle's
 pub record Sound (v : Voices) : Type 0 where
-  pub squares : v .squares .next ≡ sooner (v .squares .first .next) (v .squares .second .next)
+  pub squares : v .squares .next ≡ min (v .squares .first .next) (v .squares .second .next)
   pub next : v .next ≤ v .squares .next
 
-pub sound-start : (l : Lags) → l .soon ≡ sooner (sooner (l .square1 .next) (l .square2 .next)) (l .triangle .next) → Sound (voicesOf l)
+pub sound-start : (l : Lags) → l .soon ≡ min (min (l .square1 .next) (l .square2 .next)) (l .triangle .next) → Sound (voicesOf l)
 unfolding voicesOf squaresAt
 sound-start l q =
-    record { squares = refl; next = rw q (sooner-most (sooner (l .square1 .next) (l .square2 .next)) (l .triangle .next) .0) }
+    record { squares = refl; next = rw q (sooner-most (min (l .square1 .next) (l .square2 .next)) (l .triangle .next) .0) }
 
 module _ (v : Voices) (s : Sound v) (each : Bool) where
   voices-after : voicesAfter v each (v .next) ≡ voicesTo (squaresTurned (v .squares) (v .next)) v (v .next)

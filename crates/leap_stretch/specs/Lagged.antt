@@ -1,9 +1,9 @@
 -- Helper: nobody has to believe this; what the code keeps of a stretch; proved to be the chip at each clock (proofs/LaggedLaws).
 -- A stretch between two frame steps, each channel brought up only when what it gives may change. Clocks count from the stretch's start.
-use Prim.Native.Nat.{ℕ}
+use Prim.Native.Nat.{ℕ, min}
 use mathlib.Core.Bool.{true, false}
 use mathlib.Core.List.{List}
-use lib.Dec.{ltb, eqb}
+use lib.Dec.{eqb}
 use Rattle.arith.specs.Pick.{pick}
 use Rattle.chip_square.specs.Square.{squareAmount}
 use Rattle.leap_square.specs.Leap.{beatOf, withBeat, dutyRow, beatAdvanced}
@@ -16,7 +16,7 @@ use Rattle.leap_noise.specs.Lag.{noiseLag, noiseRenewed, noiseShifterAt}
 use Rattle.leap_dmc.specs.Lag.{dmcLag, dmcRenewed, dmcAt}
 use Rattle.chip.specs.Leap.{passedFrame}
 use Rattle.chip_mixer.specs.Mixer.{mixed}
-use Rattle.chip.specs.Table.{noisePeriod, dmcPeriod}
+use Rattle.chip_tables.specs.Table.{noisePeriod, dmcPeriod}
 use Rattle.leap_chip.specs.Between.{stateWith}
 use Rattle.leap_square.specs.declared.SquareLag.{SquareLag}
 use Rattle.leap_triangle.specs.declared.TriangleLag.{TriangleLag}
@@ -24,9 +24,6 @@ use Rattle.leap_noise.specs.declared.lag.NoiseLag.{NoiseLag}
 use Rattle.leap_dmc.specs.declared.lag.DmcLag.{DmcLag}
 use Rattle.chip.specs.declared.State.{State}
 use Rattle.leap_stretch.specs.declared.Lags.{Lags}
-
-unfoldable pub sooner : ℕ → ℕ → ℕ
-sooner x y = pick (ltb x y) x y
 
 -- the five channels as they are kept at clock `now`: the next event is the soonest change, `soon` that of squares and triangle alone; the level is
 -- made from what they give
@@ -39,8 +36,8 @@ lagsAt a b t n d now =
       noise = n;
       dmc = d;
       now = now;
-      soon = sooner (sooner (a .next) (b .next)) (t .next);
-      next = sooner (sooner (sooner (a .next) (b .next)) (t .next)) (sooner (n .next) (d .next));
+      soon = min (min (a .next) (b .next)) (t .next);
+      next = min (min (min (a .next) (b .next)) (t .next)) (min (n .next) (d .next));
       level = mixed (squareLagOut a) (squareLagOut b) (triangleAt (t .position)) (n .out) (d .out);
     }
 
@@ -74,8 +71,8 @@ voicesRenewed l e =
     lagsAt (squareRenewed (l .square1) e) (squareRenewed (l .square2) e) (triangleRenewed (l .triangle) e) (l .noise) (l .dmc) e
 
 -- the whole state at clock k of a stretch that began in s
-unfoldable pub stateAt : State → Lags → ℕ → State
-stateAt s l k =
+unfoldable pub stretchState : State → Lags → ℕ → State
+stretchState s l k =
     stateWith (withBeat (s .square1 .sequencer) (beatAdvanced k (beatOf (s .square1 .sequencer))))
     (withBeat (s .square2 .sequencer) (beatAdvanced k (beatOf (s .square2 .sequencer))))
     (triangleWithBeat (s .triangle .sequencer) (triangleBeatAdvanced (triangleGate (s .triangle)) k (triangleBeatOf (s .triangle .sequencer))))

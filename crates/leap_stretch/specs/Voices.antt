@@ -1,5 +1,5 @@
 -- Helper: nobody has to believe this; squares and triangle by themselves, as the innermost loop keeps them; proved to be the same events (proofs/VoicesLaws).
-use Prim.Native.Nat.{ℕ}
+use Prim.Native.Nat.{ℕ, min}
 use mathlib.Core.List.{List, [], _∷_}
 use mathlib.Core.Bool.{Bool}
 use lib.Dec.{eqb}
@@ -9,7 +9,6 @@ use Rattle.leap_triangle.specs.Lag.{triangleRenewed}
 use Rattle.chip_triangle.specs.Triangle.{triangleAt}
 use Rattle.chip_mixer.specs.Parts.{triangleWeight, mixedBy}
 use Rattle.leap_square.specs.declared.SquareLag.{SquareLag}
-use Rattle.leap_stretch.specs.Lagged.{sooner}
 use Rattle.leap_stretch.specs.declared.Squares.{Squares}
 use Rattle.leap_stretch.specs.declared.Voices.{Voices}
 use Rattle.leap_stretch.specs.declared.Lags.{Lags}
@@ -23,7 +22,7 @@ weightTable =
     2216894064 ∷ 2494005822 ∷ 2771117580 ∷ 3048229338 ∷ 3325341096 ∷ 3602452854 ∷ 3879564612 ∷ 4156676370 ∷ []
 
 unfoldable pub squaresAt : SquareLag → SquareLag → Squares
-squaresAt a b = record { first = a; second = b; next = sooner (a .next) (b .next) }
+squaresAt a b = record { first = a; second = b; next = min (a .next) (b .next) }
 
 unfoldable pub squaresTurned : Squares → ℕ → Squares
 squaresTurned q e = squaresAt (squareRenewed (q .first) e) (squareRenewed (q .second) e)
@@ -38,7 +37,7 @@ squaresAfter q each e = pick (either each (eqb (q .next) e)) (squaresTurned q e)
 -- their event at clock e, with the squares as they are then
 unfoldable pub voicesTo : Squares → Voices → ℕ → Voices
 voicesTo q v e =
-    record { squares = q; triangle = triangleRenewed (v .triangle) e; now = e; next = sooner (q .next) (triangleRenewed (v .triangle) e .next) }
+    record { squares = q; triangle = triangleRenewed (v .triangle) e; now = e; next = min (q .next) (triangleRenewed (v .triangle) e .next) }
 
 unfoldable pub voicesAfter : Voices → Bool → ℕ → Voices
 voicesAfter v each e = voicesTo (squaresAfter (v .squares) each e) v e
@@ -59,6 +58,6 @@ lagsWith l v level =
       dmc = l .dmc;
       now = v .now;
       soon = v .next;
-      next = sooner (v .next) (sooner (l .noise .next) (l .dmc .next));
+      next = min (v .next) (min (l .noise .next) (l .dmc .next));
       level = level;
     }

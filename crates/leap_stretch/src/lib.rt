@@ -1,12 +1,10 @@
 // A stretch of clocks between two frame steps, each channel brought up only when what it gives may change.
 ghost use mathlib.Core.Path.{_≡_};
-ghost use mathlib.Core.List.{List};
-ghost use Prim.Native.Nat.{ℕ};
 ghost use lib.ListN.{getD};
 ghost use Rattle.leap_chip.specs.Between.{stateWith};
 ghost use Rattle.chip_mixer.specs.Parts.{triangleWeight, othersWeight};
 ghost use Rattle.chip_triangle.specs.Triangle.{triangleAt};
-ghost use Rattle.leap_stretch.specs.Lagged.{sooner, lagsAt, lagsOf, renewed, soundsRenewed, stateAt};
+ghost use Rattle.leap_stretch.specs.Lagged.{lagsAt, lagsOf, renewed, soundsRenewed, stretchState};
 ghost use Rattle.leap_stretch.specs.Voices.{weightTable, squaresAt, squaresTurned, squaresAfter, voicesOf, voicesAfter, voicesLevel, lagsWith};
 use chip::State;
 use leap_dmc::lag::DmcLag;
@@ -28,19 +26,13 @@ pub struct Lags {
     pub level: u16,
 }
 
-fn sooner_of(x: u64, y: u64) -> u64
-    ensures { λ r. ⌜ r ≡ sooner x y ⌝ }
-{
-    if x < y { x } else { y }
-}
-
 fn lags_at(a: SquareLag, b: SquareLag, t: TriangleLag, n: NoiseLag, d: DmcLag, at: u32) -> Lags
     ensures { λ r. ⌜ r ≡ lagsAt a b t n d at ⌝ }
 {
-    let ab = sooner_of(a.next, b.next);
-    let soon = sooner_of(ab, t.next);
-    let nd = sooner_of(n.next, d.next);
-    let next = sooner_of(soon, nd);
+    let ab = arith::least_u64(a.next, b.next);
+    let soon = arith::least_u64(ab, t.next);
+    let nd = arith::least_u64(n.next, d.next);
+    let next = arith::least_u64(soon, nd);
     let value = t.gives();
     let out1 = a.out();
     let out2 = b.out();
@@ -73,10 +65,10 @@ pub fn lags_of(s: State) -> Lags
     let on = leap_triangle::gate(s.triangle);
     let beat3 = leap_triangle::beat_of(s.triangle.sequencer);
     let t = TriangleLag::new(on, beat3);
-    let noise_n = chip::tables::noise_period(s.pal, s.noise.index);
+    let noise_n = chip_tables::noise_period(s.pal, s.noise.index);
     let amount = s.noise.amount();
     let n = NoiseLag::new(noise_n, s.noise.mode, amount, s.noise.shifter, 0);
-    let dmc_n = chip::tables::dmc_period(s.pal, s.dmc.registers.index);
+    let dmc_n = chip_tables::dmc_period(s.pal, s.dmc.registers.index);
     let d = DmcLag::new(dmc_n, s.dmc, 0);
     lags_at(a, b, t, n, d, 0)
 }
@@ -128,7 +120,7 @@ pub struct Voices {
 fn squares_at(a: SquareLag, b: SquareLag) -> Squares
     ensures { λ r. ⌜ r ≡ squaresAt a b ⌝ }
 {
-    let next = sooner_of(a.next, b.next);
+    let next = arith::least_u64(a.next, b.next);
     Squares {
         first: a,
         second: b,
@@ -234,7 +226,7 @@ impl Voices {
     {
         let q = self.squares.renewed(each, e);
         let t = self.triangle.renewed(e);
-        let next = sooner_of(q.next, t.next);
+        let next = arith::least_u64(q.next, t.next);
         Voices {
             squares: q,
             triangle: t,
@@ -258,8 +250,8 @@ impl Voices {
 pub fn lags_with(l: Lags, v: Voices, level: u16) -> Lags
     ensures { λ r. ⌜ r ≡ lagsWith l v level ⌝ }
 {
-    let slow = sooner_of(l.noise.next, l.dmc.next);
-    let next = sooner_of(v.next, slow);
+    let slow = arith::least_u64(l.noise.next, l.dmc.next);
+    let next = arith::least_u64(v.next, slow);
     let a = v.squares.first;
     let b = v.squares.second;
     let t = v.triangle;
@@ -310,7 +302,7 @@ fn state_with(
 
 // The whole state at clock k of a stretch that began in s.
 pub fn state_at(s: State, l: Lags, k: u32) -> State
-    ensures { λ r. ⌜ r ≡ stateAt s l k ⌝ }
+    ensures { λ r. ⌜ r ≡ stretchState s l k ⌝ }
 {
     let first1 = leap_square::beat_of(s.square1.sequencer);
     let beat1 = first1.advance(k);

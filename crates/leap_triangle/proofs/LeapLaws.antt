@@ -8,18 +8,18 @@ use native.Mathlib.Nat.{zero-mul}
 use lib.Dec.{ltb, eqb}
 use Rattle.arith.specs.Iterate.{iterate}
 use Rattle.arith.specs.Pick.{pick, both}
-use Rattle.arith.proofs.IterateLaws.{iterate-along, iterate-along-while, iterate-keeps}
+use Rattle.arith.proofs.IterateLaws.{iterate-along, iterate-along-while}
 use Rattle.arith.proofs.PickLaws.{pick-both, pick-each}
 use Rattle.divider.specs.Divider.{due, tick, Driven, drive, outputs, countAfter, forever}
 use Rattle.divider.proofs.DividerLaws.{drive-at, drive-closed, drive-still}
 use Rattle.chip_units.specs.Timer.{timerPeriod, timerClock}
 use Rattle.chip_units.proofs.RangeLaws.{tick-ranged}
-use Rattle.chip_triangle.specs.Triangle.{runs, triangleSequenced, withSequencer, triangleTimed, triangleAt, triangleOutput}
-use Rattle.leap_triangle.specs.Leap.{triangleGate, triangleBeatOf, triangleWithBeat, positionAfter, triangleBeatClock, triangleGives, triangleStill, triangleBeatAdvanced, triangleBeatTurned}
+use Rattle.chip_triangle.specs.Triangle.{triangleSequenced, withSequencer, triangleAt, triangleOutput}
+use Rattle.leap_triangle.specs.Leap.{triangleBeatOf, triangleWithBeat, positionAfter, triangleBeatClock, triangleGives, triangleStill, triangleBeatAdvanced, triangleBeatTurned}
 use Rattle.chip_triangle.specs.declared.Sequencer.{Sequencer}
 use Rattle.chip_triangle.specs.declared.Triangle.{Triangle}
 use Rattle.leap_triangle.specs.declared.Beat.{Beat}
-use Rattle.chip_triangle.proofs.RangeLaws.{SequencerRanged, TriangleRanged}
+use Rattle.chip_triangle.proofs.RangeLaws.{SequencerRanged}
 
 pub record BeatRanged (b : Beat) : Type 0 where
   pub n-from : 1 ≤ b .n
@@ -45,10 +45,6 @@ beat-clocked on b r =
       position =
           pick-both (λ (k : ℕ). k ≤ 31) (due (b .count)) (position-most on 1 (b .position) (r .position)) (r .position);
     }
-
--- any number of clocks keeps it
-pub beats-ranged : (on g : ℕ) (b : Beat) → BeatRanged b → BeatRanged (iterate (triangleBeatClock on) g b)
-beats-ranged on g b r = iterate-keeps BeatRanged (triangleBeatClock on) (beat-clocked on) g b r
 
 -- a sequencer in range is a beat in range
 pub beat-ranged : (q : Sequencer) → SequencerRanged q → BeatRanged (triangleBeatOf q)
@@ -215,22 +211,8 @@ module _ (on : ℕ) (b : Beat) (r : BeatRanged b) where
           ∙ ap (beatWith (b .n)) (drive-at (b .n) (positionAfter on 1) (b .count) (b .position) (r .count-from))
           ∙ rw e)
 
-  -- in range its still is within a stretch, or for ever
-  pub triangle-still-most : triangleStill on b ≤ forever
-  unfolding triangleStill
-  triangle-still-most = pick-both (λ (x : ℕ). x ≤ forever) (eqb on 0) (omega arith) (omega (arith, r .count-to))
-
 -- OF THE CHANNEL: between frame steps only its sequencer moves
 module _ (t : Triangle) where
-  pub triangle-clocks : TriangleRanged t → (g : ℕ)
-      → iterate triangleTimed g t
-      ≡ withSequencer t
-      (triangleWithBeat (t .sequencer) (iterate (triangleBeatClock (triangleGate t)) g (triangleBeatOf (t .sequencer))))
-  unfolding triangleTimed runs triangleGate
-  triangle-clocks r g =
-      iterate-along triangleTimed (triangleSequenced (runs t)) (withSequencer t) (λ q. refl) g (t .sequencer)
-      ∙ ap (withSequencer t) (triangle-beats (runs t) (t .sequencer) (r .sequencer) g)
-
   -- what it gives at a beat
   pub triangle-gives-at : (b : Beat)
       → triangleOutput (withSequencer t (triangleWithBeat (t .sequencer) b)) ≡ triangleGives b
@@ -240,27 +222,3 @@ module _ (t : Triangle) where
   pub triangle-gives : triangleOutput t ≡ triangleGives (triangleBeatOf (t .sequencer))
   unfolding triangleOutput triangleGives triangleBeatOf
   triangle-gives = refl
-
-  -- THE LAW OF THE QUIET STATE, the triangle's share: any number of clocks has the closed form, and with no length it holds its value
-  pub triangle-closed : TriangleRanged t → (g : ℕ)
-      → iterate triangleTimed g t
-      ≡ withSequencer t
-      (triangleWithBeat (t .sequencer) (triangleBeatAdvanced (triangleGate t) g (triangleBeatOf (t .sequencer))))
-  triangle-closed r g =
-      let b = beat-ranged (t .sequencer) (r .sequencer) in
-      triangle-clocks r g
-      ∙ ap (λ (x : Beat). withSequencer t (triangleWithBeat (t .sequencer) x))
-      (triangle-beat-closed (triangleGate t) g (triangleBeatOf (t .sequencer)) (b .n-from) (b .count-from) (b .position))
-
-  no-gate : t .length .count ≡ 0 → eqb (triangleGate t) 0 ≡ true
-  unfolding triangleGate runs
-  no-gate z = rw z
-
-  pub triangle-quiet : TriangleRanged t → t .length .count ≡ 0 → (g : ℕ)
-      → triangleOutput (iterate triangleTimed g t) ≡ triangleOutput t
-  triangle-quiet r z g =
-      let b = triangleBeatOf (t .sequencer) in
-      ap triangleOutput (triangle-clocks r g)
-      ∙ triangle-gives-at (iterate (triangleBeatClock (triangleGate t)) g b)
-      ∙ triangle-held (triangleGate t) b (beat-ranged (t .sequencer) (r .sequencer)) (no-gate z) g
-      ∙ sym triangle-gives

@@ -11,21 +11,9 @@ use log_read::number;
 use log_read::place;
 use log_read::read_inside;
 ghost use mathlib.Core.Path.{_≡_};
-ghost use Prim.Native.Nat.{_<_, _≤_, min};
+ghost use Prim.Native.Nat.{_<_};
 ghost use Rattle.log_judge.specs.Tree.{actClocks};
-ghost use Rattle.log_judge.specs.Block.{Small, SmallBlock, cut, noTotals, sumOf, timesOf, begun, readBegun, readPart, readBlock, stepAnswer, partAnswer, partEnd, loopPart, answer};
-
-fn cap(x: u64, most: u64) -> u64
-    ensures { λ r. ⌜ r ≡ min most x ⌝ }
-{
-    if x < most { x } else { most }
-}
-
-fn wide(x: u8) -> u64
-    ensures { λ r. ⌜ r ≡ x ⌝ }
-{
-    x as u64
-}
+ghost use Rattle.log_judge.specs.Block.{Small, SmallBlock, cut, noTotals, sumOf, timesOf, begun, readBegun, readPart, readBlock, stepAnswer, partAnswer, partEnd, loopPart, blockAnswer};
 
 fn clocks_of(a: Act) -> u64
     ensures { λ r. ⌜ r ≡ actClocks a ⌝ }
@@ -50,7 +38,7 @@ fn single(a: Act) -> Totals
     ensures { λ r. ⌜ r ≡ cut (actClocks a) 1 1 ⌝ }
 {
     Totals {
-        clocks: cap(clocks_of(a), 2000000001),
+        clocks: arith::least_u64(2000000001, clocks_of(a)),
         turns: 1,
         items: 1,
     }
@@ -61,9 +49,9 @@ fn sum(a: Totals, b: Totals) -> Totals
     ensures { λ r. ⌜ r ≡ sumOf a b ⌝ }
 {
     Totals {
-        clocks: cap(a.clocks + b.clocks, 2000000001),
-        turns: cap(a.turns + b.turns, 1000001),
-        items: cap(a.items + b.items, 1000001),
+        clocks: arith::least_u64(2000000001, a.clocks + b.clocks),
+        turns: arith::least_u64(1000001, a.turns + b.turns),
+        items: arith::least_u64(1000001, a.items + b.items),
     }
 }
 
@@ -73,9 +61,9 @@ fn scaled(n: u64, a: Totals) -> Totals
     ensures { λ r. ⌜ r ≡ timesOf n a ⌝ }
 {
     Totals {
-        clocks: cap(n * a.clocks, 2000000001),
-        turns: cap(n * (1 + a.turns), 1000001),
-        items: cap(n * a.items, 1000001),
+        clocks: arith::least_u64(2000000001, n * a.clocks),
+        turns: arith::least_u64(1000001, n * (1 + a.turns)),
+        items: arith::least_u64(1000001, n * a.items),
     }
 }
 
@@ -111,7 +99,7 @@ fn repeated(n: u8, b: Block) -> Part
     ensures { λ r. ⌜ r ≡ loopPart n b ⌝ }
 {
     match b {
-        Block::Closed(_, next, t) => Part::Acts(next, scaled(wide(n), t)),
+        Block::Closed(_, next, t) => Part::Acts(next, scaled(arith::wide_u8(n), t)),
         Block::Stopped(place, _, _, _) => Part::Refused(8, place),
         Block::Refused(number, place) => Part::Refused(number, place),
     }
@@ -142,7 +130,7 @@ fn read_line(log: &[u8], at: usize, depth: u64) -> Part
 
 // The lines from a place on, up to the one that ends their block, where `depth` loops are open around them.
 pub fn read_block(log: &[u8], at: usize, depth: u64) -> Block
-    ensures { λ r. ⌜ r ≡ answer (readBlock (now (log .entry)) at depth) ⌝ }
+    ensures { λ r. ⌜ r ≡ blockAnswer (readBlock (now (log .entry)) at depth) ⌝ }
 {
     let mut i = at;
     let mut t = nothing();

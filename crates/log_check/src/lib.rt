@@ -11,12 +11,12 @@ use log_read::read;
 use log_read::start;
 ghost use mathlib.Core.Path.{_≡_};
 ghost use lib.ListN.{length};
-ghost use Rattle.log_judge.specs.Whole.{refusal, checkOf};
+ghost use Rattle.log_judge.specs.Whole.{checkRefusal, checkOf};
 ghost use Rattle.log_judge.specs.Closing.{totalled, limited, closing};
 
 // The answer of a refusal.
 fn refusal(number: u8, place: usize) -> Checked
-    ensures { λ r. ⌜ r ≡ refusal number place ⌝ }
+    ensures { λ r. ⌜ r ≡ checkRefusal number place ⌝ }
 {
     Checked {
         number,

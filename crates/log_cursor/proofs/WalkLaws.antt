@@ -20,7 +20,9 @@ use Rattle.log_judge.specs.Reading.{standing, readIn, readAt}
 use Rattle.log_judge.specs.Tree.{Tree, end, act, loop, acts, times, turns}
 use Rattle.log_judge.proofs.Derived.{Ending, closes, stops, Reads, an-act, a-loop, a-done, a-stop}
 use Rattle.log_cursor.specs.declared.Cursor.{Cursor}
-use Rattle.log_cursor.specs.Stepping.{go, beginning, loopsOpen, passed, entered, again, turned, followed, readStep, stepOf}
+use Rattle.log_cursor.specs.Stepping.{go, beginning, loopsOpen, movedTo, entered, again, turned, followed, readStep, stepOf}
+
+-- A CURSOR AT A PLACE
 
 -- lines passed on the way through a tree
 unfoldable pub lines : Tree → ℕ
@@ -58,10 +60,10 @@ module _ (log : List ℕ) (c : Cursor) (at d : ℕ) (s l : List ℕ) (h : At c a
   step-by : (x : Line) (p : ℕ) → Goes d x → readAt log at ≡ Item x p → stepOf log c ≡ followed c d p x
   step-by x p g e = step-in x p (to-depth log at d x p g e)
 
-  pass-at : (p : ℕ) → At (passed c d p) p d s l
+  pass-at : (p : ℕ) → At (movedTo c d p) p d s l
   pass-at p = record { place = refl; depth = refl; low = h .low; starts = h .starts; left = h .left; room = h .room; space = h .space }
 
-  act-said : (a : Act) (p : ℕ) → readAt log at ≡ Item (One a) p → stepOf log c ≡ go (says a) (passed c d p)
+  act-said : (a : Act) (p : ℕ) → readAt log at ≡ Item (One a) p → stepOf log c ≡ go (says a) (movedTo c d p)
   unfolding followed
   act-said a p e = step-by (One a) p acts-on e
 
@@ -84,6 +86,8 @@ module _ (log : List ℕ) (c : Cursor) (at d : ℕ) (s l : List ℕ) (h : At c a
 stop-said : (log : List ℕ) (c : Cursor) (at n p : ℕ) (s l : List ℕ) → At c at 0 s l → readAt log at ≡ Item (Stop n) p → stepOf log c ≡ go over c
 unfolding followed
 stop-said log c at n p s l h e = step-by log c at 0 s l h (Stop n) p (ends-on refl) e
+
+-- AT THE `done` OF A LOOP
 
 -- at the `done` of a loop whose body began at e, with m turns left
 module _ (log : List ℕ) (c : Cursor) (at d e m p : ℕ) (s l : List ℕ) (hs : length s ≡ d) (hl : length l ≡ d)
@@ -109,11 +113,11 @@ module _ (log : List ℕ) (c : Cursor) (at d e m p : ℕ) (s l : List ℕ) (hs :
       step-by log c at (d + 1) (s ++ (e ∷ [])) (l ++ (m ∷ [])) h Done p (closes-on (omega arith)) done
       ∙ rw (ne-eqb (d + 1) 0 (λ z. omega arith), down, left-is) refl
 
-  last-said : m ≡ 0 → stepOf log c ≡ go on (passed c d p)
+  last-said : m ≡ 0 → stepOf log c ≡ go on (movedTo c d p)
   unfolding turned
   last-said q = done-said ∙ rw (eq-eqb m 0 q, down) refl
 
-  last-at : At (passed c d p) p d s l
+  last-at : At (movedTo c d p) p d s l
   last-at = record { place = refl; depth = refl; low = omega arith; starts = below-starts; left = below-left; room = h .room; space = h .space }
 
   again-said : (m ≡ 0 → ⊥) → stepOf log c ≡ go on (again c (d + 1) m)
@@ -131,6 +135,8 @@ module _ (log : List ℕ) (c : Cursor) (at d e m p : ℕ) (s l : List ℕ) (hs :
         room = h .room;
         space = rw length-set (h .space);
       }
+
+-- A BLOCK GIVES ITS ACTS
 
 -- what is left behind a block that a `done` closes, p being the place behind that
 abbrev Closing : List ℕ → ℕ → ℕ → List ℕ → List ℕ → List Act → ℕ → Type 0
@@ -151,7 +157,7 @@ module _ (log : List ℕ) (d e p : ℕ) (b : Tree) (s l : List ℕ) (rest : List
       (run (s ++ (e ∷ [])) (l ++ (0 ∷ [])) rest (1 + k)
       (λ c′ q h′ done.
       by-on (stepOf log) (1 + k) (last-said log c′ q d e 0 p s l hs hl h′ done refl)
-      (tail (passed c′ d p) (last-at log c′ q d e 0 p s l hs hl h′ done))
+      (tail (movedTo c′ d p) (last-at log c′ q d e 0 p s l hs hl h′ done))
       (omega arith))
       c h))
   turns-left (suc m) c h =
@@ -181,7 +187,7 @@ block-gives : {log : List ℕ} {at d : ℕ} {t : Tree} {e : Ending} → Reads lo
 unfolding acts lines
 block-gives {log = log} {at = at} {d = d} (an-act {p = p} {a = a} e r) s l rest k K c h =
     by-says (stepOf log) _ (act-said log c at d s l h a p e)
-    (block-gives r s l rest k K (passed c d p) (pass-at log c at d s l h p))
+    (block-gives r s l rest k K (movedTo c d p) (pass-at log c at d s l h p))
     (omega arith)
 block-gives {log = log} {at = at} {d = d} (a-loop {n = n} {p = p} {r = r} {b = b} {t = t} e z low body tail) s l rest k K c h =
     rw append-assoc
@@ -193,6 +199,8 @@ block-gives {log = log} {at = at} {d = d} (a-loop {n = n} {p = p} {r = r} {b = b
 block-gives {at = at} (a-done e z) s l rest k K c h = within _ _ (omega arith) (K c at h e)
 block-gives {log = log} {at = at} (a-stop {p = p} {n = n} e) s l rest k K c h =
     rw (K .0) (by-over (stepOf log) _ (stop-said log c at n p s l h e) (omega arith))
+
+-- HOW MANY LINES ARE PASSED
 
 -- lines passed, by the turns: a loop's own line is paid for by its two turns or more
 few : (n a b : ℕ) → 2 ≤ n → 2 * a ≤ 3 * b → 2 * (1 + n * (1 + a)) ≤ 3 * (n * (1 + b))
@@ -214,21 +222,22 @@ lines-turns {log} {at} (a-loop {n = n} {p = p} {b = b} e z low r r′) =
 lines-turns (a-done e z) = omega arith
 lines-turns (a-stop e) = omega arith
 
+-- FROM THE BEGINNING
 begin-at : At beginning 0 0 [] []
 begin-at = record { place = refl; depth = refl; low = omega arith; starts = refl; left = refl; room = refl; space = refl }
 
-header-said : (log : List ℕ) (p : ℕ) → readAt log 0 ≡ Item Header p → stepOf log beginning ≡ go on (passed beginning 0 p)
+header-said : (log : List ℕ) (p : ℕ) → readAt log 0 ≡ Item Header p → stepOf log beginning ≡ go on (movedTo beginning 0 p)
 unfolding followed readAt standing
 header-said log p e = step-in log beginning 0 0 [] [] begin-at Header p e
 
 -- behind `log=1`
 abbrev headed : Cursor
-headed = passed beginning 0 6
+headed = movedTo beginning 0 6
 
 headed-at : At headed 6 0 [] []
 headed-at = record { place = refl; depth = refl; low = omega arith; starts = refl; left = refl; room = refl; space = refl }
 
-machine-said : (log : List ℕ) (p : ℕ) → readIn (standing 6 0) log 6 ≡ Item Machine p → stepOf log headed ≡ go on (passed headed 0 p)
+machine-said : (log : List ℕ) (p : ℕ) → readIn (standing 6 0) log 6 ≡ Item Machine p → stepOf log headed ≡ go on (movedTo headed 0 p)
 unfolding followed
 machine-said log p e = step-in log headed 6 0 [] [] headed-at Machine p e
 
@@ -248,5 +257,5 @@ module _ (log : List ℕ) (t : Tree) (p q r n : ℕ) (e : readAt log 0 ≡ Item 
   begin-pal m =
       let i = lines-turns h in
       by-on (stepOf log) 2000002 (header-said log 6 e)
-      (by-on (stepOf log) (lines t + 2) (machine-said log p m) (turns-give log t (passed headed 0 p) p q r n (pass-at log headed 6 0 [] [] headed-at p) h) (omega arith))
+      (by-on (stepOf log) (lines t + 2) (machine-said log p m) (turns-give log t (movedTo headed 0 p) p q r n (pass-at log headed 6 0 [] [] headed-at p) h) (omega arith))
       (omega arith)

@@ -28,22 +28,22 @@ told on = Found.Moved
 told (says a) = Found.Act a
 told (refused k p) = Found.Refused k p
 
-abbrev pub stepped : Go → Stepped
-stepped t = record { found = told (t .said); cursor = t .state }
+abbrev pub steppedOf : Go → Stepped
+steppedOf t = record { found = told (t .said); cursor = t .state }
 
 -- document 01's number and place of each answer: 0 is "done", and the place is "0 otherwise"
 
-abbrev pub numberOf : Found → ℕ
-numberOf (Found.Act a) = 0
-numberOf Found.Moved = 0
-numberOf Found.End = 0
-numberOf (Found.Refused k p) = k
+abbrev pub foundNumber : Found → ℕ
+foundNumber (Found.Act a) = 0
+foundNumber Found.Moved = 0
+foundNumber Found.End = 0
+foundNumber (Found.Refused k p) = k
 
-abbrev pub placeOf : Found → ℕ
-placeOf (Found.Act a) = 0
-placeOf Found.Moved = 0
-placeOf Found.End = 0
-placeOf (Found.Refused k p) = p
+abbrev pub foundPlace : Found → ℕ
+foundPlace (Found.Act a) = 0
+foundPlace Found.Moved = 0
+foundPlace Found.End = 0
+foundPlace (Found.Refused k p) = p
 
 -- at a log's beginning
 abbrev pub beginning : Cursor
@@ -60,8 +60,8 @@ unfoldable pub loopsOpen : Cursor → ℕ
 loopsOpen c = pick (leb (c .depth) 8) (c .depth) 0
 
 -- to a place, with d loops open
-abbrev pub passed : Cursor → ℕ → ℕ → Cursor
-passed c d p = record { at = p; depth = d; starts = c .starts; left = c .left }
+abbrev pub movedTo : Cursor → ℕ → ℕ → Cursor
+movedTo c d p = record { at = p; depth = d; starts = c .starts; left = c .left }
 
 -- with d loops open, into one more of n turns, whose body begins at p
 abbrev pub entered : Cursor → ℕ → ℕ → ℕ → Cursor
@@ -73,14 +73,14 @@ again c d n = record { at = getD (c .starts) (d - 1) 0; depth = d; starts = c .s
 
 -- the innermost of d loops at its `done`, with n turns left; p is the place behind it
 unfoldable pub turned : Cursor → ℕ → ℕ → ℕ → Go
-turned c d p n = pick (eqb n 0) (go on (passed c (d - 1) p)) (go on (again c d n))
+turned c d p n = pick (eqb n 0) (go on (movedTo c (d - 1) p)) (go on (again c d n))
 
 -- with d loops open, the line at the cursor says l and the next one begins at p; a line that is right there opens no ninth loop, closes one
 -- that is open, and stops where none is
 unfoldable pub followed : Cursor → ℕ → ℕ → Line → Go
-followed c d p Header = go on (passed c d p)
-followed c d p Machine = go on (passed c d p)
-followed c d p (One a) = go (says a) (passed c d p)
+followed c d p Header = go on (movedTo c d p)
+followed c d p Machine = go on (movedTo c d p)
+followed c d p (One a) = go (says a) (movedTo c d p)
 followed c d p (Loop n) = pick (ltb d 8) (go on (entered c d p n)) (go (refused 7 (c .at)) c)
 followed c d p Done = pick (eqb d 0) (go (refused 8 (c .at)) c) (turned c d p (getD (c .left) (d - 1) 0))
 followed c d p (Stop n) = pick (eqb d 0) (go over c) (go (refused 8 (c .at)) c)

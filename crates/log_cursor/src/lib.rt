@@ -1,7 +1,7 @@
 // A cursor over a log: by value, a line a step, whatever the log and whatever the cursor.
 ghost use mathlib.Core.Path.{_≡_};
 ghost use Prim.Native.Nat.{_≤_, _<_};
-ghost use Rattle.log_cursor.specs.Stepping.{beginning, loopsOpen, passed, entered, again, turned, followed, refusedBy, stepOf, stepped, numberOf, placeOf};
+ghost use Rattle.log_cursor.specs.Stepping.{beginning, loopsOpen, movedTo, entered, again, turned, followed, refusedBy, stepOf, steppedOf, foundNumber, foundPlace};
 use log_judge::Reading;
 use log_line::Act;
 use log_line::Line;
@@ -30,7 +30,7 @@ pub struct Stepped {
 
 // The number of an answer: 0, or the refusal's.
 pub fn number(f: Found) -> u8
-    ensures { λ r. ⌜ r ≡ numberOf f ⌝ }
+    ensures { λ r. ⌜ r ≡ foundNumber f ⌝ }
 {
     match f {
         Found::Act(_) => 0,
@@ -42,7 +42,7 @@ pub fn number(f: Found) -> u8
 
 // The place of an answer: 0, or the refusal's.
 pub fn place(f: Found) -> usize
-    ensures { λ r. ⌜ r ≡ placeOf f ⌝ }
+    ensures { λ r. ⌜ r ≡ foundPlace f ⌝ }
 {
     match f {
         Found::Act(_) => 0,
@@ -73,7 +73,7 @@ fn open_loops(c: Cursor) -> usize
 
 // To a place, with d loops open.
 fn pass(c: Cursor, d: usize, next: usize) -> Cursor
-    ensures { λ r. ⌜ r ≡ passed c d next ⌝ }
+    ensures { λ r. ⌜ r ≡ movedTo c d next ⌝ }
 {
     let starts = c.starts;
     let left = c.left;
@@ -121,7 +121,7 @@ fn repeat(c: Cursor, d: usize, n: u8) -> Cursor
 // The innermost loop at its `done`, with n turns left.
 fn turn(c: Cursor, d: usize, next: usize, n: u8) -> Stepped
     requires { ⌜ (0 < d) × (d ≤ 8) ⌝ }
-    ensures { λ r. ⌜ r ≡ stepped (turned c d next n) ⌝ }
+    ensures { λ r. ⌜ r ≡ steppedOf (turned c d next n) ⌝ }
 {
     if n == 0 {
         return Stepped {
@@ -136,7 +136,7 @@ fn turn(c: Cursor, d: usize, next: usize, n: u8) -> Stepped
 }
 
 fn at_loop(c: Cursor, d: usize, next: usize, n: u8) -> Stepped
-    ensures { λ r. ⌜ r ≡ stepped (followed c d next (Line.Loop n)) ⌝ }
+    ensures { λ r. ⌜ r ≡ steppedOf (followed c d next (Line.Loop n)) ⌝ }
 {
     if d < 8 {
         return Stepped {
@@ -152,7 +152,7 @@ fn at_loop(c: Cursor, d: usize, next: usize, n: u8) -> Stepped
 
 fn at_done(c: Cursor, d: usize, next: usize) -> Stepped
     requires { ⌜ d ≤ 8 ⌝ }
-    ensures { λ r. ⌜ r ≡ stepped (followed c d next Line.Done) ⌝ }
+    ensures { λ r. ⌜ r ≡ steppedOf (followed c d next Line.Done) ⌝ }
 {
     if d == 0 {
         return Stepped {
@@ -165,7 +165,7 @@ fn at_done(c: Cursor, d: usize, next: usize) -> Stepped
 }
 
 fn at_stop(c: Cursor, d: usize, next: usize, n: u32) -> Stepped
-    ensures { λ r. ⌜ r ≡ stepped (followed c d next (Line.Stop n)) ⌝ }
+    ensures { λ r. ⌜ r ≡ steppedOf (followed c d next (Line.Stop n)) ⌝ }
 {
     if d == 0 {
         return Stepped {
@@ -182,7 +182,7 @@ fn at_stop(c: Cursor, d: usize, next: usize, n: u32) -> Stepped
 // With d loops open, the line at the cursor says l.
 fn follow(c: Cursor, d: usize, next: usize, l: Line) -> Stepped
     requires { ⌜ d ≤ 8 ⌝ }
-    ensures { λ r. ⌜ r ≡ stepped (followed c d next l) ⌝ }
+    ensures { λ r. ⌜ r ≡ steppedOf (followed c d next l) ⌝ }
 {
     match l {
         Line::Header => Stepped {
@@ -209,7 +209,7 @@ fn follow(c: Cursor, d: usize, next: usize, l: Line) -> Stepped
 
 // The refusal of a line that was not read.
 fn refusal(c: Cursor, r: Reading) -> Stepped
-    ensures { λ s. ⌜ s ≡ stepped (refusedBy c r) ⌝ }
+    ensures { λ s. ⌜ s ≡ steppedOf (refusedBy c r) ⌝ }
 {
     match r {
         Reading::Item(_, _) => Stepped {
@@ -225,7 +225,7 @@ fn refusal(c: Cursor, r: Reading) -> Stepped
 
 // One step: at most one line is read.
 pub fn step(log: &[u8], c: Cursor) -> Stepped
-    ensures { λ r. ⌜ r ≡ stepped (stepOf (now (log .entry)) c) ⌝ }
+    ensures { λ r. ⌜ r ≡ steppedOf (stepOf (now (log .entry)) c) ⌝ }
 {
     let d = open_loops(c);
     let r = log_read::read_inside(log, c.at, d as u64);

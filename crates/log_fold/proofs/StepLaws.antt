@@ -10,7 +10,7 @@ use Rattle.log_line.specs.Printed.{lineText, Printable}
 use Rattle.log_judge.specs.declared.Reading.the-variants.{Item}
 use Rattle.log_judge.specs.Reading.{readAt}
 use Rattle.log_judge.specs.Tree.{Tree, end, act, loop, times, text, Within}
-use Rattle.log_judge.specs.Block.{closed, readBlock, answer}
+use Rattle.log_judge.specs.Block.{closed, readBlock, blockAnswer}
 use Rattle.log_judge.proofs.PlaceLaws.{had-at}
 use Rattle.log_judge.proofs.Derived.{closes, stops, Reads, an-act, a-loop, a-stop, block-of}
 use Rattle.log_passing.proofs.TextLaws.{act-text, loop-text}
@@ -65,7 +65,7 @@ unfolding moveOf
 move-stop log at k n p l = rw l
 
 move-loop : (log : List ℕ) (at k m p q r : ℕ) (b : Tree) → readAt log at ≡ Item (Loop m) p → readBlock log p 1 ≡ closed b q r → moveOf log at k ≡ plainMove r
-unfolding moveOf answer
+unfolding moveOf blockAnswer
 move-loop log at k m p q r b l e = rw (l, e)
 
 move-act : (log : List ℕ) (at k p : ℕ) (a : Act) → readAt log at ≡ Item (One a) p → moveOf log at k ≡ chosenIn 16 log at k p at

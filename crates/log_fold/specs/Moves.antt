@@ -16,7 +16,7 @@ use Rattle.log_judge.specs.declared.Reading.the-variants.{Item, Refused}
 use Rattle.log_judge.specs.declared.Block.{Block}
 use Rattle.log_judge.specs.declared.Block.the-variants.{Closed, Stopped}
 use Rattle.log_judge.specs.Reading.{readAt}
-use Rattle.log_judge.specs.Block.{readBlock, answer}
+use Rattle.log_judge.specs.Block.{readBlock, blockAnswer}
 use Rattle.log_fold.specs.declared.Move.{Move}
 
 abbrev pub plainMove : ℕ → Move
@@ -93,7 +93,7 @@ abbrev pub lineMove : List ℕ → ℕ → ℕ → ℕ → Line → Move
 lineMove log at k next Header = plainMove next
 lineMove log at k next Machine = plainMove next
 lineMove log at k next (One a) = chosenIn 16 log at k next at
-lineMove log at k next (Loop n) = plainMove (blockEnd next (answer (readBlock log next 1)))
+lineMove log at k next (Loop n) = plainMove (blockEnd next (blockAnswer (readBlock log next 1)))
 lineMove log at k next Done = plainMove next
 lineMove log at k next (Stop n) = plainMove next
 lineMove log at k next (Bad j) = plainMove next

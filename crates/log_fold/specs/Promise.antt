@@ -7,7 +7,7 @@ use mathlib.Core.Bool.{false}
 use lib.ListN.{length}
 use Rattle.log_judge.specs.Head.{machineOf}
 use Rattle.log_judge.specs.Tree.{Tree, end, act, loop, acts}
-use Rattle.log_judge.specs.Whole.{treeOf, stopOf, checkOf}
+use Rattle.log_judge.specs.Whole.{treeOf, stoppingOf, checkOf}
 use Rattle.log_fold.specs.Ahead.{leading, count}
 use Rattle.log_fold.specs.Folding.{suits}
 
@@ -15,7 +15,7 @@ pub record Folds (log new : List ℕ) : Type 0 where
   pub passes : checkOf new .number ≡ 0
   pub same-list : acts (treeOf new) ≡ acts (treeOf log)
   pub same-machine : machineOf new ≡ machineOf log
-  pub same-end : stopOf new .number ≡ stopOf log .number
+  pub same-end : stoppingOf new .number ≡ stoppingOf log .number
   pub not-longer : length new ≤ length log
 
 -- nothing can be folded, the whole log having k turns: at no wait, write or read outside a loop does one of the 16 p suit

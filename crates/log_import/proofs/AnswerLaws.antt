@@ -12,23 +12,23 @@ use Rattle.arith.specs.Pick.{pick, either}
 use Rattle.log_judge.specs.Tree.{turns}
 use Rattle.log_import.specs.declared.Said.{Said}
 use Rattle.log_import.specs.Stream.{Stream, ended, refused, streamOf}
-use Rattle.log_import.specs.Import.{stood, samplesIn, refusal, weighed, answer, clocksFor, treeFor, textFor, textOf, importOf, bufferOf}
+use Rattle.log_import.specs.Import.{stood, samplesIn, importRefusal, importWeighed, importAnswer, clocksFor, treeFor, textFor, textOf, importOf, bufferOf}
 use Rattle.log_import.specs.Measure.{Ready}
 use Rattle.log_import.proofs.BoundLaws.{either-false}
 use Rattle.log_import.proofs.FaultLaws.{Refused, refused-place, numbered}
 
 -- a weight by its two tests
 module _ (room c t n : ℕ) where
-  pub weighed-heavy : either (ltb 2000000000 c) (ltb 1000000 t) ≡ true → refusal 9 0 ≡ weighed room c t n
-  unfolding weighed
+  pub weighed-heavy : either (ltb 2000000000 c) (ltb 1000000 t) ≡ true → importRefusal 9 0 ≡ importWeighed room c t n
+  unfolding importWeighed
   weighed-heavy e = rw e
 
-  pub weighed-long : either (ltb 2000000000 c) (ltb 1000000 t) ≡ false → either (ltb room n) (ltb 60000 n) ≡ true → refusal 28 0 ≡ weighed room c t n
-  unfolding weighed
+  pub weighed-long : either (ltb 2000000000 c) (ltb 1000000 t) ≡ false → either (ltb room n) (ltb 60000 n) ≡ true → importRefusal 28 0 ≡ importWeighed room c t n
+  unfolding importWeighed
   weighed-long e f = rw (e, f)
 
-  pub weighed-done : either (ltb 2000000000 c) (ltb 1000000 t) ≡ false → either (ltb room n) (ltb 60000 n) ≡ false → record { number = 0; place = 0; length = n } ≡ weighed room c t n
-  unfolding weighed
+  pub weighed-done : either (ltb 2000000000 c) (ltb 1000000 t) ≡ false → either (ltb room n) (ltb 60000 n) ≡ false → record { number = 0; place = 0; length = n } ≡ importWeighed room c t n
+  unfolding importWeighed
   weighed-done e f = rw (e, f)
 
 -- what number 0 says of a weight
@@ -38,12 +38,12 @@ pub record Weighed (room c t n : ℕ) : Type 0 where
   pub short : n ≤ 60000
   pub fits : n ≤ room
 
-pub weighed-of : (room c t n : ℕ) → weighed room c t n .number ≡ 0 → Weighed room c t n
-unfolding weighed
+weighed-of : (room c t n : ℕ) → importWeighed room c t n .number ≡ 0 → Weighed room c t n
+unfolding importWeighed
 weighed-of room c t n h = by (either (ltb 2000000000 c) (ltb 1000000 t)) refl (either (ltb room n) (ltb 60000 n)) refl h
   where
     by : (a : Bool) → either (ltb 2000000000 c) (ltb 1000000 t) ≡ a → (b : Bool) → either (ltb room n) (ltb 60000 n) ≡ b
-        → pick a (refusal 9 0) (pick b (refusal 28 0) (record { number = 0; place = 0; length = n })) .number ≡ 0 → Weighed room c t n
+        → pick a (importRefusal 9 0) (pick b (importRefusal 28 0) (record { number = 0; place = 0; length = n })) .number ≡ 0 → Weighed room c t n
     by true ea b eb h = absurd (omega arith)
     by false ea true eb h = absurd (omega arith)
     by false ea false eb h =
@@ -57,8 +57,8 @@ pub record Imports (room : ℕ) (x : Stream) : Type 0 where
   pub is : x ≡ ended said
   pub weight : Weighed room (clocksFor said) (turns (treeFor said)) (length (textFor said))
 
-imports-of : (room size : ℕ) (x : Stream) → Refused size x → answer room x .number ≡ 0 → Imports room x
-unfolding answer
+imports-of : (room size : ℕ) (x : Stream) → Refused size x → importAnswer room x .number ≡ 0 → Imports room x
+unfolding importAnswer
 imports-of room size (refused k p) n h = let z = numbered size k p n .0 in absurd (omega arith)
 imports-of room size (ended l) n h = record { said = l; is = refl; weight = weighed-of room (clocksFor l) (turns (treeFor l)) (length (textFor l)) h }
 

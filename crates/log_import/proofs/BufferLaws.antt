@@ -19,24 +19,24 @@ use Rattle.log_line.specs.declared.Act.the-variants.{Wait as Waited}
 use Rattle.log_line.specs.Printed.{lineText, actText, ended as fed}
 use Rattle.log_judge.specs.Tree.{Tree, act, text, logText}
 use Rattle.log_import.specs.declared.Said.{Said}
-use Rattle.log_import.specs.Stream.{Stream, ended, more, after, streamFrom, stepOf, commandOf, registerOf, streamOf}
-use Rattle.log_import.specs.Import.{stood, rest, gap, actsFrom, samplesIn, refusal, weighed, answer, clocksFor, treeFor, textFor, textOf, importOf, bufferOf}
+use Rattle.log_import.specs.Stream.{Stream, ended, more, after, streamFrom, byteStep, commandOf, registerOf, streamOf}
+use Rattle.log_import.specs.Import.{stood, rest, gap, actsFrom, samplesIn, importRefusal, importWeighed, importAnswer, clocksFor, treeFor, textFor, textOf, importOf, bufferOf}
 use Rattle.log_import.proofs.AnswerLaws.{imports, ready}
 
 -- number 0: the log over the front, as long as the answer says; the bytes behind it stay
 
-length-weighed : (room c t n : ℕ) → weighed room c t n .number ≡ 0 → weighed room c t n .length ≡ n
-unfolding weighed
+length-weighed : (room c t n : ℕ) → importWeighed room c t n .number ≡ 0 → importWeighed room c t n .length ≡ n
+unfolding importWeighed
 length-weighed room c t n h = by (either (ltb 2000000000 c) (ltb 1000000 t)) (either (ltb room n) (ltb 60000 n)) h
   where
-    by : (a b : Bool) → pick a (refusal 9 0) (pick b (refusal 28 0) (record { number = 0; place = 0; length = n })) .number ≡ 0
-        → pick a (refusal 9 0) (pick b (refusal 28 0) (record { number = 0; place = 0; length = n })) .length ≡ n
+    by : (a b : Bool) → pick a (importRefusal 9 0) (pick b (importRefusal 28 0) (record { number = 0; place = 0; length = n })) .number ≡ 0
+        → pick a (importRefusal 9 0) (pick b (importRefusal 28 0) (record { number = 0; place = 0; length = n })) .length ≡ n
     by true b h = absurd (omega arith)
     by false true h = absurd (omega arith)
     by false false h = refl
 
-length-answered : (room : ℕ) (x : Stream) (l : List Said) → x ≡ ended l → answer room x .number ≡ 0 → answer room x .length ≡ length (textOf x)
-unfolding answer textOf
+length-answered : (room : ℕ) (x : Stream) (l : List Said) → x ≡ ended l → importAnswer room x .number ≡ 0 → importAnswer room x .length ≡ length (textOf x)
+unfolding importAnswer textOf
 length-answered room x l e h = rw e (length-weighed room _ _ (length (textFor l)) (rw e at h))
 
 module _ (s out : List ℕ) (done : importOf s (length out) .number ≡ 0) where
@@ -58,24 +58,24 @@ module _ (s out : List ℕ) (done : importOf s (length out) .number ≡ 0) where
 
 -- `B4 14`: 26:1; `B4 00`: 27:2; `B4`: 27:1; `61 66`: 27:2; nothing: 27:0
 
-case-1 : importOf (0xb4 ∷ 0x14 ∷ []) 100 ≡ refusal 26 1
-unfolding importOf answer streamOf streamFrom after stepOf commandOf registerOf isRegister
+case-1 : importOf (0xb4 ∷ 0x14 ∷ []) 100 ≡ importRefusal 26 1
+unfolding importOf importAnswer streamOf streamFrom after byteStep commandOf registerOf isRegister
 case-1 = refl
 
-case-2 : importOf (0xb4 ∷ 0x00 ∷ []) 100 ≡ refusal 27 2
-unfolding importOf answer streamOf streamFrom after stepOf commandOf registerOf isRegister
+case-2 : importOf (0xb4 ∷ 0x00 ∷ []) 100 ≡ importRefusal 27 2
+unfolding importOf importAnswer streamOf streamFrom after byteStep commandOf registerOf isRegister
 case-2 = refl
 
-case-3 : importOf (0xb4 ∷ []) 100 ≡ refusal 27 1
-unfolding importOf answer streamOf streamFrom after stepOf commandOf
+case-3 : importOf (0xb4 ∷ []) 100 ≡ importRefusal 27 1
+unfolding importOf importAnswer streamOf streamFrom after byteStep commandOf
 case-3 = refl
 
-case-4 : importOf (0x61 ∷ 0x66 ∷ []) 100 ≡ refusal 27 2
-unfolding importOf answer streamOf streamFrom after stepOf commandOf
+case-4 : importOf (0x61 ∷ 0x66 ∷ []) 100 ≡ importRefusal 27 2
+unfolding importOf importAnswer streamOf streamFrom after byteStep commandOf
 case-4 = refl
 
-case-5 : importOf [] 100 ≡ refusal 27 0
-unfolding importOf answer streamOf streamFrom
+case-5 : importOf [] 100 ≡ importRefusal 27 0
+unfolding importOf importAnswer streamOf streamFrom
 case-5 = refl
 
 -- "a gap of 1,000,000 is one line, of 2,000,000 two, of 0 none"
@@ -99,5 +99,5 @@ gap-3 t = refl
 -- "three waits of 735: 29829, 29830, 29829"
 case-6 : textOf (streamOf (0x62 ∷ 0xb4 ∷ 0x00 ∷ 0x1f ∷ 0x62 ∷ 0xb4 ∷ 0x15 ∷ 0xa0 ∷ 0x62 ∷ 0x66 ∷ []))
     ≡ bytes "log=1\nwait=29829\nwrite=4000:1f\nwait=29830\nwrite=4015:a0\nwait=29829\nstop=89488\n"
-unfolding textOf textFor treeFor clocksFor logText text actsFrom samplesIn stood gap rest iterate streamOf streamFrom after more stepOf commandOf registerOf isRegister lineText actText fed decimalText digitsOf hexText hexByte
+unfolding textOf textFor treeFor clocksFor logText text actsFrom samplesIn stood gap rest iterate streamOf streamFrom after more byteStep commandOf registerOf isRegister lineText actText fed decimalText digitsOf hexText hexByte
 case-6 = refl

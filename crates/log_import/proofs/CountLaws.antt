@@ -25,15 +25,15 @@ use Rattle.log_import.specs.declared.Step.{Step}
 use Rattle.log_import.specs.declared.Step.the-variants.{End, Fault, Next, Says}
 use Rattle.log_import.specs.declared.Count.{Count}
 use Rattle.log_import.specs.declared.Imported.{Imported}
-use Rattle.log_import.specs.Stream.{Stream, ended, refused, more, after, streamFrom, stepOf, streamOf}
-use Rattle.log_import.specs.Import.{stood, gap, actsFrom, samplesIn, refusal, weighed, answer, clocksFor, treeFor, textFor, importOf}
+use Rattle.log_import.specs.Stream.{Stream, ended, refused, more, after, streamFrom, byteStep, streamOf}
+use Rattle.log_import.specs.Import.{stood, gap, actsFrom, samplesIn, importRefusal, importWeighed, importAnswer, clocksFor, treeFor, textFor, importOf}
 use Rattle.log_import.specs.Measure.{gapText, gapTurns, stopsAt, stoppedAt, awaited, heavyAt, countWrite, countSaid, countStep, answerFrom}
 use Rattle.log_import.proofs.BoundLaws.{stood-more}
 use Rattle.log_import.proofs.GapLaws.{text-gap, turns-gap, text-act, turns-act}
 
 -- a byte more
 pub from-byte : (w : Await) (i : ℕ) (s : List ℕ) → i < length s
-    → streamFrom w i (drop i s) ≡ after (stepOf w (getD s i 0)) i (λ v. streamFrom v (i + 1) (drop (i + 1) s))
+    → streamFrom w i (drop i s) ≡ after (byteStep w (getD s i 0)) i (λ v. streamFrom v (i + 1) (drop (i + 1) s))
 unfolding streamFrom
 from-byte w i s h = ap (streamFrom w i) (drop-cons s i 0 h ∙ ap (λ (n : ℕ). getD s i 0 ∷ drop n s) (sym (add-one i)))
 
@@ -43,7 +43,7 @@ unfolding streamFrom
 from-end w i s h = rw (drop-of-length-le s h)
 
 -- a step that stops
-pub after-stops : (s : Step) (i : ℕ) (f : Await → Stream) → stopsAt s ≡ true → after s i f ≡ stoppedAt s i
+after-stops : (s : Step) (i : ℕ) (f : Await → Stream) → stopsAt s ≡ true → after s i f ≡ stoppedAt s i
 unfolding after stopsAt stoppedAt
 after-stops End i f e = refl
 after-stops (Fault k) i f e = refl
@@ -72,8 +72,8 @@ module _ (room : ℕ) (k : Count) where
           rw (lt-ltb 1000000 (k .turns + turns (actsFrom (k .samples) (k .clock) l)) (omega arith)) (late (ltb 2000000000 (stood (k .samples + samplesIn l))))
       by false ea false eb e = absurd (let z : _≡_ {A = ℕ} 0 1 = cc in omega arith)
 
-  heavy-nine : (l : List Said) → heavyAt k ≡ true → answerFrom room k (ended l) ≡ refusal 9 0
-  unfolding answerFrom weighed
+  heavy-nine : (l : List Said) → heavyAt k ≡ true → answerFrom room k (ended l) ≡ importRefusal 9 0
+  unfolding answerFrom importWeighed
   heavy-nine l e = rw (still-heavy l e)
 
   says-heavy : (s : Said) (x : Stream) → heavyAt k ≡ true → answerFrom room k (more s x) ≡ answerFrom room k x
@@ -97,10 +97,10 @@ module _ (room : ℕ) (k : Count) where
       ∙ (length-append (gapText g) (text (act a t))
       ∙ ap (λ (x : ℕ). length (gapText g) + x) (ap length (text-act a t) ∙ (length-append (lineText (One a)) (text t) ∙ ap (λ (x : ℕ). x + length (text t)) (write-long r v)))) in
       let q : k .length + length (text (gap g (act a t))) + e ≡ k .length + length (gapText g) + 14 + length (text t) + e = omega arith in
-      ap₂ (λ (x y : ℕ). weighed room (stood (k .samples + samplesIn l)) x y) p q
+      ap₂ (λ (x y : ℕ). importWeighed room (stood (k .samples + samplesIn l)) x y) p q
 
   -- a step that goes on
-  pub count-goes : (s : Step) (i : ℕ) (f : Await → Stream) → stopsAt s ≡ false → answerFrom room k (after s i f) ≡ answerFrom room (countStep k s) (f (awaited s))
+  count-goes : (s : Step) (i : ℕ) (f : Await → Stream) → stopsAt s ≡ false → answerFrom room k (after s i f) ≡ answerFrom room (countStep k s) (f (awaited s))
   unfolding after stopsAt countStep awaited
   count-goes End i f e = absurd (let z : _≡_ {A = ℕ} 0 1 = cc in omega arith)
   count-goes (Fault q) i f e = absurd (let z : _≡_ {A = ℕ} 0 1 = cc in omega arith)
@@ -115,8 +115,8 @@ header-long : length (lineText Header) ≡ 6
 unfolding lineText fed
 header-long = refl
 
-starts : (room : ℕ) (x : Stream) → answerFrom room (record { samples = 0; clock = 0; turns = 0; length = 6 }) x ≡ answer room x
-unfolding answerFrom answer clocksFor treeFor textFor logText
+starts : (room : ℕ) (x : Stream) → answerFrom room (record { samples = 0; clock = 0; turns = 0; length = 6 }) x ≡ importAnswer room x
+unfolding answerFrom importAnswer clocksFor treeFor textFor logText
 starts room (refused q p) = refl
 starts room (ended l) =
     let t = actsFrom 0 0 l in
@@ -133,7 +133,7 @@ unfolding importOf streamOf
 count-starts room s = starts room (streamFrom Command 0 s)
 
 -- the loop of `measure`
-module _ (room : ℕ) (k : Count) (w : Await) (i : ℕ) (s : List ℕ) (h : i < length s) (st : Step) (e : st ≡ stepOf w (getD s i 0))
+module _ (room : ℕ) (k : Count) (w : Await) (i : ℕ) (s : List ℕ) (h : i < length s) (st : Step) (e : st ≡ byteStep w (getD s i 0))
     (inv : answerFrom room k (streamFrom w i (drop i s)) ≡ importOf s room) where
   stepped : answerFrom room k (after st i (λ v. streamFrom v (i + 1) (drop (i + 1) s))) ≡ importOf s room
   stepped =

@@ -18,8 +18,8 @@ use Rattle.log_import.specs.declared.Imported.{Imported}
 use Rattle.log_import.specs.declared.Said.{Said}
 use Rattle.log_import.specs.declared.Step.{Step}
 use Rattle.log_import.specs.declared.Step.the-variants.{End, Fault, Next, Says}
-use Rattle.log_import.specs.Stream.{Stream, ended, refused, more, after, streamFrom, stepOf, commandOf, registerOf, streamOf}
-use Rattle.log_import.specs.Import.{refusal, weighed, answer, clocksFor, treeFor, textFor, importOf}
+use Rattle.log_import.specs.Stream.{Stream, ended, refused, more, after, streamFrom, byteStep, commandOf, registerOf, streamOf}
+use Rattle.log_import.specs.Import.{importRefusal, importWeighed, importAnswer, clocksFor, treeFor, textFor, importOf}
 
 -- "Refusals, at the first byte at fault: 25 unknown command, 26 register, 27 stream ends before $66 (at its length)"
 
@@ -33,8 +33,8 @@ abbrev pub Refused : ℕ → Stream → Type 0
 Refused size (ended l) = Unit {0}
 Refused size (refused k p) = ((k ≡ 27) × (p ≡ size)) ⊎ (((k ≡ 25) ⊎ (k ≡ 26)) × (p < size))
 
-step-fault : (w : Await) (b : ℕ) → StepFault (stepOf w b)
-unfolding stepOf commandOf registerOf
+step-fault : (w : Await) (b : ℕ) → StepFault (byteStep w b)
+unfolding byteStep commandOf registerOf
 step-fault Command b =
     pick-both StepFault (eqb b 0xb4) tt
     (pick-both StepFault (eqb b 0x61) tt
@@ -63,7 +63,7 @@ from-refused : (l : List ℕ) (w : Await) (at size : ℕ) → size ≡ at + leng
 unfolding streamFrom
 from-refused [] w at size e = inl (refl, omega arith)
 from-refused (b ∷ l) w at size e =
-    after-refused size (stepOf w b) at (λ v. streamFrom v (at + 1) l) (omega arith) (step-fault w b) (λ v. from-refused l v (at + 1) size (omega arith))
+    after-refused size (byteStep w b) at (λ v. streamFrom v (at + 1) l) (omega arith) (step-fault w b) (λ v. from-refused l v (at + 1) size (omega arith))
 
 pub refused-place : (s : List ℕ) → Refused (length s) (streamOf s)
 unfolding streamOf
@@ -79,12 +79,12 @@ numbered size k p (inr (inr h, l)) = (omega arith, omega arith, omega arith)
 abbrev Answered : ℕ → Imported → Type 0
 Answered size a = (a .number ≤ 28) × (a .place ≤ size)
 
-answered : (room size : ℕ) (x : Stream) → Refused size x → Answered size (answer room x)
-unfolding answer weighed
+answered : (room size : ℕ) (x : Stream) → Refused size x → Answered size (importAnswer room x)
+unfolding importAnswer importWeighed
 answered room size (refused k p) h = let n = numbered size k p h in (n .1, n .2)
 answered room size (ended l) h = by (either (ltb 2000000000 (clocksFor l)) (ltb 1000000 (turns (treeFor l)))) (either (ltb room (length (textFor l))) (ltb 60000 (length (textFor l))))
   where
-    by : (a b : Bool) → Answered size (pick a (refusal 9 0) (pick b (refusal 28 0) (record { number = 0; place = 0; length = length (textFor l) })))
+    by : (a b : Bool) → Answered size (pick a (importRefusal 9 0) (pick b (importRefusal 28 0) (record { number = 0; place = 0; length = length (textFor l) })))
     by true b = (omega arith, omega arith)
     by false true = (omega arith, omega arith)
     by false false = (omega arith, omega arith)

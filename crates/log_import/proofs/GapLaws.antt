@@ -18,7 +18,7 @@ use Rattle.log_judge.specs.Tree.{Tree, end, act, turns, text}
 use Rattle.log_import.specs.declared.Count.{Count}
 use Rattle.log_import.specs.declared.Imported.{Imported}
 use Rattle.log_import.specs.Stream as stream
-use Rattle.log_import.specs.Import.{stood, gap, rest, weighed, actsFrom, samplesIn}
+use Rattle.log_import.specs.Import.{stood, gap, rest, importWeighed, actsFrom, samplesIn}
 use Rattle.log_import.specs.Measure.{gapText, gapTurns, millions, restText, countWrite, Counted, Light, answerFrom}
 use Rattle.log_import.proofs.BoundLaws.{stood-most, turns-most}
 
@@ -77,7 +77,7 @@ turns-gap g t = turns-millions (g / 1000000) (rest (g % 1000000) t) ∙ by (eqb 
     by false = omega (arith, turns-act (Wait (g % 1000000)) t)
 
 -- `wait=1000000` and its line feed
-pub million-long : length (lineText (One (Wait 1000000))) ≡ 13
+million-long : length (lineText (One (Wait 1000000))) ≡ 13
 unfolding lineText actText ended decimalText digitsOf
 million-long = refl
 
@@ -102,7 +102,7 @@ count-write-fits k q l c e t f n g h =
 
 -- the answer where the stream ends
 pub closed-count : (k : Count) (room : ℕ) (c : ℕ) → c ≡ stood (k .samples) → (t : ℕ) → t ≡ gapTurns (c - k .clock) → (n : ℕ) → n ≡ length (gapText (c - k .clock))
-    → (e : ℕ) → e ≡ length (lineText (Stop c)) → (r : Imported) → r ≡ weighed room c (k .turns + t) (k .length + n + e) → r ≡ answerFrom room k (stream.ended [])
+    → (e : ℕ) → e ≡ length (lineText (Stop c)) → (r : Imported) → r ≡ importWeighed room c (k .turns + t) (k .length + n + e) → r ≡ answerFrom room k (stream.ended [])
 unfolding answerFrom actsFrom samplesIn turns text
 closed-count k room c ec t et n en e ee r er =
     let z = add-zero (k .samples) in

@@ -18,7 +18,7 @@ use Rattle.log_import.specs.declared.Said.{Said}
 use Rattle.log_import.specs.declared.Said.the-variants.{Wait, Write}
 use Rattle.log_import.specs.declared.Step.{Step}
 use Rattle.log_import.specs.declared.Step.the-variants.{End, Fault, Next, Says}
-use Rattle.log_import.specs.Stream.{Stream, ended, refused, more, after, streamFrom, stepOf, commandOf, registerOf, streamOf}
+use Rattle.log_import.specs.Stream.{Stream, ended, refused, more, after, streamFrom, byteStep, commandOf, registerOf, streamOf}
 use Rattle.log_import.specs.Import.{stood, samplesIn, actsFrom, treeFor, clocksFor, textFor, textOf, importOf, bufferOf}
 use Rattle.log_import.specs.Stamps.{stamped, writesFrom, Stands}
 use Rattle.log_import.proofs.AnswerLaws.{imports}
@@ -29,7 +29,7 @@ abbrev pub Bytes : List ℕ → Type 0
 Bytes [] = Unit {0}
 Bytes (b ∷ l) = (b ≤ 255) × Bytes l
 
--- what is said is sound
+-- WHAT IS SAID IS SOUND
 
 abbrev AwaitSound : Await → Type 0
 AwaitSound Command = Unit {0}
@@ -52,8 +52,8 @@ abbrev StreamSound : Stream → Type 0
 StreamSound (ended l) = Sound l
 StreamSound (refused k p) = Unit {0}
 
-step-sound : (w : Await) (b : ℕ) → AwaitSound w → b ≤ 255 → StepSound (stepOf w b)
-unfolding stepOf commandOf registerOf
+step-sound : (w : Await) (b : ℕ) → AwaitSound w → b ≤ 255 → StepSound (byteStep w b)
+unfolding byteStep commandOf registerOf
 step-sound Command b h k =
     pick-both StepSound (eqb b 0xb4) tt
     (pick-both StepSound (eqb b 0x61) tt
@@ -82,12 +82,13 @@ after-sound (Says s) at f h g = more-sound s (f Command) h (g Command tt)
 from-sound : (l : List ℕ) (w : Await) (at : ℕ) → Bytes l → AwaitSound w → StreamSound (streamFrom w at l)
 unfolding streamFrom
 from-sound [] w at b h = tt
-from-sound (x ∷ l) w at b h = after-sound (stepOf w x) at (λ v. streamFrom v (at + 1) l) (step-sound w x h (b .0)) (λ v a. from-sound l v (at + 1) (b .1) a)
+from-sound (x ∷ l) w at b h = after-sound (byteStep w x) at (λ v. streamFrom v (at + 1) l) (step-sound w x h (b .0)) (λ v a. from-sound l v (at + 1) (b .1) a)
 
 said-sound : (s : List ℕ) → Bytes s → (l : List Said) → streamOf s ≡ ended l → Sound l
 unfolding streamOf
 said-sound s b l e = rw e at (from-sound s Command 0 b tt)
 
+-- THE TREE OF WHAT IS SAID
 tree-clocks : (l : List Said) → clocks (treeFor l) ≡ clocksFor l
 unfolding treeFor clocksFor
 tree-clocks l =
@@ -115,7 +116,7 @@ text-ended : (l : List Said) → textOf (ended l) ≡ textFor l
 unfolding textOf
 text-ended l = refl
 
--- number 0 is for a log that passes and stands for the stream
+-- NUMBER 0 IS FOR A LOG THAT PASSES AND STANDS FOR THE STREAM
 pub imported-stands : (s : List ℕ) (room : ℕ) → Bytes s → (done : importOf s room .number ≡ 0) → Stands s (textOf (streamOf s))
 imported-stands s room b done =
     let i = imports s room done in
@@ -135,7 +136,7 @@ imported-stands s room b done =
       end = ap clocks (p .1) ∙ (tc ∙ clocks-are l);
     })
 
--- "Bytes after $66 are not read"
+-- "Bytes after $66 are not read": THEY DO NOT MATTER
 
 more-ended : (s : Said) (x y : Stream) → ((l : List Said) → x ≡ ended l → y ≡ ended l) → (l : List Said) → more s x ≡ ended l → more s y ≡ ended l
 unfolding more
@@ -152,7 +153,7 @@ after-ended (Says s) at f g h l e = more-ended s (f Command) (g Command) (h Comm
 from-ended : (a b : List ℕ) (w : Await) (at : ℕ) (l : List Said) → streamFrom w at a ≡ ended l → streamFrom w at (a ++ b) ≡ ended l
 unfolding streamFrom
 from-ended [] b w at l e = absurd (let z : _≡_ {A = ℕ} 0 1 = cc in omega arith)
-from-ended (x ∷ a) b w at l e = after-ended (stepOf w x) at (λ v. streamFrom v (at + 1) a) (λ v. streamFrom v (at + 1) (a ++ b)) (λ v k. from-ended a b v (at + 1) k) l e
+from-ended (x ∷ a) b w at l e = after-ended (byteStep w x) at (λ v. streamFrom v (at + 1) a) (λ v. streamFrom v (at + 1) (a ++ b)) (λ v k. from-ended a b v (at + 1) k) l e
 
 pub not-read : (s behind : List ℕ) (l : List Said) → streamOf s ≡ ended l → (room : ℕ) → importOf (s ++ behind) room ≡ importOf s room
 unfolding importOf streamOf

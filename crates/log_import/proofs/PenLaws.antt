@@ -21,11 +21,11 @@ front out place a rest whole all p b out′ place′ q s =
     (ap length s ∙ length-sets out place a, omega arith, rw (s, q) (sets-append a rest out place ∙ b))
 
 -- a wait of 1,000,000 more
-pub million-more : (m i : ℕ) → i < m → millions (m - i) ≡ lineText (One (Wait 1000000)) ++ millions (m - (i + 1))
+million-more : (m i : ℕ) → i < m → millions (m - i) ≡ lineText (One (Wait 1000000)) ++ millions (m - (i + 1))
 unfolding millions
 million-more m i h = let e : m - i ≡ suc (m - (i + 1)) = omega arith in ap millions e
 
-pub million-none : (m i : ℕ) → m ≤ i → millions (m - i) ≡ []
+million-none : (m i : ℕ) → m ≤ i → millions (m - i) ≡ []
 unfolding millions
 million-none m i h = let e : m - i ≡ 0 = omega arith in ap millions e
 

@@ -41,7 +41,7 @@ clocks-rest g t = by (eqb g 0) refl
     by true e = let z = eqb-true g 0 e in omega arith
     by false e = clocks-act g t
 
-pub clocks-gap : (g : ℕ) (t : Tree) → clocks (gap g t) ≡ g + clocks t
+clocks-gap : (g : ℕ) (t : Tree) → clocks (gap g t) ≡ g + clocks t
 unfolding gap
 clocks-gap g t = clocks-millions (g / 1000000) (rest (g % 1000000) t) ∙ omega (arith, clocks-rest (g % 1000000) t)
 

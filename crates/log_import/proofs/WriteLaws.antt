@@ -22,7 +22,7 @@ use Rattle.log_import.specs.declared.Said.the-variants.{Wait, Write}
 use Rattle.log_import.specs.declared.Step.{Step}
 use Rattle.log_import.specs.declared.Step.the-variants.{End, Fault, Next, Says}
 use Rattle.log_import.specs.declared.Pen.{Pen}
-use Rattle.log_import.specs.Stream.{Stream, ended, refused, more, after, streamFrom, stepOf, streamOf}
+use Rattle.log_import.specs.Stream.{Stream, ended, refused, more, after, streamFrom, byteStep, streamOf}
 use Rattle.log_import.specs.Import.{stood, actsFrom, samplesIn, clocksFor, treeFor, textFor, textOf}
 use Rattle.log_import.specs.Measure.{gapText, stopsAt, awaited, tailFrom, stepText, stepSamples, stepClock, Penned, Penning, Ending, Ready, Headed, Writing, tailOf}
 use Rattle.log_import.proofs.BoundLaws.{stood-more, stood-few}
@@ -30,8 +30,10 @@ use Rattle.log_import.proofs.GapLaws.{text-gap, text-act}
 use Rattle.log_import.proofs.PenLaws.{front}
 use Rattle.log_import.proofs.CountLaws.{from-byte, from-end}
 
+-- THE END AND A WRITE, IN BYTES
+
 -- the end of what is left
-pub tail-end : (s h : ℕ) → tailFrom s h [] ≡ gapText (stood s - h) ++ lineText (Stop (stood s))
+tail-end : (s h : ℕ) → tailFrom s h [] ≡ gapText (stood s - h) ++ lineText (Stop (stood s))
 unfolding tailFrom actsFrom samplesIn text
 tail-end s h =
     ap₂ _++_ (text-gap (stood s - h) end ∙ append-nil (gapText (stood s - h))) (ap (λ (x : ℕ). lineText (Stop (stood x))) (add-zero s))
@@ -73,7 +75,7 @@ module _ (p : Pen) (r v : ℕ) (out : List ℕ) (e : Penning p (Says (Write r v)
       let two = put-two out (p .place) g l out′ a out″ b q (put-last out′ a l out″ b room eb eo) in
       record { samples = refl; clock = ec; place = rw (← ec) (two .place); bytes = rw (← ec) (two .bytes) }
 
--- what a step takes from what is left
+-- WHAT A STEP TAKES FROM WHAT IS LEFT
 record Going (s h : ℕ) (st : Step) (y : Stream) (said : List Said) : Type 0 where
   left : List Said
   is : y ≡ ended left
@@ -135,8 +137,8 @@ ending (Fault q) i f said t e = absurd (let z : _≡_ {A = ℕ} 0 1 = cc in omeg
 ending (Next w) i f said t e = absurd (let z : _≡_ {A = ℕ} 0 1 = cc in omega arith)
 ending (Says x) i f said t e = absurd (let z : _≡_ {A = ℕ} 0 1 = cc in omega arith)
 
--- the loop of `write_log`
-module _ (all : List ℕ) (whole : ℕ) (p : Pen) (w : Await) (i : ℕ) (s out : List ℕ) (h : i < length s) (st : Step) (e : st ≡ stepOf w (getD s i 0))
+-- THE LOOP OF `write_log`
+module _ (all : List ℕ) (whole : ℕ) (p : Pen) (w : Await) (i : ℕ) (s out : List ℕ) (h : i < length s) (st : Step) (e : st ≡ byteStep w (getD s i 0))
     (inv : Writing all whole (p .samples) (p .clock) (p .place) (streamFrom w i (drop i s)) out) where
   abbrev behind : Await → Stream
   behind v = streamFrom v (i + 1) (drop (i + 1) s)
@@ -209,7 +211,7 @@ never-out all whole s h place w i bytes out k inv =
     let z : _≡_ {A = ℕ} 0 1 = cc in
     omega arith
 
--- the header, and what is left behind it
+-- THE HEADER, AND WHAT IS LEFT BEHIND IT
 whole-text : (l : List Said) → textFor l ≡ lineText Header ++ tailFrom 0 0 l
 unfolding textFor logText treeFor clocksFor tailFrom
 whole-text l = let z = zero-add (samplesIn l) in rw z

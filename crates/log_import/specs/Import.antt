@@ -50,25 +50,25 @@ clocksFor l = stood (samplesIn l)
 unfoldable pub textFor : List Said → List ℕ
 textFor l = logText false (treeFor l) (clocksFor l)
 
-abbrev pub refusal : ℕ → ℕ → Imported
-refusal k p = record { number = k; place = p; length = 0 }
+abbrev pub importRefusal : ℕ → ℕ → Imported
+importRefusal k p = record { number = k; place = p; length = 0 }
 
 -- a log of c clocks, t turns and n bytes: "then, both at 0, 9; then 28, the log longer than the buffer or 60,000 bytes"; else "the answer gives the
 -- length of each log .. it writes"
-unfoldable pub weighed : ℕ → ℕ → ℕ → ℕ → Imported
-weighed room c t n =
-    pick (either (ltb 2000000000 c) (ltb 1000000 t)) (refusal 9 0)
-    (pick (either (ltb room n) (ltb 60000 n)) (refusal 28 0)
+unfoldable pub importWeighed : ℕ → ℕ → ℕ → ℕ → Imported
+importWeighed room c t n =
+    pick (either (ltb 2000000000 c) (ltb 1000000 t)) (importRefusal 9 0)
+    (pick (either (ltb room n) (ltb 60000 n)) (importRefusal 28 0)
     (record { number = 0; place = 0; length = n }))
 
 -- "Refusals, at the first byte at fault: ..; then .."
-unfoldable pub answer : ℕ → Stream → Imported
-answer room (refused k p) = refusal k p
-answer room (ended l) = weighed room (clocksFor l) (turns (treeFor l)) (length (textFor l))
+unfoldable pub importAnswer : ℕ → Stream → Imported
+importAnswer room (refused k p) = importRefusal k p
+importAnswer room (ended l) = importWeighed room (clocksFor l) (turns (treeFor l)) (length (textFor l))
 
 -- the answer for a stream and a buffer of so many bytes
 unfoldable pub importOf : List ℕ → ℕ → Imported
-importOf stream room = answer room (streamOf stream)
+importOf stream room = importAnswer room (streamOf stream)
 
 -- the log of a stream
 unfoldable pub textOf : Stream → List ℕ

@@ -22,7 +22,7 @@ use Rattle.log_import.specs.declared.Count.{Count}
 use Rattle.log_import.specs.declared.Pen.{Pen}
 use Rattle.log_import.specs.declared.Imported.{Imported}
 use Rattle.log_import.specs.Stream.{Stream, ended, refused}
-use Rattle.log_import.specs.Import.{stood, actsFrom, samplesIn, refusal, weighed, textOf}
+use Rattle.log_import.specs.Import.{stood, actsFrom, samplesIn, importRefusal, importWeighed, textOf}
 
 -- the lines of a gap: so many waits of 1,000,000, the rest; and how many lines they are
 unfoldable pub millions : ℕ → List ℕ
@@ -94,9 +94,9 @@ pub record Light (k : Count) : Type 0 where
 
 -- the answer, where a count stands and a stream is left
 unfoldable pub answerFrom : ℕ → Count → Stream → Imported
-answerFrom room k (refused q p) = refusal q p
+answerFrom room k (refused q p) = importRefusal q p
 answerFrom room k (ended l) =
-    weighed room
+    importWeighed room
     (stood (k .samples + samplesIn l))
     (k .turns + turns (actsFrom (k .samples) (k .clock) l))
     (k .length + length (text (actsFrom (k .samples) (k .clock) l)) + length (lineText (Stop (stood (k .samples + samplesIn l)))))

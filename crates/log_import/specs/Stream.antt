@@ -28,12 +28,12 @@ unfoldable pub registerOf : ℕ → Step
 registerOf b = pick (isRegister (0x4000 + b)) (Next (Value b)) (Fault 26)
 
 -- a byte, by what is awaited
-unfoldable pub stepOf : Await → ℕ → Step
-stepOf Command b = commandOf b
-stepOf Register b = registerOf b
-stepOf (Value r) b = Says (Write (0x4000 + r) b)
-stepOf Low b = Next (High b)
-stepOf (High n) b = Says (Wait (n + 256 * b))
+unfoldable pub byteStep : Await → ℕ → Step
+byteStep Command b = commandOf b
+byteStep Register b = registerOf b
+byteStep (Value r) b = Says (Write (0x4000 + r) b)
+byteStep Low b = Next (High b)
+byteStep (High n) b = Says (Wait (n + 256 * b))
 
 -- a stream: what its commands say up to the end, or number and place of "the first byte at fault"
 pub data Stream : Type 0 where
@@ -56,7 +56,7 @@ after (Says s) at f = more s (f Command)
 -- read"
 unfoldable pub streamFrom : Await → ℕ → List ℕ → Stream
 streamFrom w at [] = refused 27 at
-streamFrom w at (b ∷ l) = after (stepOf w b) at (λ v. streamFrom v (at + 1) l)
+streamFrom w at (b ∷ l) = after (byteStep w b) at (λ v. streamFrom v (at + 1) l)
 
 unfoldable pub streamOf : List ℕ → Stream
 streamOf bytes = streamFrom Command 0 bytes

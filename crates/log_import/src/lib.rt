@@ -6,8 +6,8 @@ ghost use Prim.Native.Nat.{_+_, _-_, _*_, _/_, _%_, _≤_, _<_};
 ghost use lib.ListN.{length, take};
 ghost use lib.Seq.{sets};
 ghost use Rattle.text_print.specs.Printed.{Put};
-ghost use Rattle.log_import.specs.Stream.{Stream, commandOf, registerOf, stepOf, streamOf};
-ghost use Rattle.log_import.specs.Import.{stood, weighed, importOf, bufferOf, textOf};
+ghost use Rattle.log_import.specs.Stream.{Stream, commandOf, registerOf, byteStep, streamOf};
+ghost use Rattle.log_import.specs.Import.{stood, importWeighed, importOf, bufferOf, textOf};
 ghost use Rattle.log_import.specs.Stamps.{Stands};
 ghost use Rattle.log_import.specs.Measure.{gapText, gapTurns, millions, restText, stopsAt, stoppedAt, awaited, heavyAt, countWrite, countSaid, countStep, Counted, Light, answerFrom, Penned, Penning, Ending, Ready, Headed, tailFrom, tailOf};
 use bus::Access;
@@ -102,7 +102,7 @@ fn register_of(b: u8) -> Step
 }
 
 fn step_of(w: Await, b: u8) -> Step
-    ensures { λ r. ⌜ r ≡ stepOf w b ⌝ }
+    ensures { λ r. ⌜ r ≡ byteStep w b ⌝ }
 {
     match w {
         Await::Command => command_of(b),
@@ -234,7 +234,7 @@ fn count_step(k: Count, s: Step) -> Count
 
 // A log of c clocks, t turns and n bytes, for a buffer of so many.
 fn weigh(room: usize, c: usize, t: usize, n: usize) -> Imported
-    ensures { λ r. ⌜ r ≡ weighed room c t n ⌝ }
+    ensures { λ r. ⌜ r ≡ importWeighed room c t n ⌝ }
 {
     if arith::either_of(2000000000 < c, 1000000 < t) {
         return Imported {

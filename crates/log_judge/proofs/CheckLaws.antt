@@ -18,10 +18,10 @@ use Rattle.log_judge.specs.declared.Reading.the-variants.{Item, Refused}
 use Rattle.log_judge.specs.Lines.{linesOf, bytesAt, nextLine}
 use Rattle.log_judge.specs.Head.{machineOf, startOf}
 use Rattle.log_judge.specs.Reading.{taken, readIn, readAt}
-use Rattle.log_judge.specs.Judge.{right, wrong, first, second, over, placed, verdict, leaves, behind, ending, unless, judge, judged}
+use Rattle.log_judge.specs.Judge.{right, wrong, first, second, over, foundAt, verdict, leaves, behind, ending, unless, judge, judged}
 use Rattle.log_judge.specs.Tree.{Tree, end, act, loop, acts, clocks, turns}
-use Rattle.log_judge.specs.Whole.{grow, blocks, innermost, treeOf, Stopping, stopHere, stopFrom, stopOf, refusal, passed, heavy, weighed, unlessWrong, checkOf}
-use Rattle.log_judge.specs.Block.{Got, closed, stopped, refused, readBlock, totals, answer}
+use Rattle.log_judge.specs.Whole.{grow, blocks, innermost, treeOf, Stopping, stopHere, stopFrom, stoppingOf, checkRefusal, passedCheck, heavy, weighed, unlessWrong, checkOf}
+use Rattle.log_judge.specs.Block.{Got, closed, stopped, refused, readBlock, totals, blockAnswer}
 use Rattle.log_judge.specs.Closing.{totalled, limited, closing}
 use Rattle.log_judge.proofs.PlaceLaws.{Had, had-at, had-says, bytes-long, next-le, read-some, read-long}
 use Rattle.log_spot.specs.declared.Stand.{Stand as Standing}
@@ -35,7 +35,7 @@ use Rattle.log_judge.proofs.Derived.{Ending, closes, stops, Reads, an-a
 use Rattle.log_judge.proofs.JudgeLaws.{linesFrom, judgeAt, lines-at, judge-at, judge-none, after, bridge, bridge-second}
 use Rattle.log_judge.proofs.HeadLaws.{pal-long, had-second, second-next, first-next, ntsc-second, ntsc-start, pal-start}
 
--- the lines from a place on stand for what is read there
+-- THE LINES FROM A PLACE ON STAND FOR WHAT IS READ THERE
 
 abbrev pub blocksBehind : List ℕ → Ending → List Tree
 blocksBehind log (closes p q) = blocks (linesFrom log q)
@@ -46,11 +46,11 @@ stopBehind log (closes p q) = stopFrom q (linesFrom log q)
 stopBehind log (stops p q n) = record { place = p; number = n }
 
 module _ {st : Standing} {log : List ℕ} {at : ℕ} {l : Line} {next : ℕ} (h : Had st log at l next) where
-  pub blocks-at : blocks (linesFrom log at) ≡ grow l (blocks (linesFrom log next))
+  blocks-at : blocks (linesFrom log at) ≡ grow l (blocks (linesFrom log next))
   unfolding blocks
   blocks-at = rw (lines-at log at (h .inside), had-says h, h .on)
 
-  pub stop-at : stopFrom at (linesFrom log at) ≡ stopHere at l (stopFrom next (linesFrom log next))
+  stop-at : stopFrom at (linesFrom log at) ≡ stopHere at l (stopFrom next (linesFrom log next))
   unfolding stopFrom
   stop-at = rw (lines-at log at (h .inside), had-says h, h .on, bytes-long log at)
 
@@ -68,7 +68,7 @@ stop-of {log} {at} {d} (a-loop l i k r r′) = stop-at (had-at log at _ _ l) ∙
 stop-of {log} {at} {d} (a-done l h) = stop-at (had-at log at _ _ l)
 stop-of {log} {at} (a-stop l) = stop-at (had-at log at _ _ l)
 
--- totals that were cut off are weighed as those of the tree
+-- TOTALS THAT WERE CUT OFF ARE WEIGHED AS THOSE OF THE TREE
 
 -- a block has no more acts than turns
 pub acts-le : (t : Tree) → length (acts t) ≤ turns t
@@ -102,9 +102,11 @@ limited-is pal t p n = go (ltb 2000000000 (clocks t)) refl (ltb 1000000 (turns t
         let k = ltb-false 1000000 (turns t) f in
         let m : min 2000000001 (clocks t) ≡ clocks t = omega arith in
         let i = acts-le t in
-        let done : totalled pal (totals t) ≡ passed pal t = checked≡ pal m (omega arith) (omega arith) in
+        let done : totalled pal (totals t) ≡ passedCheck pal t = checked≡ pal m (omega arith) (omega arith) in
         rw (e, f, le-ltb 2000000000 (min 2000000001 (clocks t)) (omega arith), le-ltb 1000000 (min 1000001 (turns t)) (omega arith))
-        (rw m (ap (λ (x : Checked). pick (eqb n (clocks t)) x (refusal 10 p)) (rw m at done)))
+        (rw m (ap (λ (x : Checked). pick (eqb n (clocks t)) x (checkRefusal 10 p)) (rw m at done)))
+
+-- THE END OF A LOG
 
 -- behind `stop` nothing may stand
 pub over-at : (log : List ℕ) (q : ℕ) → judgeAt log over q ≡ pick (ltb q (length log)) (wrong 19 q) right
@@ -116,46 +118,48 @@ over-at log q = go (ltb q (length log)) refl
     go false e = judge-none log q over (ltb-false q (length log) e)
 
 closing-is : (m : Bool) (log : List ℕ) (at : ℕ) (g : Got) → Derived log at 0 g
-    → closing m (length log) (answer g) ≡ unlessWrong (after log 0 g) (weighed m (innermost (blocks (linesFrom log at))) (stopFrom at (linesFrom log at)))
-unfolding after answer unlessWrong innermost
+    → closing m (length log) (blockAnswer g) ≡ unlessWrong (after log 0 g) (weighed m (innermost (blocks (linesFrom log at))) (stopFrom at (linesFrom log at)))
+unfolding after blockAnswer unlessWrong innermost
 closing-is m log at (closed t p q) r = absurd (let z = inside-loop r in omega arith)
 closing-is m log at (stopped t p q n) r = rw (over-at log q, blocks-of r, stop-of r) (go (ltb q (length log)))
   where
-    go : (b : Bool) → pick b (refusal 19 q) (limited m (totals t) p n) ≡ unlessWrong (pick b (wrong 19 q) right) (weighed m t (record { place = p; number = n }))
+    go : (b : Bool) → pick b (checkRefusal 19 q) (limited m (totals t) p n) ≡ unlessWrong (pick b (wrong 19 q) right) (weighed m t (record { place = p; number = n }))
     go true = refl
     go false = limited-is m t p n
 closing-is m log at (refused k p) r = refl
+
+-- THE HEAD OF A LOG, AND SO THE WHOLE
 
 -- the lines behind a log's head, which begin at a place: what is found of the log, its tree and its `stop` are theirs
 pub record BehindHead (log : List ℕ) (at : ℕ) : Type 0 where
   pub found : judged log ≡ after log 0 (readBlock log at 0)
   pub tree : treeOf log ≡ innermost (blocks (linesFrom log at))
-  pub stop : stopOf log ≡ stopFrom at (linesFrom log at)
+  pub stop : stoppingOf log ≡ stopFrom at (linesFrom log at)
 
 -- the check, from what reading at 0 finds
 abbrev pub CheckedBy : List ℕ → Reading → Type 0
-CheckedBy log (Item l p) = closing (machineOf log) (length log) (answer (readBlock log (startOf log) 0)) ≡ checkOf log
-CheckedBy log (Refused k p) = refusal k p ≡ checkOf log
+CheckedBy log (Item l p) = closing (machineOf log) (length log) (blockAnswer (readBlock log (startOf log) 0)) ≡ checkOf log
+CheckedBy log (Refused k p) = checkRefusal k p ≡ checkOf log
 
 module _ (log : List ℕ) (short : length log ≤ 60000) (some : 0 < length log) where
-  pub check-short : checkOf log ≡ unlessWrong (judged log) (weighed (machineOf log) (treeOf log) (stopOf log))
+  check-short : checkOf log ≡ unlessWrong (judged log) (weighed (machineOf log) (treeOf log) (stoppingOf log))
   unfolding checkOf
   check-short = rw (le-ltb 60000 (length log) short)
 
-  pub judged-first : judged log ≡ unless (placed 0 (spotOf First (bytesAt log 0))) (judgeAt log second (nextLine log 0))
+  pub judged-first : judged log ≡ unless (foundAt 0 (spotOf First (bytesAt log 0))) (judgeAt log second (nextLine log 0))
   unfolding judged verdict behind
   judged-first = judge-at log 0 first some
 
   module _ (e : spotOf First (bytesAt log 0) ≡ Right Header) where
     at-second : judged log ≡ judgeAt log second 6
-    unfolding placed unless
+    unfolding foundAt unless
     at-second = judged-first ∙ rw (e, first-next log e)
 
     had-first : Had First log 0 Header 6
     had-first = record { short = short; inside = some; found = e; on = sym (first-next log e) }
 
     pal-head : machineOf log ≡ true → BehindHead log 18
-    unfolding treeOf stopOf grow stopHere placed unless verdict behind leaves
+    unfolding treeOf stoppingOf grow stopHere foundAt unless verdict behind leaves
     pal-head m =
         let h = had-second log short m in
         let long : 18 ≤ length log = pal-long log m in
@@ -166,7 +170,7 @@ module _ (log : List ℕ) (short : length log ≤ 60000) (some : 0 < length log)
         }
 
     ntsc-head : machineOf log ≡ false → BehindHead log 6
-    unfolding treeOf stopOf grow stopHere
+    unfolding treeOf stoppingOf grow stopHere
     ntsc-head m =
         let long : 6 ≤ length log = rw (first-next log e) at (next-le log 0 (omega arith)) in
         record {
@@ -182,14 +186,14 @@ module _ (log : List ℕ) (short : length log ≤ 60000) (some : 0 < length log)
         go true m = rw (pal-start log e m) (pal-head m)
         go false m = rw (ntsc-start log e m) (ntsc-head m)
 
-    headed : closing (machineOf log) (length log) (answer (readBlock log (startOf log) 0)) ≡ checkOf log
+    headed : closing (machineOf log) (length log) (blockAnswer (readBlock log (startOf log) 0)) ≡ checkOf log
     headed =
         let h = behind-head in
         closing-is (machineOf log) log (startOf log) (readBlock log (startOf log) 0) (derived log (startOf log) 0)
         ∙ sym (check-short ∙ rw (h .found, h .tree, h .stop) refl)
 
   first-by : (f : Found) → spotOf First (bytesAt log 0) ≡ f → CheckedBy log (taken 0 (nextLine log 0) f)
-  unfolding placed unless unlessWrong
+  unfolding foundAt unless unlessWrong
   first-by (Right l) e = headed (e ∙ ap Right (first-header (bytesAt log 0) l e))
   first-by (Wrong k i) e = sym (check-short ∙ rw (judged-first, e) refl)
 

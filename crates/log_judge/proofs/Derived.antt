@@ -40,7 +40,7 @@ Derived log at d (stopped t p q n) = Reads log at d t (stops p q n)
 Derived log at d (refused k p) = Unit {0}
 
 -- a loop has turns
-pub turned : (log : List ℕ) (at n p : ℕ) → readAt log at ≡ Item (Loop n) p → 0 < n
+turned : (log : List ℕ) (at n p : ℕ) → readAt log at ≡ Item (Loop n) p → 0 < n
 turned log at n p e = let h = had-text (had-at log at (Loop n) p e) .1 in omega arith
 
 module _ (log : List ℕ) (at d : ℕ) where

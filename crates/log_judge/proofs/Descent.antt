@@ -26,11 +26,11 @@ use Rattle.log_judge.specs.Reading.{standing, readIn}
 use Rattle.log_spot.specs.declared.Stand.the-variants.{Among}
 use Rattle.log_spot.proofs.Standing.{Goes, act as acts-on, opens as opened-on, closes as closes-on, ends as ends-on}
 use Rattle.log_judge.specs.Tree.{Tree, act, loop, acts, actClocks, clocks, turns}
-use Rattle.log_judge.specs.Block.{Got, closed, stopped, refused, Piece, one, many, shut, halt, bad, Begun, whole, opens, begun, begunBy, readBegun, looped, piece, before, onward, blockIn, readBlock, readPart, cut, noTotals, sumOf, Small, totals, answer, partAnswer, stepAnswer, partEnd, SmallBlock, loopPart}
+use Rattle.log_judge.specs.Block.{Got, closed, stopped, refused, LinePiece, one, many, shut, halt, bad, Begun, whole, opens, begun, begunBy, readBegun, looped, piece, before, onward, blockIn, readBlock, readPart, cut, noTotals, sumOf, Small, totals, blockAnswer, partAnswer, stepAnswer, partEnd, SmallBlock, loopPart}
 use Rattle.log_judge.proofs.PlaceLaws.{HadIn, had-in, Stands, head, tells, inner, stands, next-pos, next-le}
 use Rattle.log_judge.proofs.TotalLaws.{sum-sum, none-sum, small-sum, small-cut, act-sum, loop-sum, times-totals}
 
--- where a block ends, and that the count of lines does not matter
+-- WHERE A BLOCK ENDS
 
 -- a block that is closed is so behind `at`
 abbrev pub Behind : ℕ → ℕ → Got → Type 0
@@ -38,7 +38,7 @@ Behind at most (closed b p q) = (at ≤ p) × (p < q) × (q ≤ most)
 Behind at most (stopped b p q m) = Unit {0}
 Behind at most (refused k p) = Unit {0}
 
-abbrev pub PieceBehind : ℕ → ℕ → Piece → Type 0
+abbrev pub PieceBehind : ℕ → ℕ → LinePiece → Type 0
 PieceBehind at most (one a p) = (at < p) × (p ≤ most)
 PieceBehind at most (many n b p) = (at < p) × (p ≤ most)
 PieceBehind at most (shut p q) = (at ≤ p) × (p < q) × (q ≤ most)
@@ -76,7 +76,7 @@ before-behind at p most f (closed b q r) h k = (omega arith, k .1, k .2)
 before-behind at p most f (stopped b q r m) h k = tt
 before-behind at p most f (refused n q) h k = tt
 
-onward-behind : (rec : ℕ → Got) (at most : ℕ) (q : Piece) → PieceBehind at most q → ((p : ℕ) → Behind p most (rec p)) → Behind at most (onward rec q)
+onward-behind : (rec : ℕ → Got) (at most : ℕ) (q : LinePiece) → PieceBehind at most q → ((p : ℕ) → Behind p most (rec p)) → Behind at most (onward rec q)
 unfolding onward
 onward-behind rec at most (one a p) h r = before-behind at p most (act a) (rec p) (h .0) (r p)
 onward-behind rec at most (many n b p) h r = before-behind at p most (loop n b) (rec p) (h .0) (r p)
@@ -108,12 +108,13 @@ pub got-behind : (log : List ℕ) (at d : ℕ) → Behind at (length log) (readB
 unfolding readBlock
 got-behind log at d = in-behind (suc (length log)) log at d
 
+-- THE COUNT OF LINES DOES NOT MATTER
 piece-cong : (rec rec′ : ℕ → ℕ → Got) (at d most : ℕ) (s : Begun) → BegunBehind at most d s → ((p : ℕ) → at < p → p ≤ most → rec p (d + 1) ≡ rec′ p (d + 1)) → piece rec d s ≡ piece rec′ d s
 unfolding piece
 piece-cong rec rec′ at d most (whole q) h r = refl
 piece-cong rec rec′ at d most (opens n p) h r = ap (looped n) (r p (h .0) (h .1))
 
-onward-cong : (rec rec′ : ℕ → Got) (at most : ℕ) (q : Piece) → PieceBehind at most q → ((p : ℕ) → at < p → p ≤ most → rec p ≡ rec′ p) → onward rec q ≡ onward rec′ q
+onward-cong : (rec rec′ : ℕ → Got) (at most : ℕ) (q : LinePiece) → PieceBehind at most q → ((p : ℕ) → at < p → p ≤ most → rec p ≡ rec′ p) → onward rec q ≡ onward rec′ q
 unfolding onward
 onward-cong rec rec′ at most (one a p) h r = ap (before (act a)) (r p (h .0) (h .1))
 onward-cong rec rec′ at most (many n b p) h r = ap (before (loop n b)) (r p (h .0) (h .1))
@@ -140,7 +141,7 @@ pub unrolled : (log : List ℕ) (at d : ℕ) → readBlock log at d ≡ onward (
 unfolding readBlock readPart blockIn
 unrolled log at d = sym (more-lines (length log) log at d (omega arith))
 
--- the code's answers
+-- THE CODE'S ANSWERS
 
 abbrev pub plus : Totals → Block → Block
 plus s (Closed p q t) = Closed p q (sumOf s t)
@@ -152,8 +153,8 @@ plus-plus s s′ (Closed p q t) = ap (Closed p q) (sum-sum s s′ t)
 plus-plus s s′ (Stopped p q n t) = ap (Stopped p q n) (sum-sum s s′ t)
 plus-plus s s′ (Block.Refused k p) = refl
 
-pub plus-none : (g : Got) → answer g ≡ plus noTotals (answer g)
-unfolding answer
+pub plus-none : (g : Got) → blockAnswer g ≡ plus noTotals (blockAnswer g)
+unfolding blockAnswer
 plus-none (closed b p q) = ap (Closed p q) (none-sum b)
 plus-none (stopped b p q n) = ap (Stopped p q n) (none-sum b)
 plus-none (refused k p) = refl
@@ -165,14 +166,14 @@ carry (Close p q) k = Closed p q noTotals
 carry (Halt p q n) k = Stopped p q n noTotals
 carry (Part.Refused m p) k = Block.Refused m p
 
-answer-before : (s : Totals) (f : Tree → Tree) (g : Got) → ((t : Tree) → totals (f t) ≡ sumOf s (totals t)) → answer (before f g) ≡ plus s (answer g)
-unfolding answer before
+answer-before : (s : Totals) (f : Tree → Tree) (g : Got) → ((t : Tree) → totals (f t) ≡ sumOf s (totals t)) → blockAnswer (before f g) ≡ plus s (blockAnswer g)
+unfolding blockAnswer before
 answer-before s f (closed b p q) h = ap (Closed p q) (h b)
 answer-before s f (stopped b p q n) h = ap (Stopped p q n) (h b)
 answer-before s f (refused k p) h = refl
 
-answer-onward : (rec : ℕ → Got) (q : Piece) → answer (onward rec q) ≡ carry (partAnswer q) (λ p. answer (rec p))
-unfolding onward partAnswer answer totals clocks turns acts
+answer-onward : (rec : ℕ → Got) (q : LinePiece) → blockAnswer (onward rec q) ≡ carry (partAnswer q) (λ p. blockAnswer (rec p))
+unfolding onward partAnswer blockAnswer totals clocks turns acts
 answer-onward rec (one a p) = answer-before (cut (actClocks a) 1 1) (act a) (rec p) (act-sum a)
 answer-onward rec (many n b p) = answer-before (cut (n * clocks b) (n * (1 + turns b)) (n * length (acts b))) (loop n b) (rec p) (loop-sum n b)
 answer-onward rec (shut p q) = refl
@@ -180,16 +181,17 @@ answer-onward rec (halt p q n) = refl
 answer-onward rec (bad k p) = refl
 
 -- a turn of the block's loop
-pub turn : (log : List ℕ) (i d : ℕ) → answer (readBlock log i d) ≡ carry (partAnswer (readPart log i d)) (λ p. answer (readBlock log p d))
-turn log i d = ap answer (unrolled log i d) ∙ answer-onward (λ p. readBlock log p d) (readPart log i d)
+pub turn : (log : List ℕ) (i d : ℕ) → blockAnswer (readBlock log i d) ≡ carry (partAnswer (readPart log i d)) (λ p. blockAnswer (readBlock log p d))
+turn log i d = ap blockAnswer (unrolled log i d) ∙ answer-onward (λ p. readBlock log p d) (readPart log i d)
 
+-- A LINE'S ANSWER LEADS ON, AND ANSWERS ARE SMALL
 abbrev pub Good : ℕ → ℕ → Part → Type 0
 Good at most (Acts p t) = (at < p) × (p ≤ most) × Small t
 Good at most (Close p q) = Unit {0}
 Good at most (Halt p q n) = Unit {0}
 Good at most (Part.Refused k p) = Unit {0}
 
-piece-good : (at most : ℕ) (q : Piece) → PieceBehind at most q → Good at most (partAnswer q)
+piece-good : (at most : ℕ) (q : LinePiece) → PieceBehind at most q → Good at most (partAnswer q)
 unfolding partAnswer
 piece-good at most (one a p) h = (h .0, h .1, small-cut (actClocks a) 1 1)
 piece-good at most (many n b p) h = (h .0, h .1, small-cut _ _ _)
@@ -203,15 +205,17 @@ part-good log at d =
     piece-good at (length log) (piece (readBlock log) d (readBegun log at d))
     (piece-behind (readBlock log) at d (length log) (readBegun log at d) (begun-on log at d) (λ p. got-behind log p (d + 1)))
 
-pub answer-small : (g : Got) → SmallBlock (answer g)
-unfolding answer totals
+pub answer-small : (g : Got) → SmallBlock (blockAnswer g)
+unfolding blockAnswer totals
 answer-small (closed b p q) = small-cut _ _ _
 answer-small (stopped b p q n) = tt
 answer-small (refused k p) = tt
 
+-- A LINE'S ANSWER FROM ITS STEP'S AND ITS BODY'S
+
 -- a loop line's answer from its body's
-pub looped-answer : (n : ℕ) (g : Got) → loopPart n (answer g) ≡ partAnswer (looped n g)
-unfolding looped answer partAnswer
+looped-answer : (n : ℕ) (g : Got) → loopPart n (blockAnswer g) ≡ partAnswer (looped n g)
+unfolding looped blockAnswer partAnswer
 looped-answer n (closed b p q) = ap (Acts q) (times-totals n b)
 looped-answer n (stopped b p q m) = refl
 looped-answer n (refused k p) = refl
@@ -241,11 +245,11 @@ abbrev pub finish : ℕ → (ℕ → ℕ → Block) → Step → Part
 finish d k (Plain q) = q
 finish d k (Open n p) = loopPart n (k p (d + 1))
 
-finish-is : (rec : ℕ → ℕ → Got) (d : ℕ) (s : Begun) → finish d (λ p e. answer (rec p e)) (stepAnswer s) ≡ partAnswer (piece rec d s)
+finish-is : (rec : ℕ → ℕ → Got) (d : ℕ) (s : Begun) → finish d (λ p e. blockAnswer (rec p e)) (stepAnswer s) ≡ partAnswer (piece rec d s)
 unfolding stepAnswer piece
 finish-is rec d (whole q) = refl
 finish-is rec d (opens n p) = looped-answer n (rec p (d + 1))
 
-pub part-of : (log : List ℕ) (at d : ℕ) → finish d (λ p e. answer (readBlock log p e)) (stepAnswer (readBegun log at d)) ≡ partAnswer (readPart log at d)
+pub part-of : (log : List ℕ) (at d : ℕ) → finish d (λ p e. blockAnswer (readBlock log p e)) (stepAnswer (readBegun log at d)) ≡ partAnswer (readPart log at d)
 unfolding readPart
 part-of log at d = finish-is (readBlock log) d (readBegun log at d)

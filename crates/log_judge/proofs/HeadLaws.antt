@@ -56,7 +56,7 @@ module _ (log : List ℕ) (p : machineOf log ≡ true) where
   second-rest : drop 6 log ≡ lineText Machine ++ drop 18 log
   second-rest = ap (drop 6) pal-split ∙ second-drop (drop 18 log)
 
-  pub second-bytes : bytesAt log 6 ≡ lineText Machine
+  second-bytes : bytesAt log 6 ≡ lineText Machine
   unfolding bytesAt
   second-bytes = rw (second-rest, second-len (drop 18 log)) (second-take (drop 18 log))
 

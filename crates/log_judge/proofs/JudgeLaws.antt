@@ -14,7 +14,7 @@ use Rattle.log_line.specs.declared.Line.the-variants.{Header, Machine, One, Loo
 use Rattle.log_line.specs.Said.{lineOf}
 use Rattle.log_judge.specs.Lines.{onto, linesOf, lineLen, bytesAt, nextLine}
 use Rattle.log_judge.specs.Reading.{standing, readIn, taken}
-use Rattle.log_judge.specs.Judge.{Verdict, right, wrong, Stand, second, among, over, placed, verdict, leaves, behind, ending, unless, judge}
+use Rattle.log_judge.specs.Judge.{Verdict, right, wrong, Stand, second, among, over, foundAt, verdict, leaves, behind, ending, unless, judge}
 use Rattle.log_judge.specs.Tree.{Tree, act, loop}
 use Rattle.log_judge.specs.Block.{whole, bad, Got, closed, stopped, refused, Begun, begun, begunBy, readBegun, looped, piece, before, onward, readBlock, readPart}
 use Rattle.log_judge.proofs.PlaceLaws.{bytes-long, read-some, read-none, standing-on}
@@ -25,6 +25,8 @@ use Rattle.log_spot.specs.declared.Found.the-variants.{Right, Wrong}
 use Rattle.log_spot.specs.Fault.{spotOf}
 use Rattle.log_spot.proofs.Standing.{Goes, act as acts-on, opens as opened-on, closes as closes-on, ends as ends-on, Lets, pal, turn, lets, second-only, told}
 use Rattle.log_judge.proofs.Descent.{unrolled, begun-on, got-behind, BegunBehind, Behind}
+
+-- THE LINES FROM A PLACE ON
 
 -- the first line of a text, and the lines behind it
 first-line : (s : List ℕ) → 0 < length s → linesOf s ≡ take (lineLen s) s ∷ linesOf (drop (lineLen s) s)
@@ -70,6 +72,8 @@ module _ (log : List ℕ) (at : ℕ) where
   unfolding judge
   judge-none s h = rw (lines-none h)
 
+-- WHAT IS FOUND BEHIND A BLOCK
+
 -- what is found where the block read at depth d came out so: a block that is closed is gone on behind with one loop fewer open
 unfoldable pub after : List ℕ → ℕ → Got → Verdict
 after log d (closed t p q) = judgeAt log (among (d - 1)) q
@@ -107,10 +111,12 @@ module _ (log : List ℕ) (short : length log ≤ 60000) (at d : ℕ) where
   line-told Done (closes-on k) b rec = refl
   line-told (Stop n) (ends-on k) b rec = rw (eq-eqb d 0 k)
 
+-- ONE LINE, JUDGED AND READ
+
 -- how a line stands that begins at `at`, is the second line or isn't, and has d loops open: by the judgement
 record Stood (log : List ℕ) (at d : ℕ) (m : Bool) (s : Stand) : Type 0 where
   six : eqb at 6 ≡ m
-  now : verdict s at (bytesAt log at) ≡ placed at (spotOf (Among m d) (bytesAt log at))
+  now : verdict s at (bytesAt log at) ≡ foundAt at (spotOf (Among m d) (bytesAt log at))
   then : behind s (bytesAt log at) ≡ leaves d (lineOf (bytesAt log at))
   last : ending s at ≡ wrong 18 at
   turns : spotOf (Among m d) (bytesAt log at) ≡ Right Machine → ⊥
@@ -134,8 +140,8 @@ module _ (log : List ℕ) (short : length log ≤ 60000) (at d : ℕ) (m : Bool)
   -- what is found of the line at `at`
   found-told : (f : Found) → spotOf (Among m d) (bytesAt log at) ≡ f → BegunBehind at (length log) d (begunBy at (taken at (nextLine log at) f))
       → ((p e : ℕ) → at < p → p ≤ length log → judgeAt log (among e) p ≡ after log e (readBlock log p e))
-      → unless (placed at f) (judgeAt log (leaves d (lineOf (bytesAt log at))) (nextLine log at)) ≡ Onward log short at d (begunBy at (taken at (nextLine log at) f))
-  unfolding placed unless begunBy Onward piece onward after
+      → unless (foundAt at f) (judgeAt log (leaves d (lineOf (bytesAt log at))) (nextLine log at)) ≡ Onward log short at d (begunBy at (taken at (nextLine log at) f))
+  unfolding foundAt unless begunBy Onward piece onward after
   found-told (Right l) e b rec =
       rw (told (Among m d) (bytesAt log at) l e .says) (line-told log short at d l (line-goes l e) b rec)
   found-told (Wrong k i) e b rec = wrong-told k (at + i)
@@ -174,6 +180,7 @@ module _ (log : List ℕ) (short : length log ≤ 60000) (at d : ℕ) (m : Bool)
   unfolding readPart Onward
   told-step h rec = rw (unrolled log at d) (at-told h rec)
 
+-- ALL LINES FROM A PLACE ON
 bridge-in : (f : ℕ) (log : List ℕ) (at d : ℕ) → length log ≤ 60000 → 6 < at → at ≤ length log → length log ≤ at + f → judgeAt log (among d) at ≡ after log d (readBlock log at d)
 bridge-in zero log at d s z h k = told-step log s at d false (among d) (among-stood log at d z) (omega arith) h (λ p e i j. absurd (omega arith))
 bridge-in (suc f) log at d s z h k =

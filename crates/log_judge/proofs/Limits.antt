@@ -24,9 +24,9 @@ use Rattle.log_spot.specs.declared.Found.{Found}
 use Rattle.log_spot.specs.declared.Found.the-variants.{Right, Wrong}
 use Rattle.log_spot.specs.Fault.{spotOf}
 use Rattle.log_spot.proofs.Standing.{bounded}
-use Rattle.log_judge.specs.Judge.{Verdict, right, wrong, Stand, first, second, among, over, placed, verdict, behind, ending, unless, judge, judged}
+use Rattle.log_judge.specs.Judge.{Verdict, right, wrong, Stand, first, second, among, over, foundAt, verdict, behind, ending, unless, judge, judged}
 use Rattle.log_judge.specs.Tree.{Tree, clocks, turns}
-use Rattle.log_judge.specs.Whole.{treeOf, Stopping, stopHere, stopFrom, stopOf, refusal, passed, heavy, weighed, unlessWrong, checkOf}
+use Rattle.log_judge.specs.Whole.{treeOf, Stopping, stopHere, stopFrom, stoppingOf, checkRefusal, passedCheck, heavy, weighed, unlessWrong, checkOf}
 
 -- the lines of a log have its bytes
 
@@ -53,8 +53,8 @@ abbrev UpTo : ℕ → Verdict → Type 0
 UpTo n right = Unit {0}
 UpTo n (wrong k p) = (k ≤ 19) × (p ≤ n)
 
-placed-to : (n at : ℕ) (st : Standing) (l : List ℕ) → at + length l ≤ n → (f : Found) → spotOf st l ≡ f → UpTo n (placed at f)
-unfolding placed
+placed-to : (n at : ℕ) (st : Standing) (l : List ℕ) → at + length l ≤ n → (f : Found) → spotOf st l ≡ f → UpTo n (foundAt at f)
+unfolding foundAt
 placed-to n at st l h (Right m) e = tt
 placed-to n at st l h (Wrong k i) e =
     let b = bounded st l k i e in
@@ -112,7 +112,7 @@ pub record Limited (c : Checked) : Type 0 where
   pub place : c .place ≤ 60000
   pub clocks : c .clocks ≤ 2000000000
 
-refusal-in : (k p : ℕ) → k ≤ 19 → p ≤ 60000 → Limited (refusal k p)
+refusal-in : (k p : ℕ) → k ≤ 19 → p ≤ 60000 → Limited (checkRefusal k p)
 refusal-in k p n h = record { number = n; place = h; clocks = omega arith }
 
 light : (t : Tree) → heavy t ≡ false → clocks t ≤ 2000000000
@@ -135,7 +135,7 @@ unless-in right c h k = k
 unless-in (wrong m p) c h k = refusal-in m p (h .0) (h .1)
 
 pub check-limits : (log : List ℕ) → Limited (checkOf log)
-unfolding checkOf judged stopOf
+unfolding checkOf judged stoppingOf
 check-limits log =
     pick-each Limited (ltb 60000 (length log)) (λ e. refusal-in 5 0 (omega arith) (omega arith))
     (λ e.

@@ -28,7 +28,7 @@ use Rattle.log_spot.proofs.FaultLaws.{right-line}
 use Rattle.log_spot.specs.declared.Stand.the-variants.{First, Among, Alone}
 use Rattle.log_spot.proofs.Standing.{told, tell, bounded, Goes, act as acts-on, opens as opened-on, closes as closes-on, ends as ends-on, Lets, pal, turn, lets, goes-may, first-header, alone}
 
--- the length of a line
+-- THE LENGTH OF A LINE
 
 len-cases : (b : Bool) (n : ℕ) → (0 < pick b 1 (suc n)) × (pick b 1 (suc n) ≤ suc n)
 len-cases true n = (omega arith, omega arith)
@@ -39,7 +39,7 @@ unfolding lineLen
 len-pos [] h = absurd (omega arith)
 len-pos (c ∷ s) h = len-cases (eqb c 10) (lineLen s) .0
 
-pub len-le : (s : List ℕ) → lineLen s ≤ length s
+len-le : (s : List ℕ) → lineLen s ≤ length s
 unfolding lineLen
 len-le [] = omega arith
 len-le (c ∷ s) = let a = len-cases (eqb c 10) (lineLen s) .1 in let b = len-le s in omega arith
@@ -74,7 +74,7 @@ module _ (log : List ℕ) (i : ℕ) where
   unfolding nextLine bytesAt
   line-split = sym (take-append-drop (lineLen (drop i log)) (drop i log)) ∙ ap (λ (r : List ℕ). take (lineLen (drop i log)) (drop i log) ++ r) (drop-drop (lineLen (drop i log)) i log)
 
--- reading
+-- READING, FROM WHAT IS FOUND OF A LINE
 
 -- what `read` answers behind its two tests, from what the code finds of the line
 pub read-is : (st : Stand) (log : List ℕ) (at e : ℕ) (f : Found) → length log ≤ 60000 → at < length log → e ≡ at + lineLen (drop at log)
@@ -92,6 +92,8 @@ read-reaches st log at e (Wrong n i) h k he hf =
     let b = bounded st (take (e - at) (drop at log)) n i (sym hf) .place in
     let u = len-le (drop at log) in
     omega (arith, length-take (e - at) (drop at log), length-drop at log)
+
+-- WHAT IS KNOWN OF AN ITEM THAT WAS READ
 
 -- what is known of an item that was read at a place
 pub record Had (st : Stand) (log : List ℕ) (at : ℕ) (l : Line) (next : ℕ) : Type 0 where
@@ -129,7 +131,7 @@ module _ {st : Stand} {log : List ℕ} {at : ℕ} {l : Line} {next : ℕ} (h : H
       let r = right-line st (bytesAt log at) l (h .found) in
       (r .is, r .within)
 
--- reading
+-- READING, BY THE PLACE AND THE LOG'S LENGTH
 module _ (st : Stand) (log : List ℕ) (at : ℕ) (s : length log ≤ 60000) where
   pub read-some : at < length log → readIn st log at ≡ taken at (nextLine log at) (spotOf st (bytesAt log at))
   unfolding readIn
@@ -143,7 +145,7 @@ pub read-long : (st : Stand) (log : List ℕ) (at : ℕ) → 60000 < length log 
 unfolding readIn
 read-long st log at h = rw (lt-ltb 60000 (length log) h)
 
--- an item at some depth is one where no depth is known, and the other way round where it may stand
+-- WITH A DEPTH AND WITHOUT: an item at some depth is one where no depth is known, and the other way round where it may stand
 
 item-in : (st : Stand) (log : List ℕ) (at : ℕ) (l : Line) (next : ℕ) → length log ≤ 60000 → at < length log → next ≡ nextLine log at
     → spotOf st (bytesAt log at) ≡ Right l → readIn st log at ≡ Item l next

@@ -27,16 +27,16 @@ pub data Got : Type 0 where
   refused : ℕ → ℕ → Got
 
 -- what one line comes to, with the block that it opens, and the place behind it
-pub data Piece : Type 0 where
-  one : Act → ℕ → Piece
-  many : ℕ → Tree → ℕ → Piece
-  shut : ℕ → ℕ → Piece
-  halt : ℕ → ℕ → ℕ → Piece
-  bad : ℕ → ℕ → Piece
+pub data LinePiece : Type 0 where
+  one : Act → ℕ → LinePiece
+  many : ℕ → Tree → ℕ → LinePiece
+  shut : ℕ → ℕ → LinePiece
+  halt : ℕ → ℕ → ℕ → LinePiece
+  bad : ℕ → ℕ → LinePiece
 
 -- what a line says by itself: all of its piece, or that it begins a block of n turns at a place
 pub data Begun : Type 0 where
-  whole : Piece → Begun
+  whole : LinePiece → Begun
   opens : ℕ → ℕ → Begun
 
 -- the line at `at` says l and is right there, and the next one begins at `next`; behind a log's head no line that is right there says `log=1` or
@@ -59,13 +59,13 @@ unfoldable pub readBegun : List ℕ → ℕ → ℕ → Begun
 readBegun log at d = begunBy at (readIn (standing at d) log at)
 
 -- the loop line's piece, from its body
-unfoldable pub looped : ℕ → Got → Piece
+unfoldable pub looped : ℕ → Got → LinePiece
 looped n (closed b p q) = many n b q
 looped n (stopped b p q m) = bad 8 p
 looped n (refused k p) = bad k p
 
 -- `rec` reads a block from a place at a depth
-unfoldable pub piece : (ℕ → ℕ → Got) → ℕ → Begun → Piece
+unfoldable pub piece : (ℕ → ℕ → Got) → ℕ → Begun → LinePiece
 piece rec d (whole q) = q
 piece rec d (opens n p) = looped n (rec p (d + 1))
 
@@ -75,7 +75,7 @@ before f (closed b p q) = closed (f b) p q
 before f (stopped b p q m) = stopped (f b) p q m
 before f (refused k p) = refused k p
 
-unfoldable pub onward : (ℕ → Got) → Piece → Got
+unfoldable pub onward : (ℕ → Got) → LinePiece → Got
 onward rec (one a p) = before (act a) (rec p)
 onward rec (many n b p) = before (loop n b) (rec p)
 onward rec (shut p q) = closed end p q
@@ -91,7 +91,7 @@ blockIn (suc f) log at d = onward (λ p. blockIn f log p d) (piece (blockIn f lo
 unfoldable pub readBlock : List ℕ → ℕ → ℕ → Got
 readBlock log at d = blockIn (suc (length log)) log at d
 
-unfoldable pub readPart : List ℕ → ℕ → ℕ → Piece
+unfoldable pub readPart : List ℕ → ℕ → ℕ → LinePiece
 readPart log at d = piece (readBlock log) d (readBegun log at d)
 
 -- the tree that was read
@@ -122,12 +122,12 @@ pub record Small (t : Totals) : Type 0 where
 unfoldable pub totals : Tree → Totals
 totals t = cut (clocks t) (turns t) (length (acts t))
 
-unfoldable pub answer : Got → Block
-answer (closed b p q) = Closed p q (totals b)
-answer (stopped b p q n) = Stopped p q n (totals b)
-answer (refused k p) = Block.Refused k p
+unfoldable pub blockAnswer : Got → Block
+blockAnswer (closed b p q) = Closed p q (totals b)
+blockAnswer (stopped b p q n) = Stopped p q n (totals b)
+blockAnswer (refused k p) = Block.Refused k p
 
-unfoldable pub partAnswer : Piece → Part
+unfoldable pub partAnswer : LinePiece → Part
 partAnswer (one a p) = Acts p (cut (actClocks a) 1 1)
 partAnswer (many n b p) = Acts p (cut (n * clocks b) (n * (1 + turns b)) (n * length (acts b)))
 partAnswer (shut p q) = Close p q
@@ -154,3 +154,20 @@ abbrev pub loopPart : ℕ → Block → Part
 loopPart n (Closed p q t) = Acts q (timesOf n t)
 loopPart n (Stopped p q m t) = Part.Refused 8 p
 loopPart n (Block.Refused k p) = Part.Refused k p
+
+-- Document 01: "When an answer is an enum, a definition states this paper's number and values for each enum case": a block that was read is 0 at 0
+-- with its totals, a refusal its number and place
+abbrev pub blockNumber : Block → ℕ
+blockNumber (Closed p q t) = 0
+blockNumber (Stopped p q n t) = 0
+blockNumber (Block.Refused k p) = k
+
+abbrev pub blockPlace : Block → ℕ
+blockPlace (Closed p q t) = 0
+blockPlace (Stopped p q n t) = 0
+blockPlace (Block.Refused k p) = p
+
+abbrev pub blockTotals : Block → Totals
+blockTotals (Closed p q t) = t
+blockTotals (Stopped p q n t) = t
+blockTotals (Block.Refused k p) = noTotals

@@ -8,18 +8,18 @@ use Rattle.log_judge.specs.declared.Totals.{Totals}
 use Rattle.log_judge.specs.declared.Block.{Block}
 use Rattle.log_judge.specs.declared.Block.the-variants.{Closed, Stopped}
 use Rattle.log_judge.specs.declared.Checked.{Checked}
-use Rattle.log_judge.specs.Whole.{refusal}
+use Rattle.log_judge.specs.Whole.{checkRefusal}
 
 abbrev pub totalled : Bool → Totals → Checked
 totalled m t = record { number = 0; place = 0; pal = m; clocks = t .clocks; turns = t .turns; items = t .items }
 
 abbrev pub limited : Bool → Totals → ℕ → ℕ → Checked
 limited m t p n =
-    pick (ltb 2000000000 (t .clocks)) (refusal 9 p)
-    (pick (ltb 1000000 (t .turns)) (refusal 9 p)
-    (pick (eqb n (t .clocks)) (totalled m t) (refusal 10 p)))
+    pick (ltb 2000000000 (t .clocks)) (checkRefusal 9 p)
+    (pick (ltb 1000000 (t .turns)) (checkRefusal 9 p)
+    (pick (eqb n (t .clocks)) (totalled m t) (checkRefusal 10 p)))
 
 abbrev pub closing : Bool → ℕ → Block → Checked
-closing m length (Closed p q t) = refusal 18 q
-closing m length (Stopped p q n t) = pick (ltb q length) (refusal 19 q) (limited m t p n)
-closing m length (Block.Refused k p) = refusal k p
+closing m length (Closed p q t) = checkRefusal 18 q
+closing m length (Stopped p q n t) = pick (ltb q length) (checkRefusal 19 q) (limited m t p n)
+closing m length (Block.Refused k p) = checkRefusal k p

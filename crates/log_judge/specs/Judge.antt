@@ -27,15 +27,15 @@ pub data Stand : Type 0 where
   over : Stand
 
 -- what is found of the line that begins at `at`
-unfoldable pub placed : ℕ → Found → Verdict
-placed at (Right l) = right
-placed at (Wrong k i) = wrong k (at + i)
+unfoldable pub foundAt : ℕ → Found → Verdict
+foundAt at (Right l) = right
+foundAt at (Wrong k i) = wrong k (at + i)
 
 -- the verdict on one line; "Last `stop=N` .., then nothing"
 unfoldable pub verdict : Stand → ℕ → List ℕ → Verdict
-verdict first at l = placed at (spotOf First l)
-verdict second at l = placed at (spotOf (Among true 0) l)
-verdict (among d) at l = placed at (spotOf (Among false d) l)
+verdict first at l = foundAt at (spotOf First l)
+verdict second at l = foundAt at (spotOf (Among true 0) l)
+verdict (among d) at l = foundAt at (spotOf (Among false d) l)
 verdict over at l = wrong 19 at
 
 -- how the next line stands behind a line that is right

@@ -15,13 +15,13 @@ use Rattle.log_spot.specs.declared.Found.the-variants.{Right, Wrong}
 use Rattle.log_spot.specs.Fault.{spotOf}
 
 -- document 01's number and place for each answer: 0 at 0 for an item
-abbrev pub numberOf : Reading → ℕ
-numberOf (Item l next) = 0
-numberOf (Refused k p) = k
+abbrev pub readingNumber : Reading → ℕ
+readingNumber (Item l next) = 0
+readingNumber (Refused k p) = k
 
-abbrev pub placeOf : Reading → ℕ
-placeOf (Item l next) = 0
-placeOf (Refused k p) = p
+abbrev pub readingPlace : Reading → ℕ
+readingPlace (Item l next) = 0
+readingPlace (Refused k p) = p
 
 -- a line that is right is an item
 abbrev pub taken : ℕ → ℕ → Found → Reading

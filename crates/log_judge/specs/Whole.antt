@@ -59,16 +59,16 @@ unfoldable pub stopFrom : ℕ → List (List ℕ) → Stopping
 stopFrom at [] = record { place = at; number = 0 }
 stopFrom at (l ∷ ls) = stopHere at (lineOf l) (stopFrom (at + length l) ls)
 
-unfoldable pub stopOf : List ℕ → Stopping
-stopOf log = stopFrom 0 (linesOf log)
+unfoldable pub stoppingOf : List ℕ → Stopping
+stoppingOf log = stopFrom 0 (linesOf log)
 
 -- "A refusal returns its number and place, .. 0 or no for the rest"
-abbrev pub refusal : ℕ → ℕ → Checked
-refusal k p = record { number = k; place = p; pal = false; clocks = 0; turns = 0; items = 0 }
+abbrev pub checkRefusal : ℕ → ℕ → Checked
+checkRefusal k p = record { number = k; place = p; pal = false; clocks = 0; turns = 0; items = 0 }
 
 -- 0: "done"; the place is "0 otherwise"
-abbrev pub passed : Bool → Tree → Checked
-passed m t = record { number = 0; place = 0; pal = m; clocks = clocks t; turns = turns t; items = length (acts t) }
+abbrev pub passedCheck : Bool → Tree → Checked
+passedCheck m t = record { number = 0; place = 0; pal = m; clocks = clocks t; turns = turns t; items = length (acts t) }
 
 -- 9: "over 2,000,000,000 clocks or 1,000,000 turns in all"
 unfoldable pub heavy : Tree → Bool
@@ -77,16 +77,16 @@ heavy t = either (ltb 2000000000 (clocks t)) (ltb 1000000 (turns t))
 -- 9, then 10: "`stop` differs from the clocks in all"; "the `stop` line for 9 and 10"
 unfoldable pub weighed : Bool → Tree → Stopping → Checked
 weighed m t s =
-    pick (heavy t) (refusal 9 (s .place))
-    (pick (eqb (s .number) (clocks t)) (passed m t)
-    (refusal 10 (s .place)))
+    pick (heavy t) (checkRefusal 9 (s .place))
+    (pick (eqb (s .number) (clocks t)) (passedCheck m t)
+    (checkRefusal 10 (s .place)))
 
 unfoldable pub unlessWrong : Verdict → Checked → Checked
 unlessWrong right c = c
-unlessWrong (wrong k p) c = refusal k p
+unlessWrong (wrong k p) c = checkRefusal k p
 
 -- 5, "log longer than 60,000 bytes", "comes before 4"; then the first line at fault; then 9 and 10
 unfoldable pub checkOf : List ℕ → Checked
 checkOf log =
-    pick (ltb 60000 (length log)) (refusal 5 0)
-    (unlessWrong (judged log) (weighed (machineOf log) (treeOf log) (stopOf log)))
+    pick (ltb 60000 (length log)) (checkRefusal 5 0)
+    (unlessWrong (judged log) (weighed (machineOf log) (treeOf log) (stoppingOf log)))

@@ -24,12 +24,12 @@ use Rattle.text.proofs.HexLaws.{hex-complete}
 use Rattle.log_line.specs.declared.Act.the-variants.{Wait, Access}
 use Rattle.log_line.specs.declared.Line.{Line}
 use Rattle.log_line.specs.declared.Line.the-variants.{Header, Machine, One, Loop, Done, Stop, Bad}
-use Rattle.log_line.specs.Said.{counted, written, writeOf, waitOf, loopOf, stopOf, bodyOf, lineOf}
+use Rattle.log_line.specs.Said.{counted, written, writeOf, waitOf, loopOf, stopOf, unfedLine, lineOf}
 use Rattle.log_line.specs.Printed.{actText, ended, lineText, Printable}
 use Rattle.log_line.proofs.BodyLaws.{counted-is, line-feed}
 
 -- with its line feed behind it, what the text without it says
-ended-said : (s : List ℕ) → lineOf (ended s) ≡ bodyOf s
+ended-said : (s : List ℕ) → lineOf (ended s) ≡ unfedLine s
 unfolding ended
 ended-said s =
     let e : length (s ++ (10 ∷ [])) - 1 ≡ length s = omega (arith, length-append s (10 ∷ [])) in
@@ -39,16 +39,16 @@ ended-said s =
 number-said : (f : ℕ → Line) (lo hi n : ℕ) → n < 10 ^ 10 → lo ≤ n → n ≤ hi → counted f (within lo hi (decimal (decimalText n))) ≡ f n
 number-said f lo hi n h a b = counted-is f _ n (ap (within lo hi) (decimal-complete n h) ∙ within-yes lo hi n a b)
 
-wait-said : (n : ℕ) → 1 ≤ n → n ≤ 1000000 → bodyOf (actText (Wait n)) ≡ One (Wait n)
-unfolding bodyOf exactly startsWith waitOf actText
+wait-said : (n : ℕ) → 1 ≤ n → n ≤ 1000000 → unfedLine (actText (Wait n)) ≡ One (Wait n)
+unfolding unfedLine exactly startsWith waitOf actText
 wait-said n a b = number-said (λ n. One (Wait n)) 1 1000000 n (omega arith) a b
 
-loop-said : (n : ℕ) → 2 ≤ n → n ≤ 255 → bodyOf (bytes "loop=" ++ decimalText n) ≡ Loop n
-unfolding bodyOf exactly startsWith loopOf
+loop-said : (n : ℕ) → 2 ≤ n → n ≤ 255 → unfedLine (bytes "loop=" ++ decimalText n) ≡ Loop n
+unfolding unfedLine exactly startsWith loopOf
 loop-said n a b = number-said Loop 2 255 n (omega arith) a b
 
-stop-said : (n : ℕ) → n ≤ 2000000000 → bodyOf (bytes "stop=" ++ decimalText n) ≡ Stop n
-unfolding bodyOf exactly startsWith stopOf
+stop-said : (n : ℕ) → n ≤ 2000000000 → unfedLine (bytes "stop=" ++ decimalText n) ≡ Stop n
+unfolding unfedLine exactly startsWith stopOf
 stop-said n b = number-said Stop 0 2000000000 n (omega arith) (omega arith) b
 
 -- a register fits four hex digits
@@ -71,26 +71,26 @@ written-said : (r v : ℕ) → isRegister r ≡ true → written (Is r) (Is v) �
 unfolding written
 written-said r v e = rw e
 
-write-said : (r v : ℕ) → isRegister r ≡ true → v ≤ 255 → bodyOf (actText (Access (Write r v))) ≡ One (Access (Write r v))
-unfolding bodyOf exactly startsWith actText
+write-said : (r v : ℕ) → isRegister r ≡ true → v ≤ 255 → unfedLine (actText (Access (Write r v))) ≡ One (Access (Write r v))
+unfolding unfedLine exactly startsWith actText
 write-said r v e h =
     fields-said r v
     ∙ (rw (hex-complete 4 r (register-fits r e), hex-complete 2 v (omega arith)) (written-said r v e))
 
-read-said : bodyOf (actText (Access Read)) ≡ One (Access Read)
-unfolding bodyOf exactly startsWith actText
+read-said : unfedLine (actText (Access Read)) ≡ One (Access Read)
+unfolding unfedLine exactly startsWith actText
 read-said = refl
 
-header-said : bodyOf (bytes "log=1") ≡ Header
-unfolding bodyOf exactly startsWith
+header-said : unfedLine (bytes "log=1") ≡ Header
+unfolding unfedLine exactly startsWith
 header-said = refl
 
-machine-said : bodyOf (bytes "machine=pal") ≡ Machine
-unfolding bodyOf exactly startsWith
+machine-said : unfedLine (bytes "machine=pal") ≡ Machine
+unfolding unfedLine exactly startsWith
 machine-said = refl
 
-done-said : bodyOf (bytes "done=loop") ≡ Done
-unfolding bodyOf exactly startsWith
+done-said : unfedLine (bytes "done=loop") ≡ Done
+unfolding unfedLine exactly startsWith
 done-said = refl
 
 pub read-back : (l : Line) → Printable l → lineOf (lineText l) ≡ l

@@ -11,7 +11,7 @@ use Rattle.text.specs.declared.Number.{Number}
 use Rattle.text.specs.declared.Number.the-variants.{Is, None}
 use Rattle.log_line.specs.declared.Line.{Line}
 use Rattle.log_line.specs.declared.Line.the-variants.{Header, Machine, One, Loop, Done, Stop, Bad}
-use Rattle.log_line.specs.Said.{counted, written, writeOf, bodyOf, lineOf}
+use Rattle.log_line.specs.Said.{counted, written, writeOf, unfedLine, lineOf}
 
 pub counted-is : (f : ℕ → Line) (d : Number) (n : ℕ) → d ≡ Is n → counted f d ≡ f n
 unfolding counted
@@ -50,7 +50,7 @@ module _ (s : List ℕ) where
   unfolding lineOf
   line-empty h = rw (List·getD-eq-default s 0 {n = length s - 1} (omega arith))
 
-  pub line-feed : getD s (length s - 1) 0 ≡ 10 → lineOf s ≡ bodyOf (take (length s - 1) s)
+  pub line-feed : getD s (length s - 1) 0 ≡ 10 → lineOf s ≡ unfedLine (take (length s - 1) s)
   unfolding lineOf
   line-feed e = rw (eq-eqb _ _ e)
 

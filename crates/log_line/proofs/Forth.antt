@@ -27,7 +27,7 @@ use Rattle.text.proofs.KeyLaws.{starts-split, exactly-is}
 use Rattle.log_line.specs.declared.Act.the-variants.{Wait, Access}
 use Rattle.log_line.specs.declared.Line.{Line}
 use Rattle.log_line.specs.declared.Line.the-variants.{Header, Machine, One, Loop, Done, Stop, Bad}
-use Rattle.log_line.specs.Said.{counted, written, writeOf, waitOf, loopOf, stopOf, bodyOf, lineOf}
+use Rattle.log_line.specs.Said.{counted, written, writeOf, waitOf, loopOf, stopOf, unfedLine, lineOf}
 use Rattle.log_line.specs.Printed.{actText, ended, lineText, Printable}
 
 pub data Found (s : List ℕ) (l : Line) : Type 0 where
@@ -105,8 +105,8 @@ write-found s v q =
 exact-found : (t s : List ℕ) (l : Line) → ended t ≡ lineText l → Printable l → exactly t s ≡ true → Found (ended s) l
 exact-found t s l q p e = right (ap ended (exactly-is t s e) ∙ q) p
 
-body-found : (s : List ℕ) → Found (ended s) (bodyOf s)
-unfolding bodyOf lineText actText
+body-found : (s : List ℕ) → Found (ended s) (unfedLine s)
+unfolding unfedLine lineText actText
 body-found s =
     pick-each (Found (ended s)) (exactly (bytes "log=1") s) (exact-found (bytes "log=1") s Header refl tt) λ e.
     pick-each (Found (ended s)) (startsWith (bytes "wait=") s) (wait-found s) λ e.
@@ -132,7 +132,7 @@ unfolding lineOf
 line-found s =
     pick-each (Found s) (eqb (getD s (length s - 1) 0) 10)
     (λ e.
-    subst (λ (t : List ℕ). Found t (bodyOf (take (length s - 1) s)))
+    subst (λ (t : List ℕ). Found t (unfedLine (take (length s - 1) s)))
     (sym (feed-split s (eqb-true (getD s (length s - 1) 0) 10 e)))
     (body-found (take (length s - 1) s)))
     (λ e. formless s)

@@ -50,8 +50,8 @@ unfoldable pub stopOf : List ℕ → Line
 stopOf s = counted Stop (within 0 2000000000 (decimal s))
 
 -- a line without its line feed
-unfoldable pub bodyOf : List ℕ → Line
-bodyOf s =
+unfoldable pub unfedLine : List ℕ → Line
+unfedLine s =
     pick (exactly (bytes "log=1") s) Header
     (pick (startsWith (bytes "wait=") s) (waitOf (drop 5 s))
     (pick (startsWith (bytes "write=") s) (writeOf (drop 6 s))
@@ -66,5 +66,5 @@ bodyOf s =
 unfoldable pub lineOf : List ℕ → Line
 lineOf s =
     pick (eqb (getD s (length s - 1) 0) 10)
-    (bodyOf (take (length s - 1) s))
+    (unfedLine (take (length s - 1) s))
     (Bad 0)

@@ -4,7 +4,7 @@ ghost use Rattle.arith.specs.Pick.{pick};
 ghost use Rattle.bus.specs.Register.{isRegister};
 ghost use Rattle.text.specs.Hex.{hex};
 ghost use Rattle.text.specs.declared.Number.the-variants.{Is};
-ghost use Rattle.log_line.specs.Said.{lineOf, bodyOf, waitOf, loopOf, stopOf, writeOf, written};
+ghost use Rattle.log_line.specs.Said.{lineOf, unfedLine, waitOf, loopOf, stopOf, writeOf, written};
 use bus::Access;
 use text::Number;
 
@@ -100,7 +100,7 @@ fn write_of(s: &[u8]) -> Line
 
 // A line without its line feed.
 fn body_of(s: &[u8]) -> Line
-    ensures { λ r. ⌜ r ≡ bodyOf (now (s .entry)) ⌝ }
+    ensures { λ r. ⌜ r ≡ unfedLine (now (s .entry)) ⌝ }
 {
     if text::exact(s, b"log=1") {
         return Line::Header;

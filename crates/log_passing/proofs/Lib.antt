@@ -1,4 +1,3 @@
 pub mod ActLaws
-pub mod PlaceLaws
 pub mod Passing
 pub mod TextLaws

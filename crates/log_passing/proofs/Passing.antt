@@ -24,9 +24,9 @@ use Rattle.log_judge.specs.declared.Reading.the-variants.{Item}
 use Rattle.log_judge.specs.Lines.{linesOf, bytesAt, nextLine}
 use Rattle.log_judge.specs.Head.{headText, machineOf, startOf}
 use Rattle.log_judge.specs.Reading.{standing, readIn, readAt}
-use Rattle.log_judge.specs.Judge.{Verdict, right, wrong, Stand, first, second, among, over, placed, verdict, behind, ending, unless, judge, judged}
+use Rattle.log_judge.specs.Judge.{Verdict, right, wrong, Stand, first, second, among, over, foundAt, verdict, behind, ending, unless, judge, judged}
 use Rattle.log_judge.specs.Tree.{Tree, clocks, turns, text, logText, Within}
-use Rattle.log_judge.specs.Whole.{innermost, treeOf, Stopping, stopOf, refusal, passed, heavy, weighed, unlessWrong, checkOf}
+use Rattle.log_judge.specs.Whole.{innermost, treeOf, Stopping, stoppingOf, checkRefusal, passedCheck, heavy, weighed, unlessWrong, checkOf}
 use Rattle.log_judge.specs.Block.{Got, closed, stopped, refused, readBlock}
 use Rattle.log_judge.proofs.PlaceLaws.{Had, had-at, had-text, line-split, read-some}
 use Rattle.log_judge.proofs.Derived.{Ending, closes, stops, Reads, an-act, a-loop, a-done, a-stop, Derived, derived, inside-loop}
@@ -35,14 +35,14 @@ use Rattle.log_judge.proofs.HeadLaws.{first-next, ntsc-start, pal-start, head-s
 use Rattle.log_judge.proofs.CheckLaws.{blocks-of, stop-of, over-at, judged-first, behind-head}
 use Rattle.log_passing.proofs.TextLaws.{judged-text, machine-text, tree-text, stop-is}
 
--- a refusal has a number
+-- A REFUSAL HAS A NUMBER
 
 abbrev Numbered : Verdict → Type 0
 Numbered right = Unit {0}
 Numbered (wrong k p) = 0 < k
 
-placed-numbered : (st : Standing) (at : ℕ) (l : List ℕ) (f : Found) → spotOf st l ≡ f → Numbered (placed at f)
-unfolding placed
+placed-numbered : (st : Standing) (at : ℕ) (l : List ℕ) (f : Found) → spotOf st l ≡ f → Numbered (foundAt at f)
+unfolding foundAt
 placed-numbered st at l (Right m) e = tt
 placed-numbered st at l (Wrong k i) e = let h = bounded st l k i e .low in omega arith
 
@@ -74,14 +74,14 @@ numbered : (log : List ℕ) → Numbered (judged log)
 unfolding judged
 numbered log = judge-numbered (linesOf log) first 0
 
--- number 0 is given exactly where nothing is wrong
+-- NUMBER 0 IS GIVEN EXACTLY WHERE NOTHING IS WRONG
 
 pub record Clear (log : List ℕ) : Type 0 where
   pub short : length log ≤ 60000
   pub fine : judged log ≡ right
   pub in-clocks : clocks (treeOf log) ≤ 2000000000
   pub in-turns : turns (treeOf log) ≤ 1000000
-  pub number : stopOf log .number ≡ clocks (treeOf log)
+  pub number : stoppingOf log .number ≡ clocks (treeOf log)
 
 heavy-not : (t : Tree) → heavy t ≡ false → (clocks t ≤ 2000000000) × (turns t ≤ 1000000)
 unfolding heavy
@@ -96,21 +96,21 @@ pub clear : (log : List ℕ) → checkOf log .number ≡ 0 → Clear log
 unfolding checkOf unlessWrong weighed
 clear log h = long (ltb 60000 (length log)) refl h
   where
-    same : length log ≤ 60000 → judged log ≡ right → heavy (treeOf log) ≡ false → (b : Bool) → eqb (stopOf log .number) (clocks (treeOf log)) ≡ b
-        → pick b (passed (machineOf log) (treeOf log)) (refusal 10 (stopOf log .place)) .number ≡ 0 → Clear log
-    same s f w true e h = record { short = s; fine = f; in-clocks = heavy-not (treeOf log) w .0; in-turns = heavy-not (treeOf log) w .1; number = eqb-true (stopOf log .number) (clocks (treeOf log)) e }
+    same : length log ≤ 60000 → judged log ≡ right → heavy (treeOf log) ≡ false → (b : Bool) → eqb (stoppingOf log .number) (clocks (treeOf log)) ≡ b
+        → pick b (passedCheck (machineOf log) (treeOf log)) (checkRefusal 10 (stoppingOf log .place)) .number ≡ 0 → Clear log
+    same s f w true e h = record { short = s; fine = f; in-clocks = heavy-not (treeOf log) w .0; in-turns = heavy-not (treeOf log) w .1; number = eqb-true (stoppingOf log .number) (clocks (treeOf log)) e }
     same s f w false e h = absurd (omega arith)
 
     weigh : length log ≤ 60000 → judged log ≡ right → (b : Bool) → heavy (treeOf log) ≡ b
-        → pick b (refusal 9 (stopOf log .place)) (pick (eqb (stopOf log .number) (clocks (treeOf log))) (passed (machineOf log) (treeOf log)) (refusal 10 (stopOf log .place))) .number ≡ 0 → Clear log
+        → pick b (checkRefusal 9 (stoppingOf log .place)) (pick (eqb (stoppingOf log .number) (clocks (treeOf log))) (passedCheck (machineOf log) (treeOf log)) (checkRefusal 10 (stoppingOf log .place))) .number ≡ 0 → Clear log
     weigh s f true e h = absurd (omega arith)
-    weigh s f false e h = same s f e (eqb (stopOf log .number) (clocks (treeOf log))) refl h
+    weigh s f false e h = same s f e (eqb (stoppingOf log .number) (clocks (treeOf log))) refl h
 
-    sound : length log ≤ 60000 → (v : Verdict) → judged log ≡ v → Numbered v → unlessWrong v (weighed (machineOf log) (treeOf log) (stopOf log)) .number ≡ 0 → Clear log
+    sound : length log ≤ 60000 → (v : Verdict) → judged log ≡ v → Numbered v → unlessWrong v (weighed (machineOf log) (treeOf log) (stoppingOf log)) .number ≡ 0 → Clear log
     sound s right e k h = weigh s e (heavy (treeOf log)) refl h
     sound s (wrong n p) e k h = absurd (omega arith)
 
-    long : (b : Bool) → ltb 60000 (length log) ≡ b → pick b (refusal 5 0) (unlessWrong (judged log) (weighed (machineOf log) (treeOf log) (stopOf log))) .number ≡ 0 → Clear log
+    long : (b : Bool) → ltb 60000 (length log) ≡ b → pick b (checkRefusal 5 0) (unlessWrong (judged log) (weighed (machineOf log) (treeOf log) (stoppingOf log))) .number ≡ 0 → Clear log
     long true e h = absurd (omega arith)
     long false e h = sound (ltb-false 60000 (length log) e) (judged log) refl (numbered log) h
 
@@ -119,12 +119,12 @@ unfolding heavy
 not-heavy t h k = rw (le-ltb 2000000000 (clocks t) h, le-ltb 1000000 (turns t) k)
 
 -- and there the answer holds the machine and the tree's totals, whole and exact
-pub passes : {log : List ℕ} → Clear log → checkOf log ≡ passed (machineOf log) (treeOf log)
+pub passes : {log : List ℕ} → Clear log → checkOf log ≡ passedCheck (machineOf log) (treeOf log)
 unfolding checkOf unlessWrong weighed
 passes {log} c =
-    rw (le-ltb 60000 (length log) (c .short), c .fine, not-heavy (treeOf log) (c .in-clocks) (c .in-turns), eq-eqb (stopOf log .number) (clocks (treeOf log)) (c .number))
+    rw (le-ltb 60000 (length log) (c .short), c .fine, not-heavy (treeOf log) (c .in-clocks) (c .in-turns), eq-eqb (stoppingOf log .number) (clocks (treeOf log)) (c .number))
 
--- how a log that passes is read
+-- HOW A LOG THAT PASSES IS READ
 
 pub record Passing (log : List ℕ) : Type 0 where
   pub header : readAt log 0 ≡ Item Header 6
@@ -148,9 +148,9 @@ module _ (log : List ℕ) (c : Clear log) where
       go [] h = absurd (not-right h)
       go (b ∷ s) h = omega arith
 
-  first-line : (f : Found) → spotOf First (bytesAt log 0) ≡ f → unless (placed 0 f) (judgeAt log second (nextLine log 0)) ≡ right
+  first-line : (f : Found) → spotOf First (bytesAt log 0) ≡ f → unless (foundAt 0 f) (judgeAt log second (nextLine log 0)) ≡ right
       → spotOf First (bytesAt log 0) ≡ Right Header
-  unfolding placed unless
+  unfolding foundAt unless
   first-line (Right l) e h = e ∙ ap Right (first-header (bytesAt log 0) l e)
   first-line (Wrong k i) e h = absurd (not-right h)
 
@@ -191,7 +191,7 @@ module _ (log : List ℕ) (c : Clear log) where
   pub passing : Passing log
   passing = passing-of (readBlock log (startOf log) 0) (derived log (startOf log) 0) after-is
 
--- what is read is what is printed
+-- WHAT IS READ IS WHAT IS PRINTED
 
 module _ (log : List ℕ) where
   pub had-split : {st : Standing} {at : ℕ} {l : Line} {next : ℕ} → Had st log at l next → drop at log ≡ lineText l ++ drop next log
@@ -223,6 +223,8 @@ module _ (log : List ℕ) where
   stop-within (a-loop l i k r r′) = stop-within r′
   stop-within {at} (a-stop l) = had-text (had-at log at _ _ l) .1
 
+-- A LOG THAT PASSES IS THE TEXT OF ONE MACHINE AND TREE
+
 -- a log is the text of a machine, a tree within the limits and its `stop`
 pub record Stands (log : List ℕ) (m : Bool) (t : Tree) (n : ℕ) : Type 0 where
   pub is-text : log ≡ logText m t n
@@ -249,12 +251,12 @@ only {log} {m} {k} {t} {u} {n} {o} a b =
     let e : logText m t n ≡ logText k u o = sym (a .is-text) ∙ b .is-text in (
       sym (machine-text m t n) ∙ (ap machineOf e ∙ machine-text k u o),
       sym (tree-text m t n (a .within) (a .stop)) ∙ (ap treeOf e ∙ tree-text k u o (b .within) (b .stop)),
-      ap (λ (s : Stopping). s .number) (sym (stop-is m t n (a .within) (a .stop)) ∙ (ap stopOf e ∙ stop-is k u o (b .within) (b .stop))),
+      ap (λ (s : Stopping). s .number) (sym (stop-is m t n (a .within) (a .stop)) ∙ (ap stoppingOf e ∙ stop-is k u o (b .within) (b .stop))),
     )
 
 -- every such text within the limits of a whole log passes, and stands for its machine and tree
 pub printed : (m : Bool) (t : Tree) → Within t 0 → clocks t ≤ 2000000000 → turns t ≤ 1000000 → length (logText m t (clocks t)) ≤ 60000
-    → (checkOf (logText m t (clocks t)) ≡ passed m t) × (treeOf (logText m t (clocks t)) ≡ t) × (machineOf (logText m t (clocks t)) ≡ m)
+    → (checkOf (logText m t (clocks t)) ≡ passedCheck m t) × (treeOf (logText m t (clocks t)) ≡ t) × (machineOf (logText m t (clocks t)) ≡ m)
 printed m t w h k s =
     let log = logText m t (clocks t) in
     let e : treeOf log ≡ t = tree-text m t (clocks t) w h in
@@ -266,4 +268,4 @@ printed m t w h k s =
       number = ap (λ (x : Stopping). x .number) (stop-is m t (clocks t) w h) ∙ sym (ap clocks e);
     } in
     let i : machineOf log ≡ m = machine-text m t (clocks t) in
-    (passes c ∙ ap₂ passed i e, e, i)
+    (passes c ∙ ap₂ passedCheck i e, e, i)

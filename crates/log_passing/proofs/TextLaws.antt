@@ -2,7 +2,7 @@
 use mathlib.Core.Path.{_≡_, refl, ap, sym, _∙_}
 use mathlib.Core.List.{List, [], _∷_, _++_, append-assoc, append-nil}
 use mathlib.Core.Bool.{Bool, true, false}
-use Prim.Native.Nat.{ℕ, suc, _+_, _-_}
+use Prim.Native.Nat.{ℕ, _+_, _-_}
 use native.Mathlib.Omega.{arith}
 use borrow.Author.Tests.{eq-eqb, ne-eqb, lt-ltb}
 use lib.ListN.{length, length-append}
@@ -23,18 +23,13 @@ use Rattle.log_spot.specs.Fronts.{allowed}
 use Rattle.log_spot.specs.Begins.{keysOf}
 use Rattle.log_spot.proofs.FaultLaws.{line-right}
 use Rattle.log_spot.proofs.Standing.{Goes, act as acts-on, opens as opened-on, closes as closes-on, ends as ends-on, goes-may}
-use Rattle.log_judge.specs.Lines.{onto, linesOf, lineLen}
-use Rattle.log_judge.specs.Judge.{right, first, second, among, placed, verdict, leaves, behind, ending, unless, judge, judged}
+use Rattle.log_judge.specs.Lines.{onto, linesOf}
+use Rattle.log_judge.specs.Judge.{right, first, second, among, foundAt, verdict, leaves, behind, ending, unless, judge, judged}
 use Rattle.log_judge.specs.Head.{headText, machineOf}
 use Rattle.log_judge.specs.Tree.{Tree, end, act, loop, text, logText, Within}
-use Rattle.log_judge.specs.Whole.{grow, blocks, innermost, treeOf, Stopping, stopHere, stopFrom, stopOf}
+use Rattle.log_judge.specs.Whole.{grow, blocks, innermost, treeOf, stopHere, stopFrom, stoppingOf}
 
--- one line
-
-len-clear : (s rest : List ℕ) → NoFeed s → lineLen ((s ++ (10 ∷ [])) ++ rest) ≡ length (s ++ (10 ∷ []))
-unfolding lineLen
-len-clear [] rest empty = refl
-len-clear (c ∷ s) rest (byte h n) = rw (ne-eqb c 10 h) (ap suc (len-clear s rest n))
+-- ONE LINE
 
 lines-clear : (s rest : List ℕ) → NoFeed s → linesOf ((s ++ (10 ∷ [])) ++ rest) ≡ (s ++ (10 ∷ [])) ∷ linesOf rest
 unfolding linesOf onto
@@ -42,35 +37,32 @@ lines-clear [] rest empty = refl
 lines-clear (c ∷ s) rest (byte h n) = rw (ne-eqb c 10 h) (ap (onto c) (lines-clear s rest n))
 
 module _ (l : Line) (rest : List ℕ) (p : Printable l) where
-  pub line-len : lineLen (lineText l ++ rest) ≡ length (lineText l)
-  line-len = let o = one-line l p in rw (o .is) (len-clear (o .body) rest (o .clear))
-
   -- the lines of a line's text and what is behind it
-  pub lines-text : linesOf (lineText l ++ rest) ≡ lineText l ∷ linesOf rest
+  lines-text : linesOf (lineText l ++ rest) ≡ lineText l ∷ linesOf rest
   lines-text = let o = one-line l p in rw (o .is) (lines-clear (o .body) rest (o .clear))
 
-  pub blocks-line : blocks (linesOf (lineText l ++ rest)) ≡ grow l (blocks (linesOf rest))
+  blocks-line : blocks (linesOf (lineText l ++ rest)) ≡ grow l (blocks (linesOf rest))
   unfolding blocks
   blocks-line = rw (lines-text, printed-read l p)
 
-  pub stop-line : (at : ℕ) → stopFrom at (linesOf (lineText l ++ rest)) ≡ stopHere at l (stopFrom (at + length (lineText l)) (linesOf rest))
+  stop-line : (at : ℕ) → stopFrom at (linesOf (lineText l ++ rest)) ≡ stopHere at l (stopFrom (at + length (lineText l)) (linesOf rest))
   unfolding stopFrom
   stop-line at = rw (lines-text, printed-read l p)
 
-  pub judge-line : (at d : ℕ) → Goes d l → judge (among d) at (linesOf (lineText l ++ rest)) ≡ judge (leaves d l) (at + length (lineText l)) (linesOf rest)
-  unfolding judge verdict behind placed unless
+  judge-line : (at d : ℕ) → Goes d l → judge (among d) at (linesOf (lineText l ++ rest)) ≡ judge (leaves d l) (at + length (lineText l)) (linesOf rest)
+  unfolding judge verdict behind foundAt unless
   judge-line at d g = rw (lines-text, line-right (Among false d) l (goes-may false g) p, printed-read l p)
 
   -- as the second line it leaves what it leaves further down
-  pub judge-second : (at : ℕ) → allowed (keysOf (Among true 0)) l ≡ true → judge second at (linesOf (lineText l ++ rest)) ≡ judge (leaves 0 l) (at + length (lineText l)) (linesOf rest)
-  unfolding judge verdict behind placed unless
+  judge-second : (at : ℕ) → allowed (keysOf (Among true 0)) l ≡ true → judge second at (linesOf (lineText l ++ rest)) ≡ judge (leaves 0 l) (at + length (lineText l)) (linesOf rest)
+  unfolding judge verdict behind foundAt unless
   judge-second at a = rw (lines-text, line-right (Among true 0) l a p, printed-read l p)
 
-pub judge-head : (rest : List ℕ) (at : ℕ) → judge first at (linesOf (lineText Header ++ rest)) ≡ judge second (at + length (lineText Header)) (linesOf rest)
-unfolding judge verdict behind placed unless allowed keysOf
+judge-head : (rest : List ℕ) (at : ℕ) → judge first at (linesOf (lineText Header ++ rest)) ≡ judge second (at + length (lineText Header)) (linesOf rest)
+unfolding judge verdict behind foundAt unless allowed keysOf
 judge-head rest at = rw (lines-text Header rest tt, line-right First Header refl tt)
 
--- a block
+-- A BLOCK
 
 -- what a loop's text is in front of
 pub loop-text : (n : ℕ) (b t : Tree) (rest : List ℕ) → text (loop n b t) ++ rest ≡ lineText (Loop n) ++ (text b ++ (lineText Done ++ (text t ++ rest)))
@@ -95,14 +87,14 @@ joined end u = u
 joined (act a t) u = act a (joined t u)
 joined (loop n b t) u = loop n b (joined t u)
 
-pub joined-end : (t : Tree) → joined t end ≡ t
+joined-end : (t : Tree) → joined t end ≡ t
 unfolding joined
 joined-end end = refl
 joined-end (act a t) = ap (act a) (joined-end t)
 joined-end (loop n b t) = ap (loop n b) (joined-end t)
 
 -- its lines are right wherever so many loops may be open, and are gone on behind
-pub judge-text : (t : Tree) (at d : ℕ) (rest : List ℕ) → Within t d → judge (among d) at (linesOf (text t ++ rest)) ≡ judge (among d) (at + length (text t)) (linesOf rest)
+judge-text : (t : Tree) (at d : ℕ) (rest : List ℕ) → Within t d → judge (among d) at (linesOf (text t ++ rest)) ≡ judge (among d) (at + length (text t)) (linesOf rest)
 unfolding text leaves
 judge-text end at d rest w = ap (λ (i : ℕ). judge (among d) i (linesOf rest)) (omega arith)
 judge-text (act a t) at d rest w =
@@ -128,7 +120,7 @@ second-goes : (l : Line) (rest : List ℕ) (at : ℕ) → Printable l → Goes 0
     → judge second at (linesOf (lineText l ++ rest)) ≡ judge (among 0) at (linesOf (lineText l ++ rest))
 second-goes l rest at p g = judge-second l rest p at (goes-may true g) ∙ sym (judge-line l rest p at 0 g)
 
-pub second-text : (t : Tree) (n at : ℕ) → Within t 0 → Printable (Stop n)
+second-text : (t : Tree) (n at : ℕ) → Within t 0 → Printable (Stop n)
     → judge second at (linesOf (text t ++ lineText (Stop n))) ≡ judge (among 0) at (linesOf (text t ++ lineText (Stop n)))
 unfolding text
 second-text end n at w p = rw (← append-nil (lineText (Stop n))) (second-goes (Stop n) [] at p (ends-on refl))
@@ -136,7 +128,7 @@ second-text (act a t) n at w p = rw (act-text a t (lineText (Stop n))) (second-g
 second-text (loop m b t) n at w p = rw (loop-text m b t (lineText (Stop n))) (second-goes (Loop m) _ at (w .0) (opened-on (w .1)))
 
 -- they stand for that block, in front of the block behind them
-pub blocks-text : (t u : Tree) (us : List Tree) (d : ℕ) (rest : List ℕ) → Within t d → blocks (linesOf rest) ≡ u ∷ us → blocks (linesOf (text t ++ rest)) ≡ joined t u ∷ us
+blocks-text : (t u : Tree) (us : List Tree) (d : ℕ) (rest : List ℕ) → Within t d → blocks (linesOf rest) ≡ u ∷ us → blocks (linesOf (text t ++ rest)) ≡ joined t u ∷ us
 unfolding text joined grow
 blocks-text end u us d rest w h = h
 blocks-text (act a t) u us d rest w h =
@@ -150,7 +142,7 @@ blocks-text (loop n b t) u us d rest w h =
     ∙ ap (grow (Loop n)) (inner ∙ ap (λ (x : Tree). x ∷ joined t u ∷ us) (joined-end b)))
 
 -- and have no `stop` among them
-pub stop-text : (t : Tree) (at d : ℕ) (rest : List ℕ) → Within t d → stopFrom at (linesOf (text t ++ rest)) ≡ stopFrom (at + length (text t)) (linesOf rest)
+stop-text : (t : Tree) (at d : ℕ) (rest : List ℕ) → Within t d → stopFrom at (linesOf (text t ++ rest)) ≡ stopFrom (at + length (text t)) (linesOf rest)
 unfolding text stopHere
 stop-text end at d rest w = ap (λ (i : ℕ). stopFrom i (linesOf rest)) (omega arith)
 stop-text (act a t) at d rest w =
@@ -169,10 +161,7 @@ stop-text (loop n b t) at d rest w =
     ∙ (stop-text t k d rest (w .3)
     ∙ ap (λ (i : ℕ). stopFrom i (linesOf rest)) (let h = loop-long n b t in omega arith)))))
 
--- a whole log
-
-abbrev stopping : ℕ → ℕ → Stopping
-stopping i n = record { place = i; number = n }
+-- A WHOLE LOG
 
 -- the head of a log: its lines, and that they are in front of no block and no `stop`
 
@@ -244,8 +233,8 @@ module _ (m : Bool) (t : Tree) (n : ℕ) (w : Within t 0) (s : Printable (Stop n
       ∙ blocks-text t end [] 0 (lineText (Stop n)) w last-blocks)
       ∙ joined-end t
 
-  pub stop-is : stopOf (logText m t n) ≡ record { place = length (headText m) + length (text t); number = n }
-  unfolding stopOf logText stopHere
+  pub stop-is : stoppingOf (logText m t n) ≡ record { place = length (headText m) + length (text t); number = n }
+  unfolding stoppingOf logText stopHere
   stop-is =
       let at : ℕ = length (headText m) in
       head-stop m (text t ++ lineText (Stop n))

@@ -7,11 +7,11 @@ ghost use Prim.Native.Nat.{_+_, _≤_};
 ghost use lib.ListN.{length, drop};
 ghost use Rattle.log_judge.specs.Lines.{lineLen};
 ghost use Rattle.log_judge.specs.Head.{machineOf, startOf};
-ghost use Rattle.log_judge.specs.Reading.{numberOf, placeOf, taken, Reaches, standing, readIn, readAt};
+ghost use Rattle.log_judge.specs.Reading.{readingNumber, readingPlace, taken, Reaches, standing, readIn, readAt};
 
 // The number of a reading: 0, or the refusal's.
 pub fn number(r: Reading) -> u8
-    ensures { λ n. ⌜ n ≡ numberOf r ⌝ }
+    ensures { λ n. ⌜ n ≡ readingNumber r ⌝ }
 {
     match r {
         Reading::Item(_, _) => 0,
@@ -21,7 +21,7 @@ pub fn number(r: Reading) -> u8
 
 // The place of a reading: 0, or the refusal's.
 pub fn place(r: Reading) -> usize
-    ensures { λ p. ⌜ p ≡ placeOf r ⌝ }
+    ensures { λ p. ⌜ p ≡ readingPlace r ⌝ }
 {
     match r {
         Reading::Item(_, _) => 0,

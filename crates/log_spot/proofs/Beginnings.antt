@@ -14,31 +14,32 @@ use Rattle.log_line.specs.declared.Line.{Line}
 use Rattle.log_line.specs.declared.Line.the-variants.{Header, Machine, One, Loop, Done, Stop, Bad}
 use Rattle.log_line.specs.Printed.{actText, ended, lineText, Printable}
 use Rattle.log_spot.specs.declared.Keys.{Keys}
-use Rattle.log_spot.specs.Begins.{along, nothing, number, any, begins}
+use Rattle.log_spot.specs.Begins.{along, nothing, beginsNumber, anyTrue, begins}
 use Rattle.log_spot.specs.Fronts.{allowed, RightForm, Fronts}
 use Rattle.log_spot.proofs.DecimalLaws.{Wide}
 use Rattle.log_spot.proofs.FormLaws.{Goes, Onward, Nothing, none, onward-nothing, Decimal, onward-number, Met, onward-along, plain, Behind, met-behind, behind-met}
 use Rattle.log_spot.proofs.WriteLaws.{WriteOf, write-text, text-write}
 
-any-each : (P : Type 0) (b : Bool) (bs : List Bool) → (b ≡ true → P) → (any bs ≡ true → P) → any (b ∷ bs) ≡ true → P
-unfolding any
+-- A TEST OUT OF A LIST OF TESTS
+any-each : (P : Type 0) (b : Bool) (bs : List Bool) → (b ≡ true → P) → (anyTrue bs ≡ true → P) → anyTrue (b ∷ bs) ≡ true → P
+unfolding anyTrue
 any-each P true bs f g e = f refl
 any-each P false bs f g e = g e
 
-any-none : (P : Type 0) → any [] ≡ true → P
-unfolding any
+any-none : (P : Type 0) → anyTrue [] ≡ true → P
+unfolding anyTrue
 any-none P e = absurd (false≢true e)
 
-any-here : (b : Bool) (bs : List Bool) → b ≡ true → any (b ∷ bs) ≡ true
-unfolding any
+any-here : (b : Bool) (bs : List Bool) → b ≡ true → anyTrue (b ∷ bs) ≡ true
+unfolding anyTrue
 any-here b bs e = rw e
 
-any-later : (b : Bool) (bs : List Bool) → any bs ≡ true → any (b ∷ bs) ≡ true
-unfolding any
+any-later : (b : Bool) (bs : List Bool) → anyTrue bs ≡ true → anyTrue (b ∷ bs) ≡ true
+unfolding anyTrue
 any-later true bs e = refl
 any-later false bs e = e
 
--- the three ranges
+-- THE THREE RANGES
 
 pub wait-wide : Wide 1 1000000
 wait-wide = record { some = omega arith; tens = omega arith; room = omega arith }
@@ -49,7 +50,7 @@ loop-wide = record { some = omega arith; tens = omega arith; room = omega arith 
 pub stop-wide : Wide 0 2000000000
 stop-wide = record { some = omega arith; tens = omega arith; room = omega arith }
 
--- a line that is written out
+-- A LINE THAT IS WRITTEN OUT
 
 met-text : (key t : List ℕ) → plain key ≡ true → Met key Nothing t → t ≡ key
 met-text key t p m =
@@ -62,6 +63,7 @@ met-text key t p m =
 text-met : (key : List ℕ) → plain key ≡ true → Met key Nothing key
 text-met key p = subst (Met key Nothing) (append-nil key) (behind-met Nothing key [] p none)
 
+-- WHAT BEGINS SO STANDS AT THE FRONT OF A RIGHT LINE
 module _ (k : Keys) (s : List ℕ) where
   fixed-sound : (key : List ℕ) (l : Line) → plain key ≡ true → key ≡ lineText l → RightForm l → allowed k l ≡ true → along key nothing s ≡ true
       → Fronts k s
@@ -77,9 +79,9 @@ module _ (k : Keys) (s : List ℕ) where
       record { line = One (Access (Write (w .register) (w .value))); may = a; right = (w .high, w .small); rest = g .rest; is = w .is }
 
   keyed-sound : (key : List ℕ) (lo hi : ℕ) → Wide lo hi → (f : ℕ → Line) → plain key ≡ true → ((n : ℕ) → key ++ (decimalText n ++ (10 ∷ [])) ≡ lineText (f n))
-      → ((n : ℕ) → lo ≤ n → n ≤ hi → RightForm (f n)) → ((n : ℕ) → allowed k (f n) ≡ true) → along key (number lo hi) s ≡ true → Fronts k s
+      → ((n : ℕ) → lo ≤ n → n ≤ hi → RightForm (f n)) → ((n : ℕ) → allowed k (f n) ≡ true) → along key (beginsNumber lo hi) s ≡ true → Fronts k s
   keyed-sound key lo hi w f p q r a e =
-      let g = onward-along key (number lo hi) (Decimal lo hi) (onward-number lo hi w) .sound s e in
+      let g = onward-along key (beginsNumber lo hi) (Decimal lo hi) (onward-number lo hi w) .sound s e in
       let b = met-behind (Decimal lo hi) key _ p (g .whole) in
       let d = b .holds in
       record {
@@ -111,16 +113,16 @@ module _ (k : Keys) (s : List ℕ) where
       (λ e. keyed-sound (bytes "stop=") 0 2000000000 stop-wide Stop refl (λ n. refl) (λ n a b. b) (λ n. both-left (k .stop) _ e) (both-right (k .stop) _ e))
       (any-none (Fronts k s)))))))))
 
-  -- the other way round
+  -- THE OTHER WAY ROUND
 
   fixed-complete : (key rest : List ℕ) → plain key ≡ true → s ++ rest ≡ key → along key nothing s ≡ true
   fixed-complete key rest p e =
       onward-along key nothing Nothing onward-nothing .complete s rest (subst (Met key Nothing) (sym e) (text-met key p))
 
   keyed-complete : (key rest : List ℕ) (lo hi n : ℕ) → Wide lo hi → plain key ≡ true → lo ≤ n → n ≤ hi → s ++ rest ≡ key ++ (decimalText n ++ (10 ∷ []))
-      → along key (number lo hi) s ≡ true
+      → along key (beginsNumber lo hi) s ≡ true
   keyed-complete key rest lo hi n w p a b e =
-      onward-along key (number lo hi) (Decimal lo hi) (onward-number lo hi w) .complete s rest
+      onward-along key (beginsNumber lo hi) (Decimal lo hi) (onward-number lo hi w) .complete s rest
       (subst (Met key (Decimal lo hi)) (sym e)
       (behind-met (Decimal lo hi) key (decimalText n ++ (10 ∷ [])) p (record { value = n; low = a; high = b; is = refl })))
 

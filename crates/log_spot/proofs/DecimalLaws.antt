@@ -13,10 +13,12 @@ use Rattle.text.specs.declared.Number.{Number}
 use Rattle.text.specs.declared.Number.the-variants.{Is, None}
 use Rattle.text.specs.Decimal.{digit, digits, formed, decimal, digitsOf, decimalText}
 use Rattle.text.proofs.DecimalLaws.{digit-low, digit-high, decimal-sound, decimal-complete}
-use Rattle.log_spot.specs.Begins.{nothing, goesOn, number}
+use Rattle.log_spot.specs.Begins.{nothing, goesOn, beginsNumber}
 
 none-is : (n : ℕ) → None ≡ Is n → ⊥
 none-is n e = let z : _≡_ {A = ℕ} 0 1 = cc in omega arith
+
+-- WHAT GOES ON SO CAN END IN A NUMBER IN RANGE
 
 -- s goes on, behind digits that say n, to a number in range and its line feed
 pub record Ends (lo hi n : ℕ) (s : List ℕ) : Type 0 where
@@ -99,7 +101,7 @@ module _ (lo hi : ℕ) (w : Wide lo hi) where
           let f = both-right (ltb 0 n) _ (both-right (digit c) _ e) in
           behind-digit n c s (both-left (digit c) _ e) (r (leb-true _ _ (both-left _ _ f)) (both-right (leb (n * 10 + (c - 48)) hi) _ f))
 
-  -- the other way round
+  -- THE OTHER WAY ROUND
 
   -- only the line feed may follow
   end-complete : (s rest : List ℕ) (n : ℕ) → lo ≤ n → s ++ rest ≡ 10 ∷ [] → goesOn lo hi n s ≡ true
@@ -157,7 +159,7 @@ module _ (lo hi : ℕ) (w : Wide lo hi) where
       below : (c : ℕ) → 48 ≤ c → c ≡ 10 → ⊥
       below c v z = omega arith
 
--- the whole decimal
+-- THE WHOLE DECIMAL
 
 -- s stands at the front of a decimal from lo to hi and its line feed
 pub record Numbered (lo hi : ℕ) (s : List ℕ) : Type 0 where
@@ -216,8 +218,8 @@ module _ (lo hi : ℕ) (w : Wide lo hi) where
             ∙ ap (λ (x : List ℕ). x ++ (10 ∷ [])) (decimal-sound (c ∷ r .more) (r .last) (led c z d (r .more) (r .last) (r .says)) (omega arith));
       }
 
-  pub number-sound : (s : List ℕ) → number lo hi s ≡ true → Numbered lo hi s
-  unfolding number
+  pub number-sound : (s : List ℕ) → beginsNumber lo hi s ≡ true → Numbered lo hi s
+  unfolding beginsNumber
   number-sound [] e = record { value = lo; low = omega arith; high = w .some; rest = decimalText lo ++ (10 ∷ []); is = refl }
   number-sound (c ∷ s) e =
       let d = both-left (digit c) _ e in
@@ -234,12 +236,12 @@ module _ (lo hi : ℕ) (w : Wide lo hi) where
 
   -- the other way round
 
-  number-of : (c : ℕ) (s : List ℕ) → digit c ≡ true → min lo 1 ≤ c - 48 → c - 48 ≤ hi → goesOn lo hi (c - 48) s ≡ true → number lo hi (c ∷ s) ≡ true
-  unfolding number
+  number-of : (c : ℕ) (s : List ℕ) → digit c ≡ true → min lo 1 ≤ c - 48 → c - 48 ≤ hi → goesOn lo hi (c - 48) s ≡ true → beginsNumber lo hi (c ∷ s) ≡ true
+  unfolding beginsNumber
   number-of c s d l h e = rw (d, le-leb (min lo 1) (c - 48) l, le-leb (c - 48) hi h) e
 
-  number-read : (s t rest : List ℕ) (m : ℕ) → decimal t ≡ Is m → lo ≤ m → m ≤ hi → s ++ rest ≡ t ++ (10 ∷ []) → number lo hi s ≡ true
-  unfolding number decimal formed digits
+  number-read : (s t rest : List ℕ) (m : ℕ) → decimal t ≡ Is m → lo ≤ m → m ≤ hi → s ++ rest ≡ t ++ (10 ∷ []) → beginsNumber lo hi s ≡ true
+  unfolding beginsNumber decimal formed digits
   number-read [] t rest m d l h e = refl
   number-read (c ∷ s) [] rest m d l h e = absurd (none-is m d)
   number-read (c ∷ s) (x ∷ []) rest m d l h e =
@@ -250,7 +252,7 @@ module _ (lo hi : ℕ) (w : Wide lo hi) where
       number-of c s (rw q (r .first)) (omega arith) (omega arith) (end-complete lo hi w s rest (c - 48) (omega arith) f)
   number-read (c ∷ s) (x ∷ y ∷ t) rest m d l h e = go (eqb x 48) refl d
     where
-      go : (b : Bool) → eqb x 48 ≡ b → pick (not b) (digits 0 (x ∷ y ∷ t)) None ≡ Is m → number lo hi (c ∷ s) ≡ true
+      go : (b : Bool) → eqb x 48 ≡ b → pick (not b) (digits 0 (x ∷ y ∷ t)) None ≡ Is m → beginsNumber lo hi (c ∷ s) ≡ true
       go true z d = absurd (none-is m d)
       go false z d =
           let r = read-one 0 x (y ∷ t) m d in
@@ -264,7 +266,7 @@ module _ (lo hi : ℕ) (w : Wide lo hi) where
           let u : 0 < c - 48 = omega (arith, eqb-false x 48 z) in
           number-of c s k (omega arith) (omega arith) (goes-complete lo hi w s (y ∷ t) rest (c - 48) m u g l h f)
 
-  pub number-complete : (s rest : List ℕ) (n : ℕ) → lo ≤ n → n ≤ hi → s ++ rest ≡ decimalText n ++ (10 ∷ []) → number lo hi s ≡ true
+  pub number-complete : (s rest : List ℕ) (n : ℕ) → lo ≤ n → n ≤ hi → s ++ rest ≡ decimalText n ++ (10 ∷ []) → beginsNumber lo hi s ≡ true
   number-complete s rest n l h e =
       let v = w .room in
       number-read s (decimalText n) rest n (decimal-complete n (omega arith)) l h e

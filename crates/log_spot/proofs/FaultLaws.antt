@@ -24,7 +24,7 @@ use Rattle.log_spot.specs.declared.Whole.{Whole}
 use Rattle.log_spot.specs.declared.Whole.the-variants.{Fine, Start, Other}
 use Rattle.log_spot.specs.declared.Found.{Found}
 use Rattle.log_spot.specs.declared.Found.the-variants.{Right, Wrong}
-use Rattle.log_spot.specs.Begins.{keysOf, along, any, begins, reach}
+use Rattle.log_spot.specs.Begins.{keysOf, along, anyTrue, begins, reach}
 use Rattle.log_spot.specs.Fault.{wholeOf, keyed, counts, faultAt, spotted, spotOf}
 use Rattle.log_spot.specs.Fronts.{allowed, RightForm, Fronts}
 use Rattle.log_spot.proofs.Beginnings.{begins-sound, begins-complete}
@@ -35,7 +35,7 @@ use Rattle.log_spot.proofs.WholeLaws.{Reads, itself, four, reads, whole
 pub zero-one : {A : Type 0} → _≡_ {A = ℕ} 0 1 → A
 zero-one e = absurd (omega arith)
 
--- how an answer comes about
+-- HOW AN ANSWER COMES ABOUT
 pub data Came (st : Stand) (s : List ℕ) (r : Found) : Type 0 where
   fine : wholeOf (keysOf st) (lineOf s) ≡ Fine → r ≡ Right (lineOf s) → Came st s r
   start : (n : ℕ) → wholeOf (keysOf st) (lineOf s) ≡ Start n → r ≡ Wrong n 0 → Came st s r
@@ -58,7 +58,7 @@ came st s = go (wholeOf (keysOf st) (lineOf s)) refl
         pick-each (Came st s) (counts s) (λ g. range (eqb-false _ _ q) h g refl) (λ g. shape (eqb-false _ _ q) refl))
         (λ h. key (eqb-false _ _ q) refl)
 
--- what stands at the start of a line by itself
+-- WHAT STANDS AT THE START OF A LINE BY ITSELF
 
 pub data Starts (k : Keys) (l : Line) (n : ℕ) : Type 0 where
   by-four : n ≡ 4 → l ≡ Bad 4 → k .acts ≡ true → Starts k l n
@@ -165,9 +165,7 @@ may-fine k Done e = rw e
 may-fine k (Stop n) e = rw e
 may-fine k (Bad n) e = absurd (false≢true e)
 
--- THE LAWS
-
--- right: exactly the text of a line that is allowed and within document 01's limits
+-- RIGHT: exactly the text of a line that is allowed and within document 01's limits
 
 pub record RightLine (k : Keys) (s : List ℕ) (l : Line) : Type 0 where
   pub may : allowed k l ≡ true
@@ -193,7 +191,7 @@ pub line-right : (st : Stand) (l : Line) → allowed (keysOf st) l ≡ true → 
 unfolding spotOf spotted
 line-right st l a p = rw (printed-read l p, may-fine (keysOf st) l a)
 
--- 14 and 15 are at the first byte with which no allowed right line begins
+-- 14 AND 15 are at the first byte with which no allowed right line begins
 
 pub record FirstByte (k : Keys) (s : List ℕ) (i : ℕ) : Type 0 where
   pub inside : i < length s
@@ -201,7 +199,7 @@ pub record FirstByte (k : Keys) (s : List ℕ) (i : ℕ) : Type 0 where
   pub ends : Fronts k (take (suc i) s) → ⊥
 
 begins-none : (st : Stand) → begins (keysOf st) [] ≡ true
-unfolding keysOf begins any along ended
+unfolding keysOf begins anyTrue along ended
 begins-none First = refl
 begins-none (Among true d) = refl
 begins-none (Among false d) = refl
@@ -259,7 +257,7 @@ module _ (st : Stand) (s : List ℕ) (n i : ℕ) (e : spotOf st s ≡ Wrong n i)
           let q : reach (begins (keysOf st)) s ≡ i = cc in
           subst (FirstByte (keysOf st) s) q (first-byte st s g)
 
--- 17: exactly where all bytes begin an allowed right line and the line feed is missing
+-- 17, NO LINE FEED: exactly where all bytes begin an allowed right line and the line feed is missing
 
 pub record FeedMissing (k : Keys) (s : List ℕ) (i : ℕ) : Type 0 where
   pub place : i ≡ length s
@@ -308,7 +306,7 @@ module _ (st : Stand) (s : List ℕ) where
       let r = reach-all (begins (keysOf st)) s (begins-closed (keysOf st)) (begins-complete (keysOf st) s f) in
       rw (line-other s h, r, eq-eqb (length s) (length s) refl)
 
--- 4, 7 and 8: at the start, of a whole line of right form
+-- 4, 7 AND 8: at the start, of a whole line of right form
 
 pub record Four (k : Keys) (s : List ℕ) (i : ℕ) : Type 0 where
   pub place : i ≡ 0

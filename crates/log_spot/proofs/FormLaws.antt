@@ -10,7 +10,7 @@ use Rattle.arith.specs.Pick.{pick, both}
 use Rattle.arith.proofs.PickLaws.{both-left, both-right, both-true}
 use Rattle.text.specs.Decimal.{digit, decimalText}
 use Rattle.text.specs.Hex.{hexDigit}
-use Rattle.log_spot.specs.Begins.{suits, along, nothing, number}
+use Rattle.log_spot.specs.Begins.{suits, along, nothing, beginsNumber}
 use Rattle.log_spot.proofs.DecimalLaws.{Wide, number-sound, number-complete}
 
 -- s can go on to a text of P
@@ -48,8 +48,8 @@ pub record Decimal (lo hi : ℕ) (t : List ℕ) : Type 0 where
   pub high : value ≤ hi
   pub is : t ≡ decimalText value ++ (10 ∷ [])
 
-pub onward-number : (lo hi : ℕ) → Wide lo hi → Onward (number lo hi) (Decimal lo hi)
-unfolding number
+pub onward-number : (lo hi : ℕ) → Wide lo hi → Onward (beginsNumber lo hi) (Decimal lo hi)
+unfolding beginsNumber
 onward-number lo hi w =
     record {
       start = refl;
@@ -110,7 +110,7 @@ unfoldable pub plain : List ℕ → Bool
 plain [] = true
 plain (f ∷ fs) = both (not (eqb f 35)) (plain fs)
 
-pub not-true : (b : Bool) → not b ≡ true → b ≡ false
+not-true : (b : Bool) → not b ≡ true → b ≡ false
 not-true true e = absurd (false≢true e)
 not-true false e = refl
 

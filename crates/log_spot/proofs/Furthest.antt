@@ -8,7 +8,7 @@ use Rattle.arith.specs.Pick.{pick, both, either}
 use Rattle.text.specs.Ascii.{bytes}
 use Rattle.log_line.specs.Printed.{ended}
 use Rattle.log_spot.specs.declared.Keys.{Keys}
-use Rattle.log_spot.specs.Begins.{along, nothing, number, any, begins, reach}
+use Rattle.log_spot.specs.Begins.{along, nothing, beginsNumber, anyTrue, begins, reach}
 use Rattle.log_spot.specs.Matching.{common}
 use Rattle.log_spot.proofs.DecimalLaws.{Wide}
 use Rattle.log_spot.proofs.FormLaws.{Nothing, onward-nothing, Decimal, onward-number, Met, onward-along}
@@ -18,9 +18,9 @@ use Rattle.log_spot.proofs.ReachLaws.{Closed, onward-closed, closed-bot
 form-closed : (fs : List ℕ) → Closed (along fs nothing)
 form-closed fs = onward-closed (along fs nothing) (Met fs Nothing) (onward-along fs nothing Nothing onward-nothing)
 
-keyed-closed : (key : List ℕ) (lo hi : ℕ) → Wide lo hi → Closed (along key (number lo hi))
+keyed-closed : (key : List ℕ) (lo hi : ℕ) → Wide lo hi → Closed (along key (beginsNumber lo hi))
 keyed-closed key lo hi w =
-    onward-closed (along key (number lo hi)) (Met key (Decimal lo hi)) (onward-along key (number lo hi) (Decimal lo hi) (onward-number lo hi w))
+    onward-closed (along key (beginsNumber lo hi)) (Met key (Decimal lo hi)) (onward-along key (beginsNumber lo hi) (Decimal lo hi) (onward-number lo hi w))
 
 module _ (b : Bool) where
   form-reach : (fs s : List ℕ) → reach (λ t. both b (along fs nothing t)) s ≡ pick b (common fs s) 0
@@ -29,19 +29,19 @@ module _ (b : Bool) where
   form-also : (fs : List ℕ) {gs : List (List ℕ → Bool)} → Each gs → Each ((λ t. both b (along fs nothing t)) ∷ gs)
   form-also fs e = also (closed-both b (along fs nothing) (form-closed fs)) e
 
-  keyed-also : (key : List ℕ) (lo hi : ℕ) → Wide lo hi → {gs : List (List ℕ → Bool)} → Each gs → Each ((λ t. both b (along key (number lo hi) t)) ∷ gs)
-  keyed-also key lo hi w e = also (closed-both b (along key (number lo hi)) (keyed-closed key lo hi w)) e
+  keyed-also : (key : List ℕ) (lo hi : ℕ) → Wide lo hi → {gs : List (List ℕ → Bool)} → Each gs → Each ((λ t. both b (along key (beginsNumber lo hi) t)) ∷ gs)
+  keyed-also key lo hi w e = also (closed-both b (along key (beginsNumber lo hi)) (keyed-closed key lo hi w)) e
 
 abbrev tests : Keys → List (List ℕ → Bool)
 tests k =
     (λ t. both (k .log) (along (ended (bytes "log=1")) nothing t))
     ∷ (λ t. both (k .machine) (along (ended (bytes "machine=pal")) nothing t))
-    ∷ (λ t. both (k .acts) (along (bytes "wait=") (number 1 1000000) t))
+    ∷ (λ t. both (k .acts) (along (bytes "wait=") (beginsNumber 1 1000000) t))
     ∷ (λ t. both (k .acts) (along (ended (bytes "write=####:##")) nothing t))
     ∷ (λ t. both (k .acts) (along (ended (bytes "read=4015")) nothing t))
-    ∷ (λ t. both (k .loops) (along (bytes "loop=") (number 2 255) t))
+    ∷ (λ t. both (k .loops) (along (bytes "loop=") (beginsNumber 2 255) t))
     ∷ (λ t. both (k .done) (along (ended (bytes "done=loop")) nothing t))
-    ∷ (λ t. both (k .stop) (along (bytes "stop=") (number 0 2000000000) t))
+    ∷ (λ t. both (k .stop) (along (bytes "stop=") (beginsNumber 0 2000000000) t))
     ∷ []
 
 each : (k : Keys) → Each (tests k)
@@ -56,7 +56,7 @@ each k =
     (keyed-also (k .stop) (bytes "stop=") 0 2000000000 stop-wide end)))))))
 
 begins-tests : (k : Keys) (t : List ℕ) → begins k t ≡ anyOf (tests k) t
-unfolding begins any anyOf
+unfolding begins anyTrue anyOf
 begins-tests k t = refl
 
 max-none : (n : ℕ) → max n 0 ≡ n
@@ -66,26 +66,26 @@ pub reach-begins : (k : Keys) (s : List ℕ)
     → reach (begins k) s
     ≡ max (pick (k .log) (common (ended (bytes "log=1")) s) 0)
     (max (pick (k .machine) (common (ended (bytes "machine=pal")) s) 0)
-    (max (pick (k .acts) (reach (along (bytes "wait=") (number 1 1000000)) s) 0)
+    (max (pick (k .acts) (reach (along (bytes "wait=") (beginsNumber 1 1000000)) s) 0)
     (max (pick (k .acts) (common (ended (bytes "write=####:##")) s) 0)
     (max (pick (k .acts) (common (ended (bytes "read=4015")) s) 0)
-    (max (pick (k .loops) (reach (along (bytes "loop=") (number 2 255)) s) 0)
+    (max (pick (k .loops) (reach (along (bytes "loop=") (beginsNumber 2 255)) s) 0)
     (max (pick (k .done) (common (ended (bytes "done=loop")) s) 0)
-    (pick (k .stop) (reach (along (bytes "stop=") (number 0 2000000000)) s) 0)))))))
+    (pick (k .stop) (reach (along (bytes "stop=") (beginsNumber 0 2000000000)) s) 0)))))))
 unfolding most
 reach-begins k s =
     reach-same (begins k) (anyOf (tests k)) s (begins-tests k)
     ∙ (reach-any (each k) s
     ∙ ap₂ max (form-reach (k .log) (ended (bytes "log=1")) s)
     (ap₂ max (form-reach (k .machine) (ended (bytes "machine=pal")) s)
-    (ap₂ max (reach-both (k .acts) (along (bytes "wait=") (number 1 1000000)) s)
+    (ap₂ max (reach-both (k .acts) (along (bytes "wait=") (beginsNumber 1 1000000)) s)
     (ap₂ max (form-reach (k .acts) (ended (bytes "write=####:##")) s)
     (ap₂ max (form-reach (k .acts) (ended (bytes "read=4015")) s)
-    (ap₂ max (reach-both (k .loops) (along (bytes "loop=") (number 2 255)) s)
+    (ap₂ max (reach-both (k .loops) (along (bytes "loop=") (beginsNumber 2 255)) s)
     (ap₂ max (form-reach (k .done) (ended (bytes "done=loop")) s)
-    (max-none _ ∙ reach-both (k .stop) (along (bytes "stop=") (number 0 2000000000)) s))))))))
+    (max-none _ ∙ reach-both (k .stop) (along (bytes "stop=") (beginsNumber 0 2000000000)) s))))))))
 
 -- `begins` holds of the beginnings of what it holds of
 pub begins-closed : (k : Keys) → Closed (begins k)
-unfolding begins any anyOf
+unfolding begins anyTrue anyOf
 begins-closed k s t e = closed-any (each k) s t e

@@ -34,7 +34,7 @@ use Rattle.log_spot.proofs.ReachLaws.{reach-all}
 use Rattle.log_spot.proofs.WholeLaws.{feed-split}
 use Rattle.log_spot.proofs.FaultLaws.{zero-one, Came, fine, start, feed, key, range, shape, came, starts-small, FirstByte, first-byte}
 
--- the `=` of a key stands behind all of its letters
+-- THE `=` OF A KEY STANDS BEHIND ALL OF ITS LETTERS
 
 keyed-short : (letters v : List ℕ) (r : ℕ) → r ≤ length letters → keyed letters ≡ false → keyed (take r (letters ++ v)) ≡ false
 unfolding keyed
@@ -56,7 +56,7 @@ take-key (c ∷ k) v (suc r) h =
     let e : r - length k ≡ suc r - suc (length k) = omega arith in
     ap (λ (x : List ℕ). c ∷ x) (take-key k v r (omega arith) ∙ ap (λ (x : ℕ). k ++ take x v) e)
 
--- a line with a key that takes a decimal is one of its kind
+-- A LINE WITH A KEY THAT TAKES A DECIMAL IS ONE OF ITS KIND
 
 module _ (k : Keys) where
   wait-only : (l : Line) (x : List ℕ) → bytes "wait=" ++ x ≡ lineText l → allowed k l ≡ true → k .acts ≡ true
@@ -92,6 +92,8 @@ module _ (k : Keys) where
   stop-only Done x e a = absurd (let z : _≡_ {A = ℕ} 115 100 = cc in omega arith)
   stop-only (Stop n) x e a = a
   stop-only (Bad n) x e a = absurd (false≢true a)
+
+-- A DECIMAL KEY BEFORE THE FIRST BYTE AT FAULT
 
 -- bytes and their line feed, missing or not
 record Fed (v : List ℕ) : Type 0 where
@@ -158,6 +160,8 @@ module _ (st : Stand) (s : List ℕ) (h : reach (begins (keysOf st)) s ≡ lengt
                 ∙ (ap (λ (x : List ℕ). (letters ++ (61 ∷ [])) ++ x) (g .is ∙ ap (λ (x : List ℕ). x ++ (10 ∷ [])) u) ∙ text n));
           } in
           h (reach-all (begins (keysOf st)) s (begins-closed (keysOf st)) (begins-complete (keysOf st) s front))
+
+-- 16 IS SAID OF A NUMBER OUTSIDE ITS RANGE
 
 -- which number, and which range it is outside of
 pub data Outside (k : Keys) (s : List ℕ) (n : ℕ) : Type 0 where

@@ -13,6 +13,8 @@ use Rattle.log_spot.specs.Begins.{suits, along, nothing, reach}
 use Rattle.log_spot.specs.Matching.{common}
 use Rattle.log_spot.proofs.FormLaws.{Goes, Onward}
 
+-- OF TWO TESTS THE FURTHER ONE
+
 -- bytes with which a test holds have it hold of their beginnings
 abbrev pub Closed : (List ℕ → Bool) → Type 0
 Closed f = (s t : List ℕ) → f (s ++ t) ≡ true → f s ≡ true
@@ -36,7 +38,7 @@ reach-length f (c ∷ s) = go (f (c ∷ [])) (reach-length (λ t. f (c ∷ t)) s
     go true r = omega arith
     go false r = omega arith
 
-pub reach-never : (s : List ℕ) → reach (λ t. false) s ≡ 0
+reach-never : (s : List ℕ) → reach (λ t. false) s ≡ 0
 unfolding reach
 reach-never [] = refl
 reach-never (c ∷ s) = refl
@@ -57,7 +59,7 @@ pub closed-both : (b : Bool) (f : List ℕ → Bool) → Closed f → Closed (λ
 closed-both true f h s t e = h s t e
 closed-both false f h s t e = e
 
-pub closed-either : (f g : List ℕ → Bool) → Closed f → Closed g → Closed (λ t. either (f t) (g t))
+closed-either : (f g : List ℕ → Bool) → Closed f → Closed g → Closed (λ t. either (f t) (g t))
 closed-either f g h k s t e = go (f (s ++ t)) (f s) refl refl e
   where
     go : (a b : Bool) → f (s ++ t) ≡ a → f s ≡ b → either a (g (s ++ t)) ≡ true → either b (g s) ≡ true
@@ -66,7 +68,7 @@ closed-either f g h k s t e = go (f (s ++ t)) (f s) refl refl e
     go false true p q e = refl
     go false false p q e = k s t e
 
-pub reach-either : (f g : List ℕ → Bool) (s : List ℕ) → Closed f → Closed g → reach (λ t. either (f t) (g t)) s ≡ max (reach f s) (reach g s)
+reach-either : (f g : List ℕ → Bool) (s : List ℕ) → Closed f → Closed g → reach (λ t. either (f t) (g t)) s ≡ max (reach f s) (reach g s)
 unfolding reach
 reach-either f g [] h k = refl
 reach-either f g (c ∷ s) h k =
@@ -86,7 +88,7 @@ reach-either f g (c ∷ s) h k =
         omega arith
     go false false p q r = refl
 
--- behind a form
+-- BEHIND A FORM
 
 along-start : (fs : List ℕ) (f : List ℕ → Bool) → f [] ≡ true → along fs f [] ≡ true
 unfolding along
@@ -94,11 +96,11 @@ along-start [] f e = e
 along-start (x ∷ fs) f e = refl
 
 module _ (x : ℕ) (fs : List ℕ) (f : List ℕ → Bool) (start : f [] ≡ true) (c : ℕ) (s : List ℕ) where
-  pub along-suits : suits x c ≡ true → reach (along (x ∷ fs) f) (c ∷ s) ≡ suc (reach (along fs f) s)
+  along-suits : suits x c ≡ true → reach (along (x ∷ fs) f) (c ∷ s) ≡ suc (reach (along fs f) s)
   unfolding reach along
   along-suits e = rw (e, along-start fs f start)
 
-  pub along-other : suits x c ≡ false → reach (along (x ∷ fs) f) (c ∷ s) ≡ 0
+  along-other : suits x c ≡ false → reach (along (x ∷ fs) f) (c ∷ s) ≡ 0
   unfolding reach along
   along-other e = rw e
 
@@ -137,7 +139,7 @@ reach-along (x ∷ fs) f (c ∷ s) h = go (suits x c) refl (reach-along fs f s h
         more false q = let l = ltb-false (common fs s) (length fs) q in rw (le-ltb (suc (common fs s)) (suc (length fs)) (omega arith)) (omega arith)
     go false e r = along-other x fs f h c s e ∙ rw (lt-ltb 0 (suc (length fs)) (omega arith))
 
--- of several tests the furthest
+-- OF SEVERAL TESTS THE FURTHEST
 
 unfoldable pub anyOf : List (List ℕ → Bool) → List ℕ → Bool
 anyOf [] s = false
@@ -161,7 +163,7 @@ unfolding anyOf most
 reach-any end s = reach-never s
 reach-any (also {f} {fs} h r) s = reach-either f (anyOf fs) s h (closed-any r) ∙ ap (max (reach f s)) (reach-any r s)
 
--- it is the first: with fewer bytes the test holds, with that one it does not
+-- IT IS THE FIRST: with fewer bytes the test holds, with that one it does not
 
 pub reach-before : (f : List ℕ → Bool) (s : List ℕ) (j : ℕ) → f [] ≡ true → j ≤ reach f s → f (take j s) ≡ true
 unfolding reach

@@ -15,12 +15,12 @@ use Rattle.text.specs.declared.Number.{Number}
 use Rattle.text.specs.declared.Number.the-variants.{Is, None}
 use Rattle.text.specs.Decimal.{digit, digits, formed, decimal}
 use Rattle.text.proofs.DecimalLaws.{formed-none, formed-one, formed-more}
-use Rattle.log_spot.specs.Begins.{suits, nothing, goesOn, number, reach}
+use Rattle.log_spot.specs.Begins.{suits, nothing, goesOn, beginsNumber, reach}
 use Rattle.log_spot.specs.Fault.{keyed, unfed, said}
 use Rattle.log_spot.specs.Matching.{common, allDigits}
 use Rattle.log_spot.proofs.ReachLaws.{reach-nothing, reach-length}
 
--- a form
+-- A FORM
 
 module _ (form l : List ℕ) (i : ℕ) (hf : i < length form) (hl : i < length l) where
   pub common-suits : suits (getD form i 0) (getD l i 0) ≡ true → common (drop i form) (drop i l) ≡ suc (common (drop (i + 1) form) (drop (i + 1) l))
@@ -53,18 +53,18 @@ common-length (f ∷ form) (c ∷ l) = go (suits f c) (common-length form l)
     go true r = omega arith
     go false r = omega arith
 
--- a decimal
+-- A DECIMAL
 
 module _ (lo hi n c : ℕ) (s : List ℕ) where
-  pub goes-fed : c ≡ 10 → lo ≤ n → reach (goesOn lo hi n) (c ∷ s) ≡ 1
+  goes-fed : c ≡ 10 → lo ≤ n → reach (goesOn lo hi n) (c ∷ s) ≡ 1
   unfolding reach goesOn nothing
   goes-fed e l = rw (eq-eqb c 10 e, le-leb lo n l) (ap suc (reach-nothing s))
 
-  pub goes-early : c ≡ 10 → n < lo → reach (goesOn lo hi n) (c ∷ s) ≡ 0
+  goes-early : c ≡ 10 → n < lo → reach (goesOn lo hi n) (c ∷ s) ≡ 0
   unfolding reach goesOn
   goes-early e l = rw (eq-eqb c 10 e, lt-leb lo n l)
 
-  pub goes-more : (c ≡ 10 → ⊥) → both (digit c) (both (ltb 0 n) (leb (n * 10 + (c - 48)) hi)) ≡ true
+  goes-more : (c ≡ 10 → ⊥) → both (digit c) (both (ltb 0 n) (leb (n * 10 + (c - 48)) hi)) ≡ true
       → reach (goesOn lo hi n) (c ∷ s) ≡ suc (reach (goesOn lo hi (n * 10 + (c - 48))) s)
   unfolding reach goesOn
   goes-more z e =
@@ -72,7 +72,7 @@ module _ (lo hi n c : ℕ) (s : List ℕ) where
       let f = both-right (digit c) _ e in
       rw (ne-eqb c 10 z, a, both-left (ltb 0 n) _ f, both-right (ltb 0 n) _ f)
 
-  pub goes-stop : (c ≡ 10 → ⊥) → both (digit c) (both (ltb 0 n) (leb (n * 10 + (c - 48)) hi)) ≡ false → reach (goesOn lo hi n) (c ∷ s) ≡ 0
+  goes-stop : (c ≡ 10 → ⊥) → both (digit c) (both (ltb 0 n) (leb (n * 10 + (c - 48)) hi)) ≡ false → reach (goesOn lo hi n) (c ∷ s) ≡ 0
   unfolding reach goesOn
   goes-stop z e = rw (ne-eqb c 10 z) (go (digit c) (ltb 0 n) (leb (n * 10 + (c - 48)) hi) e)
     where
@@ -83,15 +83,15 @@ module _ (lo hi n c : ℕ) (s : List ℕ) where
       go true false w e = refl
       go false y w e = refl
 
-  pub number-more : both (digit c) (both (leb (min lo 1) (c - 48)) (leb (c - 48) hi)) ≡ true → reach (number lo hi) (c ∷ s) ≡ suc (reach (goesOn lo hi (c - 48)) s)
-  unfolding reach number goesOn
+  number-more : both (digit c) (both (leb (min lo 1) (c - 48)) (leb (c - 48) hi)) ≡ true → reach (beginsNumber lo hi) (c ∷ s) ≡ suc (reach (goesOn lo hi (c - 48)) s)
+  unfolding reach beginsNumber goesOn
   number-more e =
       let a = both-left (digit c) _ e in
       let f = both-right (digit c) _ e in
       rw (a, both-left (leb (min lo 1) (c - 48)) _ f, both-right (leb (min lo 1) (c - 48)) _ f)
 
-  pub number-stop : both (digit c) (both (leb (min lo 1) (c - 48)) (leb (c - 48) hi)) ≡ false → reach (number lo hi) (c ∷ s) ≡ 0
-  unfolding reach number goesOn
+  number-stop : both (digit c) (both (leb (min lo 1) (c - 48)) (leb (c - 48) hi)) ≡ false → reach (beginsNumber lo hi) (c ∷ s) ≡ 0
+  unfolding reach beginsNumber goesOn
   number-stop e = go (digit c) (leb (min lo 1) (c - 48)) (leb (c - 48) hi) e
     where
       go : (x y w : Bool) → both x (both y w) ≡ false
@@ -122,28 +122,28 @@ unfolding reach
 at-end f s i h = rw (drop-of-length-le s h)
 
 module _ (lo hi : ℕ) (s : List ℕ) where
-  pub number-none : length s ≡ 0 → reach (number lo hi) s ≡ 0
-  number-none h = let l = reach-length (number lo hi) s in omega arith
+  pub number-none : length s ≡ 0 → reach (beginsNumber lo hi) s ≡ 0
+  number-none h = let l = reach-length (beginsNumber lo hi) s in omega arith
 
   pub number-digit : 1 ≤ length s → both (digit (getD s 0 0)) (both (leb (min lo 1) (getD s 0 0 - 48)) (leb (getD s 0 0 - 48) hi)) ≡ true
-      → reach (number lo hi) s ≡ 1 + reach (goesOn lo hi (getD s 0 0 - 48)) (drop 1 s)
+      → reach (beginsNumber lo hi) s ≡ 1 + reach (goesOn lo hi (getD s 0 0 - 48)) (drop 1 s)
   number-digit h e = go s h e
     where
       go : (s : List ℕ) → 1 ≤ length s → both (digit (getD s 0 0)) (both (leb (min lo 1) (getD s 0 0 - 48)) (leb (getD s 0 0 - 48) hi)) ≡ true
-          → reach (number lo hi) s ≡ 1 + reach (goesOn lo hi (getD s 0 0 - 48)) (drop 1 s)
+          → reach (beginsNumber lo hi) s ≡ 1 + reach (goesOn lo hi (getD s 0 0 - 48)) (drop 1 s)
       go [] h e = absurd (omega arith)
       go (c ∷ s) h e = number-more lo hi 0 c s e ∙ omega arith
 
   pub number-other : 1 ≤ length s → both (digit (getD s 0 0)) (both (leb (min lo 1) (getD s 0 0 - 48)) (leb (getD s 0 0 - 48) hi)) ≡ false
-      → reach (number lo hi) s ≡ 0
+      → reach (beginsNumber lo hi) s ≡ 0
   number-other h e = go s h e
     where
       go : (s : List ℕ) → 1 ≤ length s → both (digit (getD s 0 0)) (both (leb (min lo 1) (getD s 0 0 - 48)) (leb (getD s 0 0 - 48) hi)) ≡ false
-          → reach (number lo hi) s ≡ 0
+          → reach (beginsNumber lo hi) s ≡ 0
       go [] h e = absurd (omega arith)
       go (c ∷ s) h e = number-stop lo hi 0 c s e
 
--- `=`, and digits
+-- `=`, AND DIGITS
 
 module _ (s : List ℕ) (i : ℕ) (h : i < length s) where
   pub keyed-here : getD s i 0 ≡ 61 → keyed (drop i s) ≡ true
@@ -171,7 +171,7 @@ module _ (s : List ℕ) (i : ℕ) (h : length s ≤ i) where
   unfolding allDigits
   all-end = rw (drop-of-length-le s h)
 
--- a decimal of right shape
+-- A DECIMAL OF RIGHT SHAPE
 
 said-digits : (s : List ℕ) (n : ℕ) → said (digits n s) ≡ allDigits s
 unfolding said digits allDigits
@@ -200,7 +200,7 @@ module _ (s : List ℕ) where
   pub shape-more : (length s ≡ 0 → ⊥) → (length s ≡ 1 → ⊥) → (getD s 0 0 ≡ 48 → ⊥) → said (decimal s) ≡ allDigits s
   shape-more a b e = decimal-shape true (formed-more s a b ∙ ap not (ne-eqb (getD s 0 0) 48 e))
 
-  -- without its line feed
+  -- WITHOUT ITS LINE FEED
 
   pub unfed-none : length s ≡ 0 → s ≡ unfed s
   unfolding unfed

@@ -21,7 +21,7 @@ use Rattle.log_spot.proofs.ReachLaws.{reach-length}
 use Rattle.log_spot.proofs.RangeLaws.{far-enough}
 use Rattle.log_spot.proofs.FaultLaws.{zero-one, Came, fine, start, feed, key, range, shape, came, Fair, fair, may-fine, Starts, starts, by-four, by-seven, by-done, by-stop}
 
--- a line that is right says so, and is right wherever it is allowed
+-- A LINE THAT IS RIGHT SAYS SO, AND IS RIGHT WHEREVER IT IS ALLOWED
 
 pub record Told (st : Stand) (s : List ℕ) (l : Line) : Type 0 where
   pub says : lineOf s ≡ l
@@ -44,7 +44,7 @@ pub tell : (st : Stand) (s : List ℕ) (l : Line) → lineOf s ≡ l → allowed
 unfolding spotOf spotted
 tell st s l e a = rw (e, may-fine (keysOf st) l a)
 
--- which lines can be right where
+-- WHICH LINES CAN BE RIGHT WHERE
 
 pub data Goes (d : ℕ) : Line → Type 0 where
   act : {a : Act} → Goes d (One a)
@@ -107,7 +107,7 @@ alone-by m d l (turn (ends h)) = refl
 pub alone : (m : Bool) (d : ℕ) (s : List ℕ) (l : Line) → spotOf (Among m d) s ≡ Right l → spotOf (Alone m) s ≡ Right l
 alone m d s l e = tell (Alone m) s l (told (Among m d) s l e .says) (alone-by m d l (lets m d s l e))
 
--- a fault's number and byte are within bounds
+-- A FAULT'S NUMBER AND BYTE ARE WITHIN BOUNDS
 
 pub record Bounded (s : List ℕ) (n i : ℕ) : Type 0 where
   pub low : 4 ≤ n

@@ -25,7 +25,7 @@ use Rattle.text.proofs.KeyLaws.{starts-split}
 use Rattle.log_line.specs.declared.Act.the-variants.{Wait, Access}
 use Rattle.log_line.specs.declared.Line.{Line}
 use Rattle.log_line.specs.declared.Line.the-variants.{Header, Machine, One, Loop, Done, Stop, Bad}
-use Rattle.log_line.specs.Said.{counted, written, writeOf, waitOf, loopOf, stopOf, bodyOf, lineOf}
+use Rattle.log_line.specs.Said.{counted, written, writeOf, waitOf, loopOf, stopOf, unfedLine, lineOf}
 use Rattle.log_line.specs.Printed.{actText, ended, lineText, Printable, NoFeed, empty, byte, OneLine}
 use Rattle.log_line.proofs.BodyLaws.{line-feed}
 use Rattle.log_line.proofs.Forth.{Found, right, fault, line-found}
@@ -33,12 +33,9 @@ use Rattle.log_line.proofs.LineLaws.{printed-read, one-line}
 use Rattle.log_spot.specs.Fronts.{RightForm}
 use Rattle.log_spot.proofs.WriteLaws.{digit-of, WriteOf}
 
-bad-not : (k m : ℕ) (l : Line) → l ≡ Bad k → l ≡ Bad m → k ≡ m
-bad-not k m l e f = cc
+-- A WRITE WITH ANY REGISTER, READ
 
--- a write with any register, read
-
-ended-said : (s : List ℕ) → lineOf (ended s) ≡ bodyOf s
+ended-said : (s : List ℕ) → lineOf (ended s) ≡ unfedLine s
 unfolding ended
 ended-said s =
     let e : length (s ++ (10 ∷ [])) - 1 ≡ length s = omega (arith, length-append s (10 ∷ [])) in
@@ -48,13 +45,15 @@ fields-said : (r v : ℕ) → writeOf (hexText 4 r ++ (bytes ":" ++ hexText 2 v)
 unfolding writeOf hexText
 fields-said r v = refl
 
-body-said : (r v : ℕ) → bodyOf (actText (Access (Write r v))) ≡ written (hex 4 (hexText 4 r)) (hex 2 (hexText 2 v))
-unfolding bodyOf exactly startsWith actText
+body-said : (r v : ℕ) → unfedLine (actText (Access (Write r v))) ≡ written (hex 4 (hexText 4 r)) (hex 2 (hexText 2 v))
+unfolding unfedLine exactly startsWith actText
 body-said r v = fields-said r v
 
-pub write-said : (r v : ℕ) → r ≤ 0xffff → v ≤ 255 → lineOf (lineText (One (Access (Write r v)))) ≡ written (Is r) (Is v)
+write-said : (r v : ℕ) → r ≤ 0xffff → v ≤ 255 → lineOf (lineText (One (Access (Write r v)))) ≡ written (Is r) (Is v)
 unfolding lineText
 write-said r v h l = ended-said _ ∙ (body-said r v ∙ ap₂ written (hex-complete 4 r (omega arith)) (hex-complete 2 v (omega arith)))
+
+-- WHAT A LINE OF RIGHT FORM IS READ AS
 
 -- what a line of right form is read as: itself, or 4
 pub data Reads : Line → Line → Type 0 where
@@ -75,7 +74,7 @@ reads Done p = subst (Reads Done) (sym (printed-read Done p)) (itself p)
 reads (Stop n) p = subst (Reads (Stop n)) (sym (printed-read (Stop n) p)) (itself p)
 reads (Bad k) p = absurd p
 
--- and its text is one line
+-- ITS TEXT IS ONE LINE
 
 hex-no-feed : (x : ℕ) → hexByte (x % 16) ≡ 10 → ⊥
 unfolding hexDigit digit
@@ -92,7 +91,7 @@ write-clear r v =
     (byte (hex-no-feed _) (byte (hex-no-feed _) (byte (hex-no-feed _) (byte (hex-no-feed r)
     (byte (eqb-false 58 10 refl) (byte (hex-no-feed _) (byte (hex-no-feed v) empty))))))))))))
 
-pub form-line : (l : Line) → RightForm l → OneLine (lineText l)
+form-line : (l : Line) → RightForm l → OneLine (lineText l)
 unfolding lineText ended
 form-line Header p = one-line Header p
 form-line Machine p = one-line Machine p
@@ -138,7 +137,7 @@ whole-text l s rest p f e =
     let h : (t ++ (10 ∷ [])) ++ rest ≡ o .body ++ (10 ∷ []) = ap (λ (x : List ℕ). x ++ rest) (sym (feed-split s f)) ∙ (e ∙ o .is) in
     sym (append-nil s) ∙ (ap (λ (x : List ℕ). s ++ x) (sym (all-of t (o .body) rest (o .clear) h)) ∙ e)
 
--- what is read as 4 is the text of a write
+-- WHAT IS READ AS 4 IS THE TEXT OF A WRITE
 
 module _ (s : List ℕ) where
   abbrev Four : Line → Type 0
@@ -188,8 +187,8 @@ module _ (s : List ℕ) where
   plain-four : (l : Line) → (l ≡ Bad 4 → _≡_ {A = ℕ} 0 1) → Four l
   plain-four l h e = absurd (let z = h e in omega arith)
 
-  body-four : (t : List ℕ) → s ≡ ended t → Four (bodyOf t)
-  unfolding bodyOf waitOf loopOf stopOf
+  body-four : (t : List ℕ) → s ≡ ended t → Four (unfedLine t)
+  unfolding unfedLine waitOf loopOf stopOf
   body-four t q =
       pick-each Four (exactly (bytes "log=1") t) (λ e. plain-four Header (λ z. cc)) λ e.
       pick-each Four (startsWith (bytes "wait=") t) (λ e. counted-four (λ n. One (Wait n)) (λ n z. absurd (let w : _≡_ {A = ℕ} 0 1 = cc in omega arith)) _) λ e.
@@ -200,14 +199,14 @@ module _ (s : List ℕ) where
       pick-each Four (startsWith (bytes "stop=") t) (λ e. counted-four Stop (λ n z. absurd (let w : _≡_ {A = ℕ} 0 1 = cc in omega arith)) _) λ e.
       pick-each Four (exactly (bytes "machine=pal") t) (λ e. plain-four Machine (λ z. cc)) λ e. formless-four
 
-  pub line-four : lineOf s ≡ Bad 4 → WriteOf s
+  line-four : lineOf s ≡ Bad 4 → WriteOf s
   unfolding lineOf
   line-four =
       pick-each Four (eqb (getD s (length s - 1) 0) 10)
       (λ e. body-four (take (length s - 1) s) (feed-split s (eqb-true (getD s (length s - 1) 0) 10 e)))
       (λ e. formless-four)
 
--- lines of right form
+-- LINES OF RIGHT FORM
 
 register-fits : (r : ℕ) → isRegister r ≡ true → r ≤ 0xffff
 unfolding isRegister
@@ -220,7 +219,7 @@ register-fits r e = go (both (leb 0x4000 r) (leb r 0x4013)) refl (eqb r 0x4015) 
     go false p false q true t e = omega (arith, eqb-true r 0x4017 t)
     go false p false q false t e = absurd (false≢true e)
 
-pub printable-form : (l : Line) → Printable l → RightForm l
+printable-form : (l : Line) → Printable l → RightForm l
 printable-form Header p = p
 printable-form Machine p = p
 printable-form (One (Wait n)) p = p

@@ -43,27 +43,27 @@ goesOn lo hi n (c ∷ s) =
     (both (digit c) (both (ltb 0 n) (both (leb (n * 10 + (c - 48)) hi) (goesOn lo hi (n * 10 + (c - 48)) s))))
 
 -- s begins a decimal from lo to hi, with no leading zero, and its line feed: the first digit is 0 only if the number may be 0
-unfoldable pub number : ℕ → ℕ → List ℕ → Bool
-number lo hi [] = true
-number lo hi (c ∷ s) = both (digit c) (both (leb (min lo 1) (c - 48)) (both (leb (c - 48) hi) (goesOn lo hi (c - 48) s)))
+unfoldable pub beginsNumber : ℕ → ℕ → List ℕ → Bool
+beginsNumber lo hi [] = true
+beginsNumber lo hi (c ∷ s) = both (digit c) (both (leb (min lo 1) (c - 48)) (both (leb (c - 48) hi) (goesOn lo hi (c - 48) s)))
 
 -- one of the tests holds
-unfoldable pub any : List Bool → Bool
-any [] = false
-any (b ∷ bs) = either b (any bs)
+unfoldable pub anyTrue : List Bool → Bool
+anyTrue [] = false
+anyTrue (b ∷ bs) = either b (anyTrue bs)
 
 -- s begins a line that is allowed and right
 unfoldable pub begins : Keys → List ℕ → Bool
 begins k s =
-    any
+    anyTrue
     (both (k .log) (along (ended (bytes "log=1")) nothing s)
     ∷ both (k .machine) (along (ended (bytes "machine=pal")) nothing s)
-    ∷ both (k .acts) (along (bytes "wait=") (number 1 1000000) s)
+    ∷ both (k .acts) (along (bytes "wait=") (beginsNumber 1 1000000) s)
     ∷ both (k .acts) (along (ended (bytes "write=####:##")) nothing s)
     ∷ both (k .acts) (along (ended (bytes "read=4015")) nothing s)
-    ∷ both (k .loops) (along (bytes "loop=") (number 2 255) s)
+    ∷ both (k .loops) (along (bytes "loop=") (beginsNumber 2 255) s)
     ∷ both (k .done) (along (ended (bytes "done=loop")) nothing s)
-    ∷ both (k .stop) (along (bytes "stop=") (number 0 2000000000) s)
+    ∷ both (k .stop) (along (bytes "stop=") (beginsNumber 0 2000000000) s)
     ∷ [])
 
 -- the first byte of s with which f fails, s's length if there is none

@@ -13,26 +13,26 @@ use Rattle.text.specs.Hex.{hexDigit, hexValue, hexDigits, hex}
 use Rattle.log_line.specs.declared.Act.the-variants.{Access}
 use Rattle.log_line.specs.declared.Line.the-variants.{Header, Machine, One, Done, Stop}
 use Rattle.log_line.specs.Printed.{ended}
-use Rattle.log_line.specs.Said.{counted, written, writeOf, waitOf, loopOf, stopOf, bodyOf, lineOf}
+use Rattle.log_line.specs.Said.{counted, written, writeOf, waitOf, loopOf, stopOf, unfedLine, lineOf}
 use Rattle.log_spot.specs.declared.Stand.{Stand}
 use Rattle.log_spot.specs.declared.Stand.the-variants.{First, Among, Alone}
 use Rattle.log_spot.specs.declared.Found.{Found}
 use Rattle.log_spot.specs.declared.Found.the-variants.{Right, Wrong}
-use Rattle.log_spot.specs.Begins.{keysOf, suits, along, nothing, goesOn, number, any, begins, reach}
+use Rattle.log_spot.specs.Begins.{keysOf, suits, along, nothing, goesOn, beginsNumber, anyTrue, begins, reach}
 use Rattle.log_spot.specs.Fault.{wholeOf, keyed, unfed, said, counts, faultAt, spotted, spotOf}
 
 -- a line with its line feed, or at the log's end without one
-pub data Row : Type 0 where
-  line : Stand → List ℕ → Found → Row
-  last : Stand → List ℕ → Found → Row
+pub data LineRow : Type 0 where
+  line : Stand → List ℕ → Found → LineRow
+  last : Stand → List ℕ → Found → LineRow
 
 -- what is found of each line, and what is to be
-abbrev pub found : List Row → List Found
+abbrev pub found : List LineRow → List Found
 found [] = []
 found (line st s f ∷ rows) = spotOf st (ended s) ∷ found rows
 found (last st s f ∷ rows) = spotOf st s ∷ found rows
 
-abbrev pub expected : List Row → List Found
+abbrev pub expected : List LineRow → List Found
 expected [] = []
 expected (line st s f ∷ rows) = f ∷ expected rows
 expected (last st s f ∷ rows) = f ∷ expected rows
@@ -43,7 +43,7 @@ inside d = Among false d
 abbrev second : Stand
 second = Among true 0
 
-abbrev pub settled : List Row
+abbrev pub settled : List LineRow
 settled =
     last First (bytes "lo") (Wrong 17 2)
     ∷ last First (bytes "log=1") (Wrong 17 5)
@@ -138,5 +138,5 @@ settled =
     ∷ []
 
 pub settled-holds : found settled ≡ expected settled
-unfolding isRegister startsWith exactly within digit digits formed decimal hexDigit hexValue hexDigits hex ended counted written writeOf waitOf loopOf stopOf bodyOf lineOf keysOf suits along nothing goesOn number any begins reach wholeOf keyed unfed said counts faultAt spotted spotOf
+unfolding isRegister startsWith exactly within digit digits formed decimal hexDigit hexValue hexDigits hex ended counted written writeOf waitOf loopOf stopOf unfedLine lineOf keysOf suits along nothing goesOn beginsNumber anyTrue begins reach wholeOf keyed unfed said counts faultAt spotted spotOf
 settled-holds = refl

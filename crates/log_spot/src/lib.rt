@@ -6,7 +6,7 @@ ghost use lib.Dec.{ltb, leb};
 ghost use Rattle.arith.specs.Pick.{pick, both};
 ghost use Rattle.text.specs.Decimal.{digit, decimal};
 ghost use Rattle.text.specs.Hex.{hexDigit};
-ghost use Rattle.log_spot.specs.Begins.{keysOf, suits, along, goesOn, number, begins, reach};
+ghost use Rattle.log_spot.specs.Begins.{keysOf, suits, along, goesOn, beginsNumber, begins, reach};
 ghost use Rattle.log_spot.specs.Fault.{wholeOf, keyed, unfed, said, counts, faultAt, spotOf};
 ghost use Rattle.log_spot.specs.Matching.{common, allDigits};
 use log_line::Line;
@@ -177,7 +177,7 @@ fn number_from(s: &[u8], lo: u32, hi: u32, first: u64) -> usize
 
 // How many bytes of s begin a decimal from lo to hi, with its line feed.
 fn number_bytes(s: &[u8], lo: u32, hi: u32) -> usize
-    ensures { λ r. ⌜ r ≡ reach (number lo hi) (now (s .entry)) ⌝ }
+    ensures { λ r. ⌜ r ≡ reach (beginsNumber lo hi) (now (s .entry)) ⌝ }
 {
     if s.len() == 0 {
         return 0;
@@ -192,7 +192,7 @@ fn number_bytes(s: &[u8], lo: u32, hi: u32) -> usize
 
 // How many bytes of l begin a key with such a decimal.
 fn keyed_bytes(l: &[u8], key: &[u8], lo: u32, hi: u32) -> usize
-    ensures { λ r. ⌜ r ≡ reach (along (now (key .entry)) (number lo hi)) (now (l .entry)) ⌝ }
+    ensures { λ r. ⌜ r ≡ reach (along (now (key .entry)) (beginsNumber lo hi)) (now (l .entry)) ⌝ }
 {
     let n = common_bytes(l, key);
     if n < key.len() {

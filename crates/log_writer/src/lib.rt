@@ -11,12 +11,6 @@ use bus::Access;
 use log_line::Act;
 use log_line::Line;
 
-fn wide(x: u32) -> u64
-    ensures { λ r. ⌜ r ≡ x ⌝ }
-{
-    x as u64
-}
-
 // A key, a number in decimal and a line feed.
 fn keyed(out: &mut [u8], at: usize, key: &[u8], n: u64) -> usize
     requires { ⌜ at + length (now key ++ (decimalText n ++ (10 ∷ []))) ≤ length (now out) ⌝ }
@@ -54,7 +48,7 @@ fn act_line(out: &mut [u8], at: usize, a: Act) -> usize
     ensures { λ r. ⌜ Put (now (out .entry)) at (ended (actText a)) (now (out .exit)) r ⌝ }
 {
     match a {
-        Act::Wait(n) => keyed(out, at, b"wait=", wide(n)),
+        Act::Wait(n) => keyed(out, at, b"wait=", arith::wide_u32(n)),
         Act::Access(x) => access_line(out, at, x),
     }
 }
@@ -70,7 +64,7 @@ fn any_line(out: &mut [u8], at: usize, l: Line) -> usize
         Line::One(a) => act_line(out, at, a),
         Line::Loop(n) => keyed(out, at, b"loop=", n as u64),
         Line::Done => text_print::fixed(out, at, b"done=loop\n"),
-        Line::Stop(n) => keyed(out, at, b"stop=", wide(n)),
+        Line::Stop(n) => keyed(out, at, b"stop=", arith::wide_u32(n)),
         Line::Bad(_) => at,
     }
 }
@@ -88,7 +82,7 @@ fn act_length(a: Act) -> usize
     ensures { λ r. ⌜ (r ≡ length (ended (actText a))) × (r ≤ 16) ⌝ }
 {
     match a {
-        Act::Wait(n) => 6 + text_print::width(wide(n)),
+        Act::Wait(n) => 6 + text_print::width(arith::wide_u32(n)),
         Act::Access(x) => access_length(x),
     }
 }
@@ -103,7 +97,7 @@ pub fn line_length(l: Line) -> usize
         Line::One(a) => act_length(a),
         Line::Loop(n) => 6 + text_print::width(n as u64),
         Line::Done => 10,
-        Line::Stop(n) => 6 + text_print::width(wide(n)),
+        Line::Stop(n) => 6 + text_print::width(arith::wide_u32(n)),
         Line::Bad(_) => 0,
     }
 }

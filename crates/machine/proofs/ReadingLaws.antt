@@ -111,7 +111,7 @@ module _ {S : Type 0} (m : Machine S) where
       go false true ih = omega (arith, ih (unrecorded m p))
       go false false ih = omega (arith, ih (recorded m p), length-append (p .marks) (record { clock = p .done + 1; level = m .level (m .clock (p .state)) } ∷ []))
 
-  -- what a clock keeps, a reading keeps
+  -- WHAT A CLOCK KEEPS, A READING KEEPS
   pub reading-keeps : (P : S → Type 0) → ((s : S) → P s → P (m .clock s)) → (n : ℕ) (p : Progress S) → P (p .state) → P (reading m n p .state)
   unfolding reading worked
   reading-keeps P k zero p h = h
@@ -122,6 +122,8 @@ module _ {S : Type 0} (m : Machine S) where
       go true u ih = h
       go false true ih = ih _ (k (p .state) h)
       go false false ih = ih _ (k (p .state) h)
+
+  -- CLOCKS THAT LEAVE THE LEVEL, AND THE ONE BEHIND THEM
 
   -- g clocks that leave the level as it was
   abbrev pub Unchanged : ℕ → S → Type 0

@@ -3,7 +3,6 @@ use mathlib.Core.Path.{_≡_, refl, ap, sym, _∙_}
 use mathlib.Core.List.{List, [], _∷_}
 use Prim.Native.Nat.{ℕ, suc, _≤_, _<_}
 use native.Mathlib.Omega.{arith}
-use lib.ListN.{length}
 use Rattle.machine.specs.Saying.{Said, over, on, says, refused, Turn, Gives, ends, goes, gives}
 
 module _ {S A : Type 0} (step : S → Turn S A) where
@@ -27,13 +26,7 @@ module _ {S A : Type 0} (step : S → Turn S A) where
   pub by-over : {s s′ : S} (f : ℕ) → step s ≡ record { said = over; state = s′ } → 0 < f → Gives step s [] f
   by-over f e h = ends f (ap (λ (t : Turn S A). t .said) e) h
 
-  -- fewer things than steps
-  pub shorter : {s : S} {l : List A} {k : ℕ} → Gives step s l k → length l < k
-  shorter (ends j e p) = p
-  shorter (goes j e g p) = let i = shorter g in omega arith
-  shorter (gives j e g p) = let i = shorter g in omega arith
-
-  -- a machine gives one list
+  -- A MACHINE GIVES ONE LIST
   pub one-list : {s : S} {l m : List A} {j k : ℕ} → Gives step s l j → Gives step s m k → l ≡ m
   one-list (ends j e p) (ends k f q) = refl
   one-list (ends j e p) (goes k f h q) = let z : _≡_ {A = ℕ} 0 1 = cc in absurd (omega arith)

@@ -16,35 +16,35 @@ use Rattle.log_import.specs.Import.{importOf}
 use Rattle.log_import.proofs.FaultLaws.{answer-limits}
 use Rattle.perch_import.specs.declared.Part.{Part}
 use Rattle.perch_import.specs.declared.Part.the-variants as part
-use Rattle.perch_import.specs.File.{word, beginning, startOf, refusedText}
+use Rattle.perch_import.specs.File.{word, dataStart, commandsAt, refusedText}
 
 -- where the header says that the commands begin
 module _ (f : List ℕ) where
-  pub begins-early : either (ltb (word f 0x08) 0x150) (eqb (word f 0x34) 0) ≡ true → 0x40 ≡ beginning f
-  unfolding beginning
+  pub begins-early : either (ltb (word f 0x08) 0x150) (eqb (word f 0x34) 0) ≡ true → 0x40 ≡ dataStart f
+  unfolding dataStart
   begins-early e = rw e
 
-  pub begins-offset : either (ltb (word f 0x08) 0x150) (eqb (word f 0x34) 0) ≡ false → 0x34 + word f 0x34 ≡ beginning f
-  unfolding beginning
+  pub begins-offset : either (ltb (word f 0x08) 0x150) (eqb (word f 0x34) 0) ≡ false → 0x34 + word f 0x34 ≡ dataStart f
+  unfolding dataStart
   begins-offset e = rw e
 
   -- the part, test by test
-  pub start-none : (word f 0 ≡ word (bytes "Vgm ") 0 → ⊥) → part.NoVgm ≡ startOf f
-  unfolding startOf
+  pub start-none : (word f 0 ≡ word (bytes "Vgm ") 0 → ⊥) → part.NoVgm ≡ commandsAt f
+  unfolding commandsAt
   start-none e = rw (ne-eqb (word f 0) (word (bytes "Vgm ") 0) e)
 
   module _ (e : word f 0 ≡ word (bytes "Vgm ") 0) where
-    pub start-cut : length f < 0x40 → part.Cut ≡ startOf f
-    unfolding startOf
+    pub start-cut : length f < 0x40 → part.Cut ≡ commandsAt f
+    unfolding commandsAt
     start-cut l = rw (eq-eqb (word f 0) (word (bytes "Vgm ") 0) e, lt-ltb (length f) 0x40 l)
 
     module _ (l : 0x40 ≤ length f) where
-      pub start-from : both (leb 0x38 (beginning f)) (leb (beginning f) (length f)) ≡ true → part.From (beginning f) ≡ startOf f
-      unfolding startOf
+      pub start-from : both (leb 0x38 (dataStart f)) (leb (dataStart f) (length f)) ≡ true → part.From (dataStart f) ≡ commandsAt f
+      unfolding commandsAt
       start-from b = rw (eq-eqb (word f 0) (word (bytes "Vgm ") 0) e, le-ltb (length f) 0x40 l, b)
 
-      pub start-outside : both (leb 0x38 (beginning f)) (leb (beginning f) (length f)) ≡ false → part.Outside ≡ startOf f
-      unfolding startOf
+      pub start-outside : both (leb 0x38 (dataStart f)) (leb (dataStart f) (length f)) ≡ false → part.Outside ≡ commandsAt f
+      unfolding commandsAt
       start-outside b = rw (eq-eqb (word f 0) (word (bytes "Vgm ") 0) e, le-ltb (length f) 0x40 l, b)
 
 -- a part lies in its file
@@ -54,14 +54,14 @@ Inside f part.NoVgm = Unit {0}
 Inside f part.Cut = Unit {0}
 Inside f part.Outside = Unit {0}
 
-start-inside : (f : List ℕ) → Inside f (startOf f)
-unfolding startOf
+start-inside : (f : List ℕ) → Inside f (commandsAt f)
+unfolding commandsAt
 start-inside f =
     pick-both (Inside f) (not (eqb (word f 0) (word (bytes "Vgm ") 0))) tt
     (pick-both (Inside f) (ltb (length f) 0x40) tt
-    (pick-each (Inside f) (both (leb 0x38 (beginning f)) (leb (beginning f) (length f))) (λ e. leb-true (beginning f) (length f) (both-right (leb 0x38 (beginning f)) (leb (beginning f) (length f)) e)) (λ e. tt)))
+    (pick-each (Inside f) (both (leb 0x38 (dataStart f)) (leb (dataStart f) (length f))) (λ e. leb-true (dataStart f) (length f) (both-right (leb 0x38 (dataStart f)) (leb (dataStart f) (length f)) e)) (λ e. tt)))
 
-pub from-inside : (f : List ℕ) (p : ℕ) → startOf f ≡ part.From p → p ≤ length f
+pub from-inside : (f : List ℕ) (p : ℕ) → commandsAt f ≡ part.From p → p ≤ length f
 from-inside f p e = rw e at (start-inside f)
 
 -- the part from a start on

@@ -20,15 +20,15 @@ word file at = getD file at 0 + 2 ^ 8 * getD file (at + 1) 0 + 2 ^ 16 * getD fil
 
 -- "the data offset at $34, version below 1.50 at $40": the version is at $08, 1.50 is $150, and the offset counts from $34 on. An offset of 0, as some
 -- files of 1.50 have it, means $40 too
-unfoldable pub beginning : List ℕ → ℕ
-beginning file = pick (either (ltb (word file 0x08) 0x150) (eqb (word file 0x34) 0)) 0x40 (0x34 + word file 0x34)
+unfoldable pub dataStart : List ℕ → ℕ
+dataStart file = pick (either (ltb (word file 0x08) 0x150) (eqb (word file 0x34) 0)) 0x40 (0x34 + word file 0x34)
 
 -- a file begins with "Vgm "; its header is $40 bytes at least; the commands begin behind the offset and not behind the file's end
-unfoldable pub startOf : List ℕ → Part
-startOf file =
+unfoldable pub commandsAt : List ℕ → Part
+commandsAt file =
     pick (not (eqb (word file 0) (word (bytes "Vgm ") 0))) part.NoVgm
     (pick (ltb (length file) 0x40) part.Cut
-    (pick (both (leb 0x38 (beginning file)) (leb (beginning file) (length file))) (part.From (beginning file))
+    (pick (both (leb 0x38 (dataStart file)) (leb (dataStart file) (length file))) (part.From (dataStart file))
     part.Outside))
 
 -- "with the place in the file, not in the part": 25, 26 and 27 are at a byte; 9 and 28 are at none, and stay at 0

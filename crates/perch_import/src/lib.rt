@@ -5,7 +5,7 @@ ghost use Prim.Native.Nat.{_+_, _≤_, _<_};
 ghost use lib.ListN.{length, getD, drop};
 ghost use Rattle.text_print.specs.Printed.{printed, placed, Put};
 ghost use Rattle.log_import.specs.Import.{importOf, bufferOf};
-ghost use Rattle.perch_import.specs.File.{word, beginning, startOf, placeFrom, broughtFrom, broughtOf, leftIn, refusedText};
+ghost use Rattle.perch_import.specs.File.{word, dataStart, commandsAt, placeFrom, broughtFrom, broughtOf, leftIn, refusedText};
 use log_import::Imported;
 
 // The command part of a file: from where on it stands, or why there is none: it is no VGM file, its header is cut short, or its header points out of the file.
@@ -49,7 +49,7 @@ fn word_at(file: &[u8], at: usize) -> u64
 
 // Where the header says that the commands begin.
 fn begins_at(file: &[u8]) -> usize
-    ensures { λ r. ⌜ r ≡ beginning (now (file .entry)) ⌝ }
+    ensures { λ r. ⌜ r ≡ dataStart (now (file .entry)) ⌝ }
 {
     let version = word_at(file, 0x08);
     let offset = word_at(file, 0x34);
@@ -61,7 +61,7 @@ fn begins_at(file: &[u8]) -> usize
 
 // Where the commands begin.
 pub fn start(file: &[u8]) -> Part
-    ensures { λ r. ⌜ r ≡ startOf (now (file .entry)) ⌝ }
+    ensures { λ r. ⌜ r ≡ commandsAt (now (file .entry)) ⌝ }
 {
     if word_at(file, 0) != word_at(b"Vgm ", 0) {
         return Part::NoVgm;
@@ -112,8 +112,8 @@ fn import_from(file: &[u8], start: usize, out: &mut [u8]) -> Brought
 
 // Brings a file in as a log over the front of lent bytes. Where it isn't done the bytes stay.
 pub fn import_file(file: &[u8], out: &mut [u8]) -> Brought
-    ensures { λ r. ⌜ r ≡ broughtOf (startOf (now (file .entry))) (now (file .entry)) (length (now (out .entry))) ⌝ }
-    ensures { λ r. ⌜ now (out .exit) ≡ leftIn (startOf (now (file .entry))) (now (file .entry)) (now (out .entry)) ⌝ }
+    ensures { λ r. ⌜ r ≡ broughtOf (commandsAt (now (file .entry))) (now (file .entry)) (length (now (out .entry))) ⌝ }
+    ensures { λ r. ⌜ now (out .exit) ≡ leftIn (commandsAt (now (file .entry))) (now (file .entry)) (now (out .entry)) ⌝ }
 {
     let s = start(file);
     match s {

@@ -10,14 +10,14 @@ use Rattle.machine.specs.Saying.{Gives, ends, goes, gives}
 use Rattle.chip.specs.Range.{Bytes}
 use Rattle.play_meter.specs.declared.Answer.{Answer}
 use Rattle.play_meter.specs.declared.waits.Gauge.{Gauge}
-use Rattle.play_meter.specs.Meters.{Stretch, logMeter}
+use Rattle.play_meter.specs.Meters.{WaitMeter, logMeter}
 use Rattle.play_meter.specs.Passing.{gaugeStart, passOf}
 use Rattle.play_meter.proofs.WaitLaws.{waits-said}
 use Rattle.play_meter.proofs.WalkLaws.{meter-is}
 use Rattle.perch_meter.specs.Text.{meterText, waitLine, waitsText, meterWaitsText, nextText, stepsText}
 
 module _ (log memory : List ℕ) where
-  said-text : {g : Gauge} {l : List Stretch} {k : ℕ} → Gives (passOf log memory) g l k → (f : ℕ) → k ≤ f → stepsText log memory f g ≡ waitsText l
+  said-text : {g : Gauge} {l : List WaitMeter} {k : ℕ} → Gives (passOf log memory) g l k → (f : ℕ) → k ≤ f → stepsText log memory f g ≡ waitsText l
   unfolding stepsText waitsText nextText
   said-text (ends k e p) zero h = absurd (omega arith)
   said-text (goes k e t p) zero h = absurd (omega arith)

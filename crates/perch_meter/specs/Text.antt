@@ -15,8 +15,8 @@ use Rattle.run_meter.specs.declared.Measured.the-variants.{Refused, NoLevels, S
 use Rattle.play_meter.specs.declared.Answer.{Answer}
 use Rattle.play_meter.specs.declared.waits.Gauge.{Gauge}
 use Rattle.play_meter.specs.declared.waits.Next.{Next}
-use Rattle.play_meter.specs.Meters.{Stretch, waitsFrom, logMeter}
-use Rattle.play_meter.specs.Passing.{nextOf, passOf}
+use Rattle.play_meter.specs.Meters.{WaitMeter, waitsFrom, logMeter}
+use Rattle.play_meter.specs.Passing.{passNext, passOf}
 
 -- a key and a number
 unfoldable pub numbered : List ℕ → ℕ → List ℕ
@@ -55,7 +55,7 @@ unfoldable pub waitLine : ℕ → ℕ → Measured → List ℕ
 waitLine time clocks m =
     bytes "wait=" ++ (decimalText time ++ (bytes ":" ++ (decimalText clocks ++ (bytes ":" ++ (meterWord m ++ bytes "\n")))))
 
-unfoldable pub waitsText : List Stretch → List ℕ
+unfoldable pub waitsText : List WaitMeter → List ℕ
 waitsText [] = []
 waitsText (x ∷ l) = waitLine (x .time) (x .clocks) (x .meter) ++ waitsText l
 
@@ -80,5 +80,5 @@ isOver (Next.Wait time clocks m) = false
 unfoldable pub stepsText : List ℕ → List ℕ → ℕ → Gauge → List ℕ
 stepsText log memory zero g = []
 stepsText log memory (suc n) g =
-    nextText (nextOf (passOf log memory g .said))
-    ++ pick (isOver (nextOf (passOf log memory g .said))) [] (stepsText log memory n (passOf log memory g .state))
+    nextText (passNext (passOf log memory g .said))
+    ++ pick (isOver (passNext (passOf log memory g .said))) [] (stepsText log memory n (passOf log memory g .state))

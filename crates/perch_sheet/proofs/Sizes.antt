@@ -11,14 +11,14 @@ use Rattle.text_print.proofs.StoreLaws.{length-four}
 use Rattle.play_text.proofs.TextLaws.{decimal-three, decimal-ten}
 use Rattle.chip_dmc.specs.Clock.{byteAt, nextAddress, levelMoved}
 use Rattle.chip_dmc.proofs.RangeLaws.{level-moved-most}
-use Rattle.chip_sheet.specs.Byte.{stepsOf, eightSteps}
-use Rattle.chip_sheet.specs.Sheet.{levelsOf}
+use Rattle.chip_sheet.specs.Byte.{lowSteps, eightSteps}
+use Rattle.chip_sheet.specs.Sheet.{sheetLevels}
 use Rattle.chip_sheet.proofs.Refusals.{done}
-use Rattle.perch_sheet.specs.Report.{levelLine, levelLines, refusedLine, numberOf, outcomeText, sheetText}
+use Rattle.perch_sheet.specs.Report.{levelLine, levelLines, refusedLine, sheetRefusal, outcomeText, sheetText}
 
 -- a level stays at most 127
-steps-most : (k byte level : ℕ) → level ≤ 127 → stepsOf k byte level ≤ 127
-unfolding stepsOf
+steps-most : (k byte level : ℕ) → level ≤ 127 → lowSteps k byte level ≤ 127
+unfolding lowSteps
 steps-most zero byte level h = h
 steps-most (suc k) byte level h = steps-most k (byte / 2) (levelMoved byte level) (level-moved-most byte level h)
 
@@ -27,8 +27,8 @@ unfolding levelLine
 line-size address level h = simp length-append (omega (arith, length-four address, decimal-three level (omega arith)))
 
 -- nine bytes hold a line
-lines-size : (memory : List ℕ) (n at address level : ℕ) → level ≤ 127 → length (levelLines at (levelsOf memory n address level)) ≤ 9 * n
-unfolding levelsOf levelLines
+lines-size : (memory : List ℕ) (n at address level : ℕ) → level ≤ 127 → length (levelLines at (sheetLevels memory n address level)) ≤ 9 * n
+unfolding sheetLevels levelLines
 lines-size memory zero at address level h = omega arith
 lines-size memory (suc n) at address level h =
     let l = eightSteps (byteAt memory address) level in
@@ -42,11 +42,11 @@ refused-size number = simp length-append (omega (arith, decimal-ten number))
 outcome-size : (memory : List ℕ) (level address n : ℕ) → length (outcomeText memory level address n) ≤ 36729
 unfolding outcomeText
 outcome-size memory level address n =
-    pick-each (λ (t : List ℕ). length t ≤ 36729) (eqb (numberOf memory level address n) 0)
+    pick-each (λ (t : List ℕ). length t ≤ 36729) (eqb (sheetRefusal memory level address n) 0)
     (λ e.
     let d = done memory level address n 4081 (eqb-true _ _ e) in
     omega (arith, d .length-most, lines-size memory n address address level (d .level-most)))
-    (λ e. omega (arith, refused-size (numberOf memory level address n)))
+    (λ e. omega (arith, refused-size (sheetRefusal memory level address n)))
 
 -- 40,000 bytes hold the text about any bytes and numbers
 pub sheet-size : (memory : List ℕ) (level address n : ℕ) → length (sheetText memory level address n) ≤ 40000

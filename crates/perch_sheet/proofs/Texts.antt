@@ -15,16 +15,16 @@ use Rattle.text_print.proofs.StoreLaws.{sets-append}
 use Rattle.text_print.proofs.PieceLaws.{put-last}
 use Rattle.perch_place.proofs.Pieces.{room-first, room-rest, put-then}
 use Rattle.chip_dmc.specs.Clock.{nextAddress}
-use Rattle.chip_sheet.specs.Sheet.{levelsOf, sheetAnswer, sheetBuffer}
+use Rattle.chip_sheet.specs.Sheet.{sheetLevels, sheetAnswer, sheetBuffer}
 use Rattle.chip_sheet.specs.declared.Written.{Written}
 use Rattle.chip_sheet.proofs.Levels.{levels-long}
 use Rattle.chip_sheet.proofs.Refusals.{done}
-use Rattle.perch_sheet.specs.Report.{levelLine, levelLines, refusedLine, numberOf, outcomeText, sheetText}
+use Rattle.perch_sheet.specs.Report.{levelLine, levelLines, refusedLine, sheetRefusal, outcomeText, sheetText}
 use Rattle.perch_sheet.proofs.Sizes.{sheet-size}
 
 -- the lines
 
-pub lines-none : (a : ℕ) → levelLines a [] ≡ []
+lines-none : (a : ℕ) → levelLines a [] ≡ []
 unfolding levelLines
 lines-none a = refl
 
@@ -64,15 +64,15 @@ module _ (a : ℕ) (s : List ℕ) (i : ℕ) where
 
 module _ (memory : List ℕ) (level address n : ℕ) where
   module _ (buffer : List ℕ) (long : length buffer ≡ 4081) (w : Written) (e : w ≡ sheetAnswer memory level address n buffer) where
-    number-is : sheetAnswer memory level address n buffer .number ≡ numberOf memory level address n
+    number-is : sheetAnswer memory level address n buffer .number ≡ sheetRefusal memory level address n
     unfolding sheetAnswer
     number-is =
         rw long
-        (pick-each (λ (v : Written). v .number ≡ numberOf memory level address n) (eqb (numberOf memory level address n) 0)
+        (pick-each (λ (v : Written). v .number ≡ sheetRefusal memory level address n) (eqb (sheetRefusal memory level address n) 0)
         (λ z. sym (eqb-true _ _ z))
         (λ z. refl))
 
-    number : w .number ≡ numberOf memory level address n
+    number : w .number ≡ sheetRefusal memory level address n
     number = ap (λ (v : Written). v .number) e ∙ number-is
 
     -- what a refusal brings
@@ -81,16 +81,16 @@ module _ (memory : List ℕ) (level address n : ℕ) where
     text-refused h = rw (← number, ne-eqb (w .number) 0 h)
 
     module _ (z : w .number ≡ 0) where
-      none : numberOf memory level address n ≡ 0
+      none : sheetRefusal memory level address n ≡ 0
       none = sym number ∙ z
 
-      drawn-text : sheetText memory level address n ≡ bytes "sheet=1\n" ++ levelLines address (levelsOf memory n address level)
+      drawn-text : sheetText memory level address n ≡ bytes "sheet=1\n" ++ levelLines address (sheetLevels memory n address level)
       unfolding sheetText outcomeText
-      drawn-text = rw (eq-eqb (numberOf memory level address n) 0 none)
+      drawn-text = rw (eq-eqb (sheetRefusal memory level address n) 0 none)
 
       length-drawn : w .length ≡ n
       unfolding sheetAnswer
-      length-drawn = ap (λ (v : Written). v .length) e ∙ (rw (long, eq-eqb (numberOf memory level address n) 0 none) refl)
+      length-drawn = ap (λ (v : Written). v .length) e ∙ (rw (long, eq-eqb (sheetRefusal memory level address n) 0 none) refl)
 
       pub length-most : w .length ≤ 4081
       length-most = rw length-drawn (done memory level address n 4081 none .length-most)
@@ -100,11 +100,11 @@ module _ (memory : List ℕ) (level address n : ℕ) where
 
       -- the levels are at the front of the buffer, as many as asked for
       module _ (after : List ℕ) (f : after ≡ sheetBuffer memory level address n buffer) where
-        levels-drawn : take (w .length) after ≡ levelsOf memory n address level
+        levels-drawn : take (w .length) after ≡ sheetLevels memory n address level
         unfolding sheetBuffer
         levels-drawn =
-            rw (f, length-drawn, long, eq-eqb (numberOf memory level address n) 0 none)
-            (take-at (levelsOf memory n address level) (drop n buffer) n (levels-long memory n address level))
+            rw (f, length-drawn, long, eq-eqb (sheetRefusal memory level address n) 0 none)
+            (take-at (sheetLevels memory n address level) (drop n buffer) n (levels-long memory n address level))
 
         pub levels-taken : w .length ≡ length (take (w .length) after)
         levels-taken = length-drawn ∙ sym (ap length levels-drawn ∙ levels-long memory n address level)

@@ -7,7 +7,7 @@ use Rattle.text.specs.Ascii.{bytes}
 use Rattle.text.specs.Decimal.{decimalText}
 use Rattle.text.specs.Hex.{hexText}
 use Rattle.chip_dmc.specs.Clock.{nextAddress}
-use Rattle.chip_sheet.specs.Sheet.{levelsOf, sheetNumber}
+use Rattle.chip_sheet.specs.Sheet.{sheetLevels, sheetNumber}
 
 -- "the address in hex and the level": `c000:12`
 unfoldable pub levelLine : ℕ → ℕ → List ℕ
@@ -23,15 +23,15 @@ unfoldable pub refusedLine : ℕ → List ℕ
 refusedLine number = bytes "refused=" ++ (decimalText number ++ bytes "\n")
 
 -- the refusal, or 0, of a sheet in 4081 bytes: no right length needs more, so 23 is never given
-abbrev pub numberOf : List ℕ → ℕ → ℕ → ℕ → ℕ
-numberOf memory level address n = sheetNumber memory level address n 4081
+abbrev pub sheetRefusal : List ℕ → ℕ → ℕ → ℕ → ℕ
+sheetRefusal memory level address n = sheetNumber memory level address n 4081
 
 -- the levels' lines, or the refusal
 unfoldable pub outcomeText : List ℕ → ℕ → ℕ → ℕ → List ℕ
 outcomeText memory level address n =
-    pick (eqb (numberOf memory level address n) 0)
-    (levelLines address (levelsOf memory n address level))
-    (refusedLine (numberOf memory level address n))
+    pick (eqb (sheetRefusal memory level address n) 0)
+    (levelLines address (sheetLevels memory n address level))
+    (refusedLine (sheetRefusal memory level address n))
 
 -- the whole text; each of its lines ends in one line feed
 unfoldable pub sheetText : List ℕ → ℕ → ℕ → ℕ → List ℕ

@@ -2,7 +2,7 @@
 // pieces. Bytes that are no player's are refused, and stay.
 ghost use mathlib.Core.Path.{_≡_};
 ghost use Rattle.text_print.specs.Printed.{printed};
-ghost use Rattle.play_text.specs.Notes.{refusalText};
+ghost use Rattle.play_text.specs.Entries.{refusalText};
 ghost use Rattle.c_player.specs.Player.{playerSize};
 ghost use Rattle.c_play.specs.Players.{beginPacked, beginBytes, Continued, refusalPacked};
 

@@ -13,9 +13,9 @@ use borrow.Author.Tests.{eqb-true, eqb-false, leb-true, leb-false}
 use Rattle.arith.specs.Pick.{pick, both}
 use Rattle.machine.specs.Saying.{over, refused}
 use Rattle.chip.specs.Range.{inRange}
-use Rattle.play_text.specs.declared.Note.{Note}
-use Rattle.play_text.specs.Notes.{notesText}
-use Rattle.play_text.proofs.TextLaws.{notes-append, notes-none, notes-empty}
+use Rattle.play_text.specs.declared.Entry.{Entry}
+use Rattle.play_text.specs.Entries.{entriesText}
+use Rattle.play_text.proofs.TextLaws.{entries-append, entries-none, entries-empty}
 use Rattle.play_model.specs.declared.Player.{Player}
 use Rattle.play_model.specs.Turns.{Go, turnOf, Goes, here, quietly, saying}
 use Rattle.play_step.specs.declared.Taken.{Taken}
@@ -27,9 +27,11 @@ use Rattle.play.specs.Playing.{Answered}
 pub no-flag : {A : Type 0} → _≡_ {A = Bool} false true → A
 no-flag e = absurd (let z : _≡_ {A = ℕ} 0 1 = cc in omega arith)
 
+-- LINES JOINED, AND A TEXT OVER A BUFFER
+
 -- from a player to another, and on to a third
 module _ (turn : Player → Go) where
-  pub goes-on : {p q r : Player} {a b : List Note} {m n : ℕ} → Goes turn p a m q → Goes turn q b n r → Goes turn p (a ++ b) (m + n) r
+  goes-on : {p q r : Player} {a b : List Entry} {m n : ℕ} → Goes turn p a m q → Goes turn q b n r → Goes turn p (a ++ b) (m + n) r
   goes-on {n = n} here g = rw zero-add g
   goes-on {n = n} (quietly {n = k} e h) g = rw suc-add (quietly e (goes-on h g))
   goes-on {n = n} (saying {n = k} e h) g = rw suc-add (saying e (goes-on h g))
@@ -45,17 +47,18 @@ module _ (b v : List ℕ) (at : ℕ) (h : at + length v ≤ length b) where
   sets-behind : drop (at + length v) (sets b at v) ≡ drop (at + length v) b
   sets-behind = ap (drop (at + length v)) (sets-eq v b at h) ∙ drop-at (take at b ++ v) (drop (at + length v) b) (at + length v) front-long
 
+-- WHAT THE LOOP HOLDS
 module _ (log memory : List ℕ) (p₀ : Player) (before : List ℕ) where
   -- so far: the player q, `at` bytes written, behind `least` turns or more
   pub record Going (q : Player) (at least : ℕ) (out : List ℕ) : Type 0 where
-    pub notes : List Note
+    pub entries : List Entry
     pub turns : ℕ
     pub fits : at ≤ length before
     pub long : length out ≡ length before
-    pub size : at ≡ length (notesText notes)
-    pub piece : take at out ≡ notesText notes
+    pub size : at ≡ length (entriesText entries)
+    pub piece : take at out ≡ entriesText entries
     pub rest : drop at out ≡ drop at before
-    pub went : Goes (turnOf log memory) p₀ notes turns q
+    pub went : Goes (turnOf log memory) p₀ entries turns q
     pub many : least ≤ turns
     pub fine : inRange (q .state) ≡ true
 
@@ -72,12 +75,12 @@ module _ (log memory : List ℕ) (p₀ : Player) (before : List ℕ) where
   going-start : inRange (p₀ .state) ≡ true → Going p₀ 0 0 before
   going-start f =
       record {
-        notes = [];
+        entries = [];
         turns = 0;
         fits = omega arith;
         long = refl;
-        size = rw notes-none (refl);
-        piece = sym notes-none;
+        size = rw entries-none (refl);
+        piece = sym entries-none;
         rest = refl;
         went = here;
         many = omega arith;
@@ -101,7 +104,7 @@ module _ (log memory : List ℕ) (p₀ : Player) (before : List ℕ) where
   going-on : (q : Player) (at least : ℕ) (out : List ℕ) → Going q at least out → (after : List ℕ) (r : Taken) → Moved (turnOf log memory) q at out after r
       → Going (r .player) (r .at) (least + 1) after
   going-on q at least out g after r m =
-      let v = notesText (m .notes) in
+      let v = entriesText (m .entries) in
       let l = g .long in
       let f = m .fits in
       let j = g .size in
@@ -109,12 +112,12 @@ module _ (log memory : List ℕ) (p₀ : Player) (before : List ℕ) where
       let t = m .some in
       rw (m .place, m .bytes)
       (record {
-        notes = g .notes ++ m .notes;
+        entries = g .entries ++ m .entries;
         turns = g .turns + m .turns;
         fits = omega arith;
         long = length-sets out at v ∙ g .long;
-        size = rw (notes-append, length-append) (omega arith);
-        piece = sets-front out v at f ∙ rw (g .piece, notes-append) (refl);
+        size = rw (entries-append, length-append) (omega arith);
+        piece = sets-front out v at f ∙ rw (g .piece, entries-append) (refl);
         rest = sets-behind out v at f ∙ (sym (drop-drop (length v) at out) ∙ (ap (drop (length v)) (g .rest) ∙ drop-drop (length v) at before));
         went = goes-on (turnOf log memory) (g .went) (m .goes);
         many = omega arith;
@@ -122,7 +125,7 @@ module _ (log memory : List ℕ) (p₀ : Player) (before : List ℕ) where
       })
 
   module _ (t : Taken) (steps : ℕ) (out : List ℕ) (s : Standing t steps out) where
-    -- a step on
+    -- A STEP ON KEEPS IT
     module _ (k : t .kind ≡ 0) (room : t .at + 23 ≤ length out) (after : List ℕ) (r : Taken) (e : Took (turnOf log memory) (t .player) (t .at) out after r) where
       busy : length before < 23 → r .player ≡ p₀
       busy h = let l = s .going .long in absurd (omega arith)
@@ -178,14 +181,15 @@ module _ (log memory : List ℕ) (p₀ : Player) (before : List ℕ) where
           by (suc zero) h = over-here h
           by (suc (suc z)) h = halted-here (let m = e .kinds in omega arith)
 
-    no-notes : s .going .notes ≡ [] → t .at ≡ 0
-    no-notes e = s .going .size ∙ (ap (λ (l : List Note). length (notesText l)) e ∙ ap length notes-none)
+    -- WHAT IT ANSWERS
+    no-entries : s .going .entries ≡ [] → t .at ≡ 0
+    no-entries e = s .going .size ∙ (ap (λ (l : List Entry). length (entriesText l)) e ∙ ap length entries-none)
 
     -- the refusal, with nothing written
     at-refusal : t .kind ≡ 2 → t .at ≡ 0 → Answered log memory p₀ before out (record { number = t .number; place = t .place; player = p₀; length = 0; over = false })
     at-refusal k e =
         let g = s .going in
-        let n : g .notes ≡ [] = notes-empty (g .notes) (sym (g .size) ∙ e) in
+        let n : g .entries ≡ [] = entries-empty (g .entries) (sym (g .size) ∙ e) in
         inr (
           record { turns = g .turns; at = t .player; went = rw n at (g .went); refuses = s .halted k },
           record { answer = refl; stays = rw e at (g .rest) },
@@ -200,7 +204,7 @@ module _ (log memory : List ℕ) (p₀ : Player) (before : List ℕ) where
           refl,
           refl,
           record {
-            notes = g .notes;
+            entries = g .entries;
             turns = g .turns;
             fits = g .fits;
             piece = g .piece;
@@ -212,20 +216,20 @@ module _ (log memory : List ℕ) (p₀ : Player) (before : List ℕ) where
           },
         )
       where
-        short : s .going .notes ≡ [] → (t .kind ≡ 1 → ⊥) → ((length before < 23) × (t .player ≡ p₀)) ⊎ (4000010 ≤ s .going .turns)
+        short : s .going .entries ≡ [] → (t .kind ≡ 1 → ⊥) → ((length before < 23) × (t .player ≡ p₀)) ⊎ (4000010 ≤ s .going .turns)
         short e n = by (t .kind) refl (leb 4000010 steps) refl
           where
             by : (k : ℕ) → t .kind ≡ k → (b : Bool) → leb 4000010 steps ≡ b → ((length before < 23) × (t .player ≡ p₀)) ⊎ (4000010 ≤ s .going .turns)
             by zero h true c = let l = leb-true 4000010 steps c in let m = s .counted h in let n = s .going .many in inr (omega arith)
             by zero h false c =
                 let l = leb-false 4000010 steps c in
-                let a = no-notes e in
+                let a = no-entries e in
                 let f = full h (omega arith) in
                 let g = s .going .long in
                 let small : length before < 23 = omega arith in
                 inl (small, s .idle small)
             by (suc zero) h b c = absurd (n h)
-            by (suc (suc k)) h b c = absurd (some (let m = s .kinds in omega arith) (no-notes e))
+            by (suc (suc k)) h b c = absurd (some (let m = s .kinds in omega arith) (no-entries e))
 
     pub standing-answer : (t .kind ≡ 0 → steps < 4000010 → length out < t .at + 23) → (r : Played) → r ≡ answerOf p₀ t → Answered log memory p₀ before out r
     unfolding answerOf

@@ -15,29 +15,29 @@ use Rattle.log_judge.specs.Whole.{treeOf, checkOf}
 use Rattle.chip_api.specs.Answer.{isMemory}
 use Rattle.chip.specs.Range.{inRange}
 use Rattle.chip.proofs.RangeLaws.{power-on-in}
-use Rattle.play_text.specs.declared.Note.{Note}
-use Rattle.play_text.specs.Notes.{notesText}
-use Rattle.play_text.proofs.TextLaws.{notes-append, notes-none, notes-empty}
+use Rattle.play_text.specs.declared.Entry.{Entry}
+use Rattle.play_text.specs.Entries.{entriesText}
+use Rattle.play_text.proofs.TextLaws.{entries-append, entries-none, entries-empty}
 use Rattle.play_model.specs.declared.Player.{Player}
-use Rattle.play_model.specs.Sound.{notesOf}
+use Rattle.play_model.specs.Sound.{entriesOf}
 use Rattle.play_model.specs.Turns.{freshPlayer, turnOf}
 use Rattle.play_model.proofs.Saying.{Told, fresh-told}
 use Rattle.play_model.proofs.TellLaws.{Left, left, never-refused, over-none}
 use Rattle.play.specs.declared.Played.{Played}
 use Rattle.play.specs.Playing.{Piece, Answered, PlayedOn}
-use Rattle.play.specs.Whole.{playNumber, playText}
+use Rattle.play_begin.specs.Whole.{playNumber, playText}
 use Rattle.play.specs.Calls.{Calls, none, call}
 
 module _ (log memory : List ℕ) where
-  -- what a list of calls has come to
+  -- WHAT A LIST OF CALLS HAS COME TO
   pub record Part (text : List ℕ) (n : ℕ) (q : Player) (o : Bool) : Type 0 where
-    pub written : List Note
-    pub rest : List Note
+    pub written : List Entry
+    pub rest : List Entry
     pub within : ℕ
     pub told : Told log memory q rest within
     pub low : within < 4000010
-    pub whole : notesOf (machineOf log) memory (acts (treeOf log)) ≡ written ++ rest
-    pub said : text ≡ notesText written
+    pub whole : entriesOf (machineOf log) memory (acts (treeOf log)) ≡ written ++ rest
+    pub said : text ≡ entriesText written
     pub fine : inRange (q .state) ≡ true
     pub done : o ≡ true → rest ≡ []
     pub count : o ≡ false → n ≤ length written
@@ -46,7 +46,7 @@ module _ (log memory : List ℕ) where
   unfolding PlayedOn
   answered q before after r m f pl = rw (m, f) at pl
 
-  -- a call on: never refused, and with 23 bytes or more a line or the end
+  -- A CALL ON: never refused, and with 23 bytes or more a line or the end
   pub record Next (text : List ℕ) (n : ℕ) (before after : List ℕ) (r : Played) : Type 0 where
     pub number : r .number ≡ 0
     pub place : r .place ≡ 0
@@ -61,13 +61,13 @@ module _ (log memory : List ℕ) where
         place = place;
         part =
             record {
-              written = p .written ++ a .notes;
+              written = p .written ++ a .entries;
               rest = i .rest;
               within = i .within;
               told = i .told;
               low = i .low;
-              whole = p .whole ∙ (ap (λ (l : List Note). p .written ++ l) (i .joined) ∙ sym (append-assoc (p .written) (a .notes) (i .rest)));
-              said = ap₂ (λ (x y : List ℕ). x ++ y) (p .said) (a .piece) ∙ sym (notes-append (p .written) (a .notes));
+              whole = p .whole ∙ (ap (λ (l : List Entry). p .written ++ l) (i .joined) ∙ sym (append-assoc (p .written) (a .entries) (i .rest)));
+              said = ap₂ (λ (x y : List ℕ). x ++ y) (p .said) (a .piece) ∙ sym (entries-append (p .written) (a .entries));
               fine = a .fine;
               done = λ e. over-none (turnOf log memory) (i .told) (a .over e);
               count = λ e. rw length-append (counted i (leb 23 (length before)) refl e);
@@ -75,32 +75,32 @@ module _ (log memory : List ℕ) where
         line = λ w e. long i w e;
       }
     where
-      some : Left (turnOf log memory) (r .player) (p .rest) (a .notes) (a .turns) (p .within) → 23 ≤ length before → r .over ≡ false → (l : List Note) → a .notes ≡ l → 0 < length l
+      some : Left (turnOf log memory) (r .player) (p .rest) (a .entries) (a .turns) (p .within) → 23 ≤ length before → r .over ≡ false → (l : List Entry) → a .entries ≡ l → 0 < length l
       some i w e (x ∷ l) h = omega arith
       some i w e [] h = by (a .gets h e)
         where
-          by : ((length before < 23) × (r .player ≡ q)) ⊎ (4000010 ≤ a .turns) → 0 < length {A = Note} []
+          by : ((length before < 23) × (r .player ≡ q)) ⊎ (4000010 ≤ a .turns) → 0 < length {A = Entry} []
           by (inl x) = let y = x .0 in absurd (omega arith)
           by (inr x) = let f = i .few h in let y = p .low in absurd (omega arith)
 
-      counted : Left (turnOf log memory) (r .player) (p .rest) (a .notes) (a .turns) (p .within) → (b : Bool) → leb 23 (length before) ≡ b → r .over ≡ false
-          → pick b (n + 1) n ≤ length (p .written) + length (a .notes)
+      counted : Left (turnOf log memory) (r .player) (p .rest) (a .entries) (a .turns) (p .within) → (b : Bool) → leb 23 (length before) ≡ b → r .over ≡ false
+          → pick b (n + 1) n ≤ length (p .written) + length (a .entries)
       counted i true h e =
           let k = p .count refl in
-          let l = some i (leb-true 23 (length before) h) e (a .notes) refl in
+          let l = some i (leb-true 23 (length before) h) e (a .entries) refl in
           omega arith
       counted i false h e = let k = p .count refl in omega arith
 
-      long : Left (turnOf log memory) (r .player) (p .rest) (a .notes) (a .turns) (p .within) → 23 ≤ length before → r .over ≡ false → 0 < r .length
+      long : Left (turnOf log memory) (r .player) (p .rest) (a .entries) (a .turns) (p .within) → 23 ≤ length before → r .over ≡ false → 0 < r .length
       long i w e = by (r .length) refl
         where
           by : (k : ℕ) → r .length ≡ k → 0 < k
           by (suc k) h = omega arith
           by zero h =
-              let z : _≡_ {A = List ℕ} [] (notesText (a .notes)) = ap (λ (x : ℕ). take x after) (sym h) ∙ a .piece in
-              let n = notes-empty (a .notes) (sym (ap length z)) in
-              let l = some i w e (a .notes) refl in
-              let l′ : 0 < length {A = Note} [] = rw n at l in
+              let z : _≡_ {A = List ℕ} [] (entriesText (a .entries)) = ap (λ (x : ℕ). take x after) (sym h) ∙ a .piece in
+              let n = entries-empty (a .entries) (sym (ap length z)) in
+              let l = some i w e (a .entries) refl in
+              let l′ : 0 < length {A = Entry} [] = rw n at l in
               absurd (omega arith)
 
   next : (text : List ℕ) (n : ℕ) (q : Player) → isMemory memory ≡ true → Part text n q false → (before after : List ℕ) (r : Played) → PlayedOn log memory q before after r → Next text n before after r
@@ -128,19 +128,19 @@ module _ (log memory : List ℕ) where
     part-of none =
         record {
           written = [];
-          rest = notesOf (machineOf log) memory (acts (treeOf log));
+          rest = entriesOf (machineOf log) memory (acts (treeOf log));
           within = 1;
           told = fresh-told log memory (passing h .1) (machineOf log);
           low = omega arith;
           whole = refl;
-          said = sym notes-none;
+          said = sym entries-none;
           fine = power-on-in (machineOf log);
           done = λ e. absurd (let y : _≡_ {A = ℕ} 0 1 = cc in omega arith);
           count = λ e. omega arith;
         }
     part-of (call {text = text} {n = n} {q = q} before after r c pl) = next text n q (passing h .0) (part-of c) before after r pl .part
 
-    text-is : playText log memory ≡ notesText (notesOf (machineOf log) memory (acts (treeOf log)))
+    text-is : playText log memory ≡ entriesText (entriesOf (machineOf log) memory (acts (treeOf log)))
     unfolding playText
     text-is = rw (eq-eqb (playNumber log memory) 0 h)
 
@@ -153,12 +153,12 @@ module _ (log memory : List ℕ) where
     pub pieces-whole : {text : List ℕ} {n : ℕ} {q : Player} {o : Bool} → Calls log memory (freshPlayer (machineOf log)) text n q o → Beginning text o
     pieces-whole {text = text} c =
         let p = part-of c in
-        let j : playText log memory ≡ text ++ notesText (p .rest) =
-        text-is ∙ (ap notesText (p .whole) ∙ (notes-append (p .written) (p .rest) ∙ ap (λ (l : List ℕ). l ++ notesText (p .rest)) (sym (p .said)))) in
+        let j : playText log memory ≡ text ++ entriesText (p .rest) =
+        text-is ∙ (ap entriesText (p .whole) ∙ (entries-append (p .written) (p .rest) ∙ ap (λ (l : List ℕ). l ++ entriesText (p .rest)) (sym (p .said)))) in
         record {
-          rest = notesText (p .rest);
+          rest = entriesText (p .rest);
           joined = j;
-          all = λ e. j ∙ (ap (λ (l : List Note). text ++ notesText l) (p .done e) ∙ (ap (λ (l : List ℕ). text ++ l) notes-none ∙ append-nil text));
+          all = λ e. j ∙ (ap (λ (l : List Entry). text ++ entriesText l) (p .done e) ∙ (ap (λ (l : List ℕ). text ++ l) entries-none ∙ append-nil text));
         }
 
     -- NO CALL IS REFUSED
@@ -174,7 +174,7 @@ module _ (log memory : List ℕ) where
     gets-line {text = text} {n = n} {q = q} c before after r pl = next text n q (passing h .0) (part-of c) before after r pl .line
 
     -- SO IT COMES TO ITS END: behind more such buffers than the text has lines the last call said over
-    pub comes-to-end : {text : List ℕ} {n : ℕ} {q : Player} (o : Bool) → Calls log memory (freshPlayer (machineOf log)) text n q o → length (notesOf (machineOf log) memory (acts (treeOf log))) < n → o ≡ true
+    pub comes-to-end : {text : List ℕ} {n : ℕ} {q : Player} (o : Bool) → Calls log memory (freshPlayer (machineOf log)) text n q o → length (entriesOf (machineOf log) memory (acts (treeOf log))) < n → o ≡ true
     comes-to-end true c b = refl
     comes-to-end false c b =
         let p = part-of c in

@@ -1,4 +1,3 @@
 pub mod Calls
 pub mod Loop
 pub mod Playing
-pub mod Whole

@@ -8,28 +8,28 @@ use lib.ListN.{length, take, drop}
 use Rattle.machine.specs.Saying.{over, refused}
 use Rattle.chip.specs.Range.{inRange}
 use Rattle.chip_api.specs.Answer.{isMemory}
-use Rattle.play_text.specs.Notes.{notesText}
-use Rattle.play_text.specs.declared.Note.{Note}
+use Rattle.play_text.specs.Entries.{entriesText}
+use Rattle.play_text.specs.declared.Entry.{Entry}
 use Rattle.play_model.specs.Turns.{turnOf, Goes}
 use Rattle.play_model.specs.declared.Player.{Player}
 use Rattle.play.specs.declared.Played.{Played}
 
--- WHAT A CALL OF `play_on` WRITES. How full a piece gets is left free: `notes` are its lines, `turns` how far the player went.
+-- WHAT A CALL OF `play_on` WRITES. How full a piece gets is left free: `entries` are its lines, `turns` how far the player went.
 pub record Piece (log memory : List ℕ) (p : Player) (before after : List ℕ) (r : Played) : Type 0 where
-  pub notes : List Note
+  pub entries : List Entry
   pub turns : ℕ
   -- whole lines, and the bytes behind them stay
   pub fits : r .length ≤ length before
-  pub piece : take (r .length) after ≡ notesText notes
+  pub piece : take (r .length) after ≡ entriesText entries
   pub rest : drop (r .length) after ≡ drop (r .length) before
   -- the player went on by just these lines, and is over where it says so
-  pub went : Goes (turnOf log memory) p notes turns (r .player)
+  pub went : Goes (turnOf log memory) p entries turns (r .player)
   pub over : r .over ≡ true → turnOf log memory (r .player) .said ≡ over
   -- a state in range stays in range
   pub fine : inRange (r .player .state) ≡ true
   -- nothing is written only to a buffer of less than 23 bytes, and then the player comes back as it was; or where it is over; or behind
   -- 4,000,010 turns in a row that say nothing, of which a log that passes has none
-  pub gets : notes ≡ [] → r .over ≡ false → ((length before < 23) × (r .player ≡ p)) ⊎ (4000010 ≤ turns)
+  pub gets : entries ≡ [] → r .over ≡ false → ((length before < 23) × (r .player ≡ p)) ⊎ (4000010 ≤ turns)
 
 -- a call that is refused: the player as it came, nothing written
 pub record Untouched (p : Player) (number place : ℕ) (before after : List ℕ) (r : Played) : Type 0 where

@@ -3,22 +3,11 @@ ghost use mathlib.Core.Path.{_≡_};
 ghost use mathlib.Core.Bool.{true, false};
 ghost use Prim.Native.Nat.{_+_, _-_, _≤_, _<_};
 ghost use lib.ListN.{length};
-ghost use lib.Dec.{eqb};
-ghost use Rattle.arith.specs.Pick.{pick};
 ghost use Rattle.chip.specs.Range.{inRange};
-ghost use Rattle.play_model.specs.Turns.{freshPlayer, endedPlayer};
 ghost use Rattle.play.specs.Loop.{answerOf};
 ghost use Rattle.play.specs.Playing.{Answered, PlayedOn};
-ghost use Rattle.play.specs.Whole.{begunOf};
 use play_model::Player;
 use play_step::Taken;
-
-// The answer of `begin`.
-pub struct Begun {
-    pub number: u8,
-    pub place: usize,
-    pub player: Player,
-}
 
 // The answer of `play_on`: the player behind the lines, their bytes, and whether all is over.
 pub struct Played {
@@ -27,29 +16,6 @@ pub struct Played {
     pub player: Player,
     pub length: usize,
     pub over: bool,
-}
-
-// A number and a place, with the player at the beginning of a log for a machine; refused, a player that is over.
-fn opening(number: u8, place: usize, pal: bool) -> Begun
-    ensures { λ r. ⌜ r ≡ record { number = number; place = place; player = pick (eqb number 0) (freshPlayer pal) endedPlayer } ⌝ }
-{
-    let p = play_turn::first(number == 0, pal);
-    Begun {
-        number: number,
-        place: place,
-        player: p,
-    }
-}
-
-// Whether the log and the memory can be played, with the player at the beginning, on the log's machine; refused, a player that is over.
-pub fn begin(log: &[u8], memory: &[u8]) -> Begun
-    ensures { λ r. ⌜ r ≡ begunOf (now (log .entry)) (now (memory .entry)) ⌝ }
-{
-    if memory.len() != 32768 {
-        return opening(1, 0, false);
-    }
-    let k = log_check::check(log);
-    opening(k.number, k.place, k.pal)
 }
 
 // A refusal: the player as it came.

@@ -13,8 +13,8 @@ use Rattle.bus.specs.declared.Access.the-variants.{Write, Read}
 use Rattle.chip.specs.Clock.{chipClock}
 use Rattle.chip.specs.Level.{stateLevel}
 use Rattle.chip.specs.declared.State.{State}
-use Rattle.play_text.specs.declared.Note.{Note}
-use Rattle.play_text.specs.declared.Note.the-variants.{Level}
+use Rattle.play_text.specs.declared.Entry.{Entry}
+use Rattle.play_text.specs.declared.Entry.the-variants.{Level}
 use Rattle.play_model.specs.Sound.{heard, waited, readLine}
 use Rattle.run_meter.specs.declared.Span.{Span}
 use Rattle.run_meter.specs.Levels.{lowest, highest}
@@ -37,13 +37,13 @@ pub span-append : (s : Span) (a b : List ℕ) → spanOver (spanOver s a) b ≡ 
 span-append s a b = rw (lowest-append (s .low) a b, highest-append (s .high) a b)
 
 -- a read's line has no level
-pub levels-read : (x : Access) (t : ℕ) (s : State) (l : List Note) → levelsOf (readLine x t s ++ l) ≡ levelsOf l
+pub levels-read : (x : Access) (t : ℕ) (s : State) (l : List Entry) → levelsOf (readLine x t s ++ l) ≡ levelsOf l
 unfolding readLine levelsOf
 levels-read (Write r v) t s l = refl
 levels-read Read t s l = refl
 
 -- the level after an access or a clock, where it differs
-pub levels-heard : (t last : ℕ) (s : State) (l : List Note)
+pub levels-heard : (t last : ℕ) (s : State) (l : List Entry)
     → levelsOf (heard t last s ++ l) ≡ pick (eqb (stateLevel s) last) (levelsOf l) (stateLevel s ∷ levelsOf l)
 unfolding heard levelsOf
 levels-heard t last s l = by (eqb (stateLevel s) last)
@@ -58,7 +58,7 @@ pick-append false x a l = refl
 
 module _ (memory : List ℕ) where
   -- THE LEVELS OF A WAIT, and of what follows
-  pub levels-waited : (n t : ℕ) (s : State) (rest : ℕ → ℕ → State → List Note)
+  pub levels-waited : (n t : ℕ) (s : State) (rest : ℕ → ℕ → State → List Entry)
       → levelsOf (waited memory n t (stateLevel s) s rest)
       ≡ changed memory n s ++ levelsOf (rest (t + n) (stateLevel (iterate (chipClock memory) n s)) (iterate (chipClock memory) n s))
   unfolding waited changed iterate

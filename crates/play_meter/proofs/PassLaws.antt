@@ -23,7 +23,7 @@ use Rattle.run_meter.proofs.Answers.{told-is}
 use Rattle.play_meter.specs.declared.Moment.{Moment}
 use Rattle.play_meter.specs.declared.waits.Gauge.{Gauge}
 use Rattle.play_meter.specs.declared.waits.Next.{Next}
-use Rattle.play_meter.specs.Meters.{levelsOf, stretchOf}
+use Rattle.play_meter.specs.Meters.{levelsOf, waitMeter}
 use Rattle.play_meter.specs.Passing.{go, gaugeOf, actPass, foundPass, ready, passOf, passed}
 use Rattle.play_meter.specs.Walking.{changed, clocksOn}
 use Rattle.play_meter.proofs.HeardLaws.{levels-waited}
@@ -37,7 +37,7 @@ wait-levels memory n t s = levels-waited memory n t s (λ t last s. []) ∙ appe
 pub wait-passed : (memory : List ℕ) (n : ℕ) (g : Gauge) (c : Cursor) (m : Moment) (after : Gauge) (meter : Measured) → m ≡ clocksOn memory n (g .state) (spanAt (stateLevel (g .state)))
     → meter ≡ toldOf (m .span .low) (m .span .high) → after ≡ gaugeOf (g .time + n) (m .state) c
     → record { next = Next.Wait (g .time) n meter; gauge = after } ≡ passed (actPass memory g c (Wait n))
-unfolding actPass stretchOf clocksOn
+unfolding actPass waitMeter clocksOn
 wait-passed memory n g c m after meter e f h =
     rw (f, h, e, wait-levels memory n (g .time) (g .state), ← told-is (stateLevel (g .state)) (changed memory n (g .state)))
 

@@ -21,8 +21,8 @@ use Rattle.run_meter.specs.Levels.{lowest, highest}
 use Rattle.run_meter.specs.Records.{levelsIn, recordLevels}
 use Rattle.run_meter.specs.Spans.{spanOver}
 use Rattle.play_to.specs.Walking.{portion}
-use Rattle.play_to.proofs.ClockLaws.{portion-most, nearer, plain-went}
-use Rattle.play_meter.specs.Walking.{changed, momentOf, clocksOn}
+use Rattle.play_to.proofs.ClockLaws.{nearer, plain-went}
+use Rattle.play_meter.specs.Walking.{changed, meterMoment, clocksOn}
 use Rattle.play_meter.proofs.HeardLaws.{span-append, changed-add}
 
 -- the levels of records
@@ -96,11 +96,11 @@ module _ (memory : List ℕ) (s : State) (span : Span) (left : ℕ) (words after
 
   ran : r ≡ answer memory s (portion left) words → r ≡ record { number = 0; state = read .state; done = read .done; records = length (read .marks) }
   unfolding answer answered readBy
-  ran e = e ∙ rw (number-none memory s (portion left) long fine (portion-most left .1)) refl
+  ran e = e ∙ rw (number-none memory s (portion left) long fine (omega arith)) refl
 
   kept : after ≡ lent memory s (portion left) words → after ≡ over (flat (read .marks)) words
   unfolding lent readBy
-  kept e = e ∙ rw (number-none memory s (portion left) long fine (portion-most left .1)) refl
+  kept e = e ∙ rw (number-none memory s (portion left) long fine (omega arith)) refl
 
   run-levels : r ≡ answer memory s (portion left) words → after ≡ lent memory s (portion left) words → recordLevels 0 (r .records) after ≡ changed memory (r .done) s
   run-levels e f = rw (ran e, kept f) (records-levels (read .marks) words ∙ plain-heard memory (length words / 2) (portion left) s)
@@ -123,10 +123,10 @@ module _ (memory : List ℕ) (s : State) (span : Span) (left : ℕ) (words after
         some = n .some;
         most = n .most;
         ranged = n .ranged;
-        same = ap₂ (momentOf false) (n .same) heard;
+        same = ap₂ (meterMoment false) (n .same) heard;
       }
 
 -- no clock
-pub clocks-none : (memory : List ℕ) (n : ℕ) (s : State) (span : Span) → n ≡ 0 → clocksOn memory n s span ≡ momentOf false s span
+pub clocks-none : (memory : List ℕ) (n : ℕ) (s : State) (span : Span) → n ≡ 0 → clocksOn memory n s span ≡ meterMoment false s span
 unfolding clocksOn changed iterate lowest highest
 clocks-none memory n s span z = rw z

@@ -28,7 +28,7 @@ use Rattle.chip.specs.declared.State.{State}
 use Rattle.chip.proofs.RangeLaws.{StateRanged, state-in, state-back, clock-kept, power-on-in}
 use Rattle.chip_access.specs.Access.{accessState}
 use Rattle.chip_access.proofs.AccessLaws.{Bytewide, access-kept}
-use Rattle.play_meter.specs.Meters.{stretchOf, waitsFrom}
+use Rattle.play_meter.specs.Meters.{waitMeter, waitsFrom}
 use Rattle.play_meter.specs.Passing.{go, gaugeOf, gaugeStart, actPass, foundPass, passOf}
 use Rattle.play_meter.proofs.PassLaws.{ready-is, pass-some}
 
@@ -55,7 +55,7 @@ module _ (log memory : List ℕ) (long : length memory ≡ 32768) (bytes : Bytes
     pass-on e = here-pass ∙ rw e refl
 
     pass-wait : (n : ℕ) → stepOf log c .said ≡ says (Wait n)
-        → passOf log memory (gaugeOf t s c) ≡ go (says (stretchOf memory n t s)) (gaugeOf (t + n) (iterate (chipClock memory) n s) (stepOf log c .state))
+        → passOf log memory (gaugeOf t s c) ≡ go (says (waitMeter memory n t s)) (gaugeOf (t + n) (iterate (chipClock memory) n s) (stepOf log c .state))
     unfolding foundPass actPass
     pass-wait n e = here-pass ∙ rw e refl
 

@@ -29,15 +29,17 @@ use Rattle.chip.specs.Range.{inRange, powerOn}
 use Rattle.chip.specs.declared.State.{State}
 use Rattle.chip.proofs.RangeLaws.{power-on-in}
 use Rattle.chip_access.specs.Access.{accessState}
-use Rattle.play_model.specs.Sound.{heard, notesFrom, notesOf}
+use Rattle.play_model.specs.Sound.{heard, entriesFrom, entriesOf}
 use Rattle.run_meter.specs.declared.Span.{Span}
 use Rattle.run_meter.specs.Levels.{lowest, highest}
 use Rattle.run_meter.specs.Spans.{spanAt, spanOver, toldOf}
 use Rattle.run_meter.proofs.Answers.{told-is}
 use Rattle.play_meter.specs.declared.Moment.{Moment}
 use Rattle.play_meter.specs.Meters.{levelsOf, actsMeter, refusedAnswer, logMeter}
-use Rattle.play_meter.specs.Walking.{changed, momentOf, clocksOn, heardBy, accessOn, actOn, foundOn, spanFor, spanOf, Walking}
+use Rattle.play_meter.specs.Walking.{changed, meterMoment, clocksOn, heardBy, accessOn, actOn, foundOn, spanFor, spanOf, MeterWalking}
 use Rattle.play_meter.proofs.HeardLaws.{span-append, levels-read, levels-heard, levels-waited}
+
+-- ONE ACT
 
 -- the lowest and the highest behind a level that is heard where it differs
 heard-span : (b : Bool) (s : Span) (x : ℕ) (l : List ℕ) → spanOver s (pick b l (x ∷ l)) ≡ spanOver (pick b s (spanOver s (x ∷ []))) l
@@ -48,23 +50,23 @@ heard-span false s x l = refl
 -- an act first, and then the others
 module _ (memory : List ℕ) where
   access-span : (t : ℕ) (s s′ : State) (span : Span) (l : List Act)
-      → spanOver span (levelsOf (heard t (stateLevel s) s′ ++ notesFrom memory t (stateLevel s′) s′ l))
+      → spanOver span (levelsOf (heard t (stateLevel s) s′ ++ entriesFrom memory t (stateLevel s′) s′ l))
       ≡ spanFor memory l t s′ (heardBy span (stateLevel s) (stateLevel s′))
   unfolding spanFor heardBy
   access-span t s s′ span l =
-      ap (spanOver span) (levels-heard t (stateLevel s) s′ (notesFrom memory t (stateLevel s′) s′ l))
-      ∙ heard-span (eqb (stateLevel s′) (stateLevel s)) span (stateLevel s′) (levelsOf (notesFrom memory t (stateLevel s′) s′ l))
+      ap (spanOver span) (levels-heard t (stateLevel s) s′ (entriesFrom memory t (stateLevel s′) s′ l))
+      ∙ heard-span (eqb (stateLevel s′) (stateLevel s)) span (stateLevel s′) (levelsOf (entriesFrom memory t (stateLevel s′) s′ l))
 
   wait-first : (n : ℕ) (l : List Act) (t : ℕ) (s : State) (span : Span)
       → spanFor memory (Wait n ∷ l) t s span ≡ spanFor memory l (t + n) (iterate (chipClock memory) n s) (spanOver span (changed memory n s))
-  unfolding spanFor notesFrom
+  unfolding spanFor entriesFrom
   wait-first n l t s span =
-      ap (spanOver span) (levels-waited memory n t s (λ t last s. notesFrom memory t last s l))
+      ap (spanOver span) (levels-waited memory n t s (λ t last s. entriesFrom memory t last s l))
       ∙ sym (span-append span (changed memory n s) _)
 
   access-first : (x : busAccess.Access) (l : List Act) (t : ℕ) (s : State) (span : Span)
       → spanFor memory (Access x ∷ l) t s span ≡ spanFor memory l t (accessState x s) (heardBy span (stateLevel s) (stateLevel (accessState x s)))
-  unfolding spanFor notesFrom
+  unfolding spanFor entriesFrom
   access-first x l t s span = ap (spanOver span) (levels-read x t s _) ∙ access-span t s (accessState x s) span l
 
   first-act : (a : Act) (l : List Act) (t : ℕ) (m : Moment)
@@ -73,10 +75,12 @@ module _ (memory : List ℕ) where
   first-act (Wait n) l t m = wait-first n l t (m .state) (m .span)
   first-act (Access x) l t m = rw add-zero (access-first x l t (m .state) (m .span))
 
+-- THE WALK
+
 -- one step of the walk: it is over with the answer, or the walk goes on
 pub record Onward (log memory : List ℕ) (cursor : Cursor) (m : Moment) (left : ℕ) : Type 0 where
   pub over : m .over ≡ true → m .span ≡ spanOf log memory
-  pub on : m .over ≡ false → Walking log memory cursor m (left - 1)
+  pub on : m .over ≡ false → MeterWalking log memory cursor m (left - 1)
 
 less : (k f : ℕ) → k < f → k ≤ f - 1
 less k f h = omega arith
@@ -86,7 +90,7 @@ false-true e = let x : _≡_ {A = ℕ} 0 1 = cc in absurd (omega arith)
 
 -- at the end no level follows
 ended : (memory : List ℕ) (t : ℕ) (s : State) (span : Span) → spanFor memory [] t s span ≡ span
-unfolding spanFor notesFrom levelsOf lowest highest
+unfolding spanFor entriesFrom levelsOf lowest highest
 ended memory t s span = refl
 
 clocks-over : (memory : List ℕ) (a : Act) (m : Moment) → actOn memory a m .over ≡ false
@@ -102,13 +106,13 @@ module _ (log memory : List ℕ) where
       → Onward log memory (stepOf log cursor .state) next left
   unfolding foundOn
   step-on (ends f e p) t m same x fx next en fine =
-      let is : next ≡ momentOf true (m .state) (m .span) = en ∙ rw (fx, e) refl in
+      let is : next ≡ meterMoment true (m .state) (m .span) = en ∙ rw (fx, e) refl in
       record {
         over = λ o. rw is (sym (ended memory t (m .state) (m .span)) ∙ same);
         on = λ o. false-true (sym o ∙ ap (λ (k : Moment). k .over) is);
       }
   step-on {rest = rest} {left = left} (goes {k = k} f e g p) t m same x fx next en fine =
-      let is : next ≡ momentOf false (m .state) (m .span) = en ∙ rw (fx, e) refl in
+      let is : next ≡ meterMoment false (m .state) (m .span) = en ∙ rw (fx, e) refl in
       record {
         over = λ o. false-true (sym (ap (λ (k : Moment). k .over) is) ∙ o);
         on = λ o. record { ranged = fine; time = t; rest = rest; gives = within (stepOf log) (left - 1) (less k left p) g; same = rw is same };
@@ -120,7 +124,7 @@ module _ (log memory : List ℕ) where
         on = λ o. record { ranged = fine; time = t + actClocks a; rest = l; gives = within (stepOf log) (left - 1) (less k left p) g; same = rw is (sym (first-act memory a l t m) ∙ same) };
       }
 
-  pub walk-on : (cursor : Cursor) (m : Moment) (left : ℕ) → Walking log memory cursor m left
+  pub walk-on : (cursor : Cursor) (m : Moment) (left : ℕ) → MeterWalking log memory cursor m left
       → (x : Found) → x ≡ told (stepOf log cursor .said) → (next : Moment) → next ≡ foundOn memory x m → inRange (next .state) ≡ true
       → Onward log memory (stepOf log cursor .state) next left
   walk-on cursor m left w = step-on (w .gives) (w .time) m (w .same)
@@ -131,10 +135,10 @@ module _ (log memory : List ℕ) where
   none-left (goes f e g p) z = omega arith
   none-left (gives f e g p) z = omega arith
 
-  pub walk-left : {A : Type 0} (cursor : Cursor) (m : Moment) (left : ℕ) → Walking log memory cursor m left → left ≡ 0 → A
+  pub walk-left : {A : Type 0} (cursor : Cursor) (m : Moment) (left : ℕ) → MeterWalking log memory cursor m left → left ≡ 0 → A
   walk-left cursor m left w z = absurd (none-left (w .gives) z)
 
-  pub walk-start : checkOf log .number ≡ 0 → Walking log memory beginning (momentOf false (powerOn (machineOf log)) (spanAt (stateLevel (powerOn (machineOf log))))) 2000002
+  pub walk-start : checkOf log .number ≡ 0 → MeterWalking log memory beginning (meterMoment false (powerOn (machineOf log)) (spanAt (stateLevel (powerOn (machineOf log))))) 2000002
   unfolding spanOf
   walk-start h =
       record {
@@ -145,12 +149,14 @@ module _ (log memory : List ℕ) where
         same = refl;
       }
 
+  -- THE ANSWER
+
   -- what is told from the lowest and the highest of all is the meter of the log's lines
   pub told-whole : (span : Span) → span ≡ spanOf log memory → toldOf (span .low) (span .high) ≡ actsMeter (machineOf log) memory (acts (treeOf log))
-  unfolding spanOf spanFor actsMeter notesOf levelsOf
+  unfolding spanOf spanFor actsMeter entriesOf levelsOf
   told-whole span e =
       ap (λ (s : Span). toldOf (s .low) (s .high)) e
-      ∙ told-is (stateLevel (powerOn (machineOf log))) (levelsOf (notesFrom memory 0 (stateLevel (powerOn (machineOf log))) (powerOn (machineOf log)) (acts (treeOf log))))
+      ∙ told-is (stateLevel (powerOn (machineOf log))) (levelsOf (entriesFrom memory 0 (stateLevel (powerOn (machineOf log))) (powerOn (machineOf log)) (acts (treeOf log))))
 
   -- the answer, by its tests
   pub refused-one : (length memory ≡ 32768 → ⊥) → refusedAnswer 1 0 ≡ logMeter log memory

@@ -16,16 +16,16 @@ use Rattle.chip.specs.Level.{stateLevel}
 use Rattle.chip.specs.declared.State.{State}
 use Rattle.chip_access.specs.Access.{accessState}
 use Rattle.chip_api.specs.Answer.{isMemory}
-use Rattle.play_text.specs.declared.Note.{Note}
-use Rattle.play_text.specs.declared.Note.the-variants.{Play, Level, Read, Stop}
-use Rattle.play_model.specs.Sound.{waited, notesOf}
+use Rattle.play_text.specs.declared.Entry.{Entry}
+use Rattle.play_text.specs.declared.Entry.the-variants.{Play, Level, Read, Stop}
+use Rattle.play_model.specs.Sound.{waited, entriesOf}
 use Rattle.run_meter.specs.declared.Measured.{Measured}
 use Rattle.run_meter.specs.declared.Measured.the-variants.{NoLevels}
 use Rattle.run_meter.specs.Measure.{measureOf}
 use Rattle.play_meter.specs.declared.Answer.{Answer}
 
 -- the levels of the player's level lines
-unfoldable pub levelsOf : List Note → List ℕ
+unfoldable pub levelsOf : List Entry → List ℕ
 levelsOf [] = []
 levelsOf (Play ∷ l) = levelsOf l
 levelsOf (Level t v ∷ l) = v ∷ levelsOf l
@@ -34,7 +34,7 @@ levelsOf (Stop t ∷ l) = levelsOf l
 
 -- the meter of all that the player's lines for the acts say, on the machine (true is PAL)
 unfoldable pub actsMeter : Bool → List ℕ → List Act → Measured
-actsMeter pal memory l = measureOf (levelsOf (notesOf pal memory l))
+actsMeter pal memory l = measureOf (levelsOf (entriesOf pal memory l))
 
 -- refused: no levels
 abbrev pub refusedAnswer : ℕ → ℕ → Answer
@@ -49,18 +49,18 @@ logMeter log memory =
     (refusedAnswer 1 0)
 
 -- a wait of a log: the clock at which it begins, its clocks, and its meter
-pub record Stretch : Type 0 where
+pub record WaitMeter : Type 0 where
   pub time : ℕ
   pub clocks : ℕ
   pub meter : Measured
 
 -- n clocks from the state s at time t on: the level there, and those of the player's lines for them
-unfoldable pub stretchOf : List ℕ → ℕ → ℕ → State → Stretch
-stretchOf memory n t s =
+unfoldable pub waitMeter : List ℕ → ℕ → ℕ → State → WaitMeter
+waitMeter memory n t s =
     record { time = t; clocks = n; meter = measureOf (stateLevel s ∷ levelsOf (waited memory n t (stateLevel s) s (λ t last s. []))) }
 
 -- THE WAITS OF A LOG, in order, from the state s at time t on
-unfoldable pub waitsFrom : List ℕ → List Act → ℕ → State → List Stretch
+unfoldable pub waitsFrom : List ℕ → List Act → ℕ → State → List WaitMeter
 waitsFrom memory [] t s = []
-waitsFrom memory (Wait n ∷ l) t s = stretchOf memory n t s ∷ waitsFrom memory l (t + n) (iterate (chipClock memory) n s)
+waitsFrom memory (Wait n ∷ l) t s = waitMeter memory n t s ∷ waitsFrom memory l (t + n) (iterate (chipClock memory) n s)
 waitsFrom memory (Access x ∷ l) t s = waitsFrom memory l t (accessState x s)

@@ -20,12 +20,12 @@ use Rattle.chip_api.specs.Answer.{isMemory}
 use Rattle.play_meter.specs.declared.waits.Gauge.{Gauge}
 use Rattle.play_meter.specs.declared.waits.Next.{Next}
 use Rattle.play_meter.specs.declared.waits.Passed.{Passed}
-use Rattle.play_meter.specs.Meters.{Stretch, stretchOf}
+use Rattle.play_meter.specs.Meters.{WaitMeter, waitMeter}
 
 abbrev pub Go : Type 0
-Go = Turn Gauge Stretch
+Go = Turn Gauge WaitMeter
 
-abbrev pub go : Said Stretch → Gauge → Go
+abbrev pub go : Said WaitMeter → Gauge → Go
 go w g = record { said = w; state = g }
 
 -- the state s at time t of a log, and the place in the log
@@ -39,7 +39,7 @@ gaugeStart log = gaugeOf 0 (powerOn (machineOf log)) beginning
 -- an act: a wait is said with its meter
 unfoldable pub actPass : List ℕ → Gauge → Cursor → Act → Go
 actPass memory g c (Wait n) =
-    go (says (stretchOf memory n (g .time) (g .state))) (gaugeOf (g .time + n) (iterate (chipClock memory) n (g .state)) c)
+    go (says (waitMeter memory n (g .time) (g .state))) (gaugeOf (g .time + n) (iterate (chipClock memory) n (g .state)) c)
 actPass memory g c (Access x) = go on (gaugeOf (g .time) (accessState x (g .state)) c)
 
 -- what a step of the cursor found; a line at fault ends the waits
@@ -59,11 +59,11 @@ passOf log memory g =
     pick (ready memory g) (foundPass memory g (stepOf log (g .cursor) .state) (told (stepOf log (g .cursor) .said))) (go over g)
 
 -- the answer for what is said
-abbrev pub nextOf : Said Stretch → Next
-nextOf over = Next.Over
-nextOf on = Next.Moved
-nextOf (says x) = Next.Wait (x .time) (x .clocks) (x .meter)
-nextOf (refused k p) = Next.Over
+abbrev pub passNext : Said WaitMeter → Next
+passNext over = Next.Over
+passNext on = Next.Moved
+passNext (says x) = Next.Wait (x .time) (x .clocks) (x .meter)
+passNext (refused k p) = Next.Over
 
 abbrev pub passed : Go → Passed
-passed t = record { next = nextOf (t .said); gauge = t .state }
+passed t = record { next = passNext (t .said); gauge = t .state }

@@ -21,7 +21,7 @@ use Rattle.chip.specs.Level.{stateLevel}
 use Rattle.chip.specs.Range.{inRange, powerOn}
 use Rattle.chip.specs.declared.State.{State}
 use Rattle.chip_access.specs.Access.{accessState}
-use Rattle.play_model.specs.Sound.{notesFrom}
+use Rattle.play_model.specs.Sound.{entriesFrom}
 use Rattle.run_meter.specs.declared.Span.{Span}
 use Rattle.run_meter.specs.Spans.{spanAt, spanOver}
 use Rattle.play_meter.specs.declared.Moment.{Moment}
@@ -34,12 +34,12 @@ changed memory (suc n) s =
     pick (eqb (stateLevel (chipClock memory s)) (stateLevel s)) (changed memory n (chipClock memory s))
     (stateLevel (chipClock memory s) ∷ changed memory n (chipClock memory s))
 
-abbrev pub momentOf : Bool → State → Span → Moment
-momentOf over s span = record { over = over; state = s; span = span }
+abbrev pub meterMoment : Bool → State → Span → Moment
+meterMoment over s span = record { over = over; state = s; span = span }
 
 -- n clocks
 unfoldable pub clocksOn : List ℕ → ℕ → State → Span → Moment
-clocksOn memory n s span = momentOf false (iterate (chipClock memory) n s) (spanOver span (changed memory n s))
+clocksOn memory n s span = meterMoment false (iterate (chipClock memory) n s) (spanOver span (changed memory n s))
 
 -- with the level after an access, where it differs from that before
 unfoldable pub heardBy : Span → ℕ → ℕ → Span
@@ -47,7 +47,7 @@ heardBy span before after = pick (eqb after before) span (spanOver span (after �
 
 -- an access
 unfoldable pub accessOn : busAccess.Access → Moment → Moment
-accessOn x m = momentOf false (accessState x (m .state)) (heardBy (m .span) (stateLevel (m .state)) (stateLevel (accessState x (m .state))))
+accessOn x m = meterMoment false (accessState x (m .state)) (heardBy (m .span) (stateLevel (m .state)) (stateLevel (accessState x (m .state))))
 
 -- an act
 unfoldable pub actOn : List ℕ → Act → Moment → Moment
@@ -57,20 +57,20 @@ actOn memory (Access x) m = accessOn x m
 -- what a step of the cursor found: at the log's end all is over
 unfoldable pub foundOn : List ℕ → Found → Moment → Moment
 foundOn memory (Found.Act a) m = actOn memory a m
-foundOn memory Found.Moved m = momentOf false (m .state) (m .span)
-foundOn memory Found.End m = momentOf true (m .state) (m .span)
-foundOn memory (Found.Refused k p) m = momentOf true (m .state) (m .span)
+foundOn memory Found.Moved m = meterMoment false (m .state) (m .span)
+foundOn memory Found.End m = meterMoment true (m .state) (m .span)
+foundOn memory (Found.Refused k p) m = meterMoment true (m .state) (m .span)
 
 -- the lowest and the highest of what was heard and of the lines that the acts still bring
 unfoldable pub spanFor : List ℕ → List Act → ℕ → State → Span → Span
-spanFor memory l t s span = spanOver span (levelsOf (notesFrom memory t (stateLevel s) s l))
+spanFor memory l t s span = spanOver span (levelsOf (entriesFrom memory t (stateLevel s) s l))
 
 -- those of a whole log
 unfoldable pub spanOf : List ℕ → List ℕ → Span
 spanOf log memory = spanFor memory (acts (treeOf log)) 0 (powerOn (machineOf log)) (spanAt (stateLevel (powerOn (machineOf log))))
 
 -- on the way: the acts that the cursor still gives, within `left` steps, lead to what the whole log leads to
-pub record Walking (log memory : List ℕ) (cursor : Cursor) (m : Moment) (left : ℕ) : Type 0 where
+pub record MeterWalking (log memory : List ℕ) (cursor : Cursor) (m : Moment) (left : ℕ) : Type 0 where
   pub ranged : inRange (m .state) ≡ true
   pub time : ℕ
   pub rest : List Act

@@ -7,9 +7,8 @@ ghost use Rattle.chip.specs.Range.{inRange};
 ghost use Rattle.log_judge.specs.Head.{machineOf};
 ghost use Rattle.log_judge.specs.Tree.{acts};
 ghost use Rattle.log_judge.specs.Whole.{treeOf, checkOf};
-ghost use Rattle.play_to.specs.Walking.{portion};
 ghost use Rattle.play_meter.specs.Meters.{actsMeter, refusedAnswer, logMeter};
-ghost use Rattle.play_meter.specs.Walking.{momentOf, clocksOn, heardBy, accessOn, actOn, foundOn};
+ghost use Rattle.play_meter.specs.Walking.{meterMoment, clocksOn, heardBy, accessOn, actOn, foundOn};
 use bus::Access;
 use chip::State;
 use log_cursor::Found;
@@ -34,7 +33,7 @@ pub struct Moment {
 }
 
 fn moment_of(over: bool, s: State, span: Span) -> Moment
-    ensures { λ r. ⌜ r ≡ momentOf over s span ⌝ }
+    ensures { λ r. ⌜ r ≡ meterMoment over s span ⌝ }
 {
     Moment {
         over: over,
@@ -53,19 +52,6 @@ fn refused(number: u8, place: usize) -> Answer
     }
 }
 
-fn wide(x: u32) -> u64
-    ensures { λ r. ⌜ r ≡ x ⌝ }
-{
-    x as u64
-}
-
-// So many of the clocks left as a run may do.
-fn portion_of(left: u64) -> u64
-    ensures { λ r. ⌜ r ≡ portion left ⌝ }
-{
-    if left < 1000000 { left } else { 1000000 }
-}
-
 // n clocks, run by run, with the levels of their records: a run ends early where the words are full, and does a clock at least.
 fn clocks_on(s: State, span: Span, memory: &[u8], n: u64, words: &mut [u32]) -> Moment
     requires { ⌜ (length (now memory) ≡ 32768) × (inRange s ≡ true) ⌝ }
@@ -77,9 +63,9 @@ fn clocks_on(s: State, span: Span, memory: &[u8], n: u64, words: &mut [u32]) -> 
     let mut heard = span;
     let mut left = n;
     while 0 < left {
-        let r = run::run(state, memory, portion_of(left), words);
+        let r = run::run(state, memory, arith::least_u64(left, 1000000), words);
         heard = run_meter::records::with_records(heard, words, 0, r.records as usize);
-        left -= wide(r.done);
+        left -= arith::wide_u32(r.done);
         state = r.state;
     }
     moment_of(false, state, heard)
@@ -119,7 +105,7 @@ fn act_on(m: Moment, memory: &[u8], a: Act, words: &mut [u32]) -> Moment
     let s = m.state;
     let span = m.span;
     match a {
-        Act::Wait(n) => clocks_on(s, span, memory, wide(n), words),
+        Act::Wait(n) => clocks_on(s, span, memory, arith::wide_u32(n), words),
         Act::Access(x) => access_on(m, x),
     }
 }

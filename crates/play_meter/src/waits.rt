@@ -64,13 +64,13 @@ fn pass_wait(g: Gauge, c: Cursor, memory: &[u8], n: u32, words: &mut [u32]) -> P
         s,
         run_meter::at_level(s.level() as u32),
         memory,
-        super::wide(n),
+        arith::wide_u32(n),
         words,
     );
     let far = m.state;
     let span = m.span;
     let meter = run_meter::told(span);
-    let after = gauge_of(g.time + super::wide(n), far, c);
+    let after = gauge_of(g.time + arith::wide_u32(n), far, c);
     Passed {
         next: Next::Wait(g.time, n, meter),
         gauge: after,

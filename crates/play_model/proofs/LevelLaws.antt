@@ -14,10 +14,10 @@ use Rattle.run_answer.specs.Run.{chipMachine}
 use Rattle.chip.specs.Clock.{chipClock}
 use Rattle.chip.specs.Level.{stateLevel}
 use Rattle.chip.specs.declared.State.{State}
-use Rattle.play_text.specs.declared.Note.{Note}
-use Rattle.play_text.specs.declared.Note.the-variants.{Level}
+use Rattle.play_text.specs.declared.Entry.{Entry}
+use Rattle.play_text.specs.declared.Entry.the-variants.{Level}
 use Rattle.play_model.specs.Sound.{heard, waited}
-use Rattle.play_model.specs.Stretch.{noteAt, lastOf}
+use Rattle.play_model.specs.Portion.{entryAt, lastOf}
 use Rattle.play_model.proofs.RoomLaws.{plain-all, plain-room, plain-most, plain-few}
 
 last-append : (last : ℕ) (ms : List Mark) (m : Mark) → lastOf last (ms ++ (m ∷ [])) ≡ m .level
@@ -37,12 +37,12 @@ module _ (memory : List ℕ) where
       by true = refl
       by false = ne-eqb (p .room) 0 (λ z. omega arith)
 
-  module _ (t last : ℕ) (rest : ℕ → ℕ → State → List Note) where
+  module _ (t last : ℕ) (rest : ℕ → ℕ → State → List Entry) where
     -- what is left of a reading, clock by clock
     abbrev Left : ℕ → Progress State → Progress State → Type 0
     Left n p r =
-        (map (noteAt t) (r .marks) ++ rest (t + (p .done + n)) (stateLevel (r .state)) (r .state)
-        ≡ map (noteAt t) (p .marks) ++ waited memory n (t + p .done) (stateLevel (p .state)) (p .state) rest)
+        (map (entryAt t) (r .marks) ++ rest (t + (p .done + n)) (stateLevel (r .state)) (r .state)
+        ≡ map (entryAt t) (p .marks) ++ waited memory n (t + p .done) (stateLevel (p .state)) (p .state) rest)
         × (lastOf last (p .marks) ≡ stateLevel (p .state) → lastOf last (r .marks) ≡ stateLevel (r .state))
 
     heard-none : (u l : ℕ) (s : State) → eqb (stateLevel s) l ≡ true → heard u l s ≡ []
@@ -86,7 +86,7 @@ module _ (memory : List ℕ) where
     abbrev pub all : Progress State
     all = plain (chipMachine memory) (1 + n) n s
 
-    pub waited-all : (rest : ℕ → ℕ → State → List Note) → waited memory n t (stateLevel s) s rest ≡ map (noteAt t) (all .marks) ++ rest (t + n) (stateLevel (all .state)) (all .state)
+    pub waited-all : (rest : ℕ → ℕ → State → List Entry) → waited memory n t (stateLevel s) s rest ≡ map (entryAt t) (all .marks) ++ rest (t + n) (stateLevel (all .state)) (all .state)
     unfolding plain
     waited-all rest =
         let i = read-left t 0 rest n (start (1 + n) s) (omega arith) in

@@ -21,6 +21,8 @@ below-append : (k : ℕ) (a b : List Mark) → Below k a → Below k b → Below
 below-append k [] b h g = g
 below-append k (m ∷ a) b h g = (h .0, below-append k a b (h .1) g)
 
+-- MORE ROOM
+
 module _ {S : Type 0} (m : Machine S) where
   -- the same progress with more room
   abbrev roomier : ℕ → Progress S → Progress S
@@ -87,6 +89,8 @@ module _ {S : Type 0} (m : Machine S) where
           ∙ ih (worked m p) k (omega (arith, worked-done p))
           ∙ ap (λ (q : Progress S). reading m k (roomier b q)) (sym s)
 
+  -- WHAT A READING LEAVES
+
   -- with room left at the end, no clock was left out
   reading-all : (n : ℕ) (p : Progress S) → 0 < reading m n p .room → reading m n p .done ≡ p .done + n
   unfolding reading
@@ -122,6 +126,8 @@ module _ {S : Type 0} (m : Machine S) where
       by false false ih = ih (recorded m p) (below-append k (p .marks) _ h (most (m .clock (p .state)), tt))
 
   module _ (a n : ℕ) (s : S) where
+    -- THE PLAIN READING
+
     -- the plain reading with room a + b: that with room a, and from where it ended, with the room that is left
     pub plain-more : (b : ℕ)
         → plain m (a + b) n s ≡ later (plain m a n s .done) (plain m a n s .marks) (plain m (plain m a n s .room + b) (n - plain m a n s .done) (plain m a n s .state))

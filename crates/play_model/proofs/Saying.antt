@@ -23,12 +23,12 @@ use Rattle.chip.specs.Range.{powerOn}
 use Rattle.chip.specs.declared.State.{State}
 use Rattle.chip_access.specs.Access.{accessState, accessByte}
 use Rattle.chip_access.proofs.AccessLaws.{level-read}
-use Rattle.play_text.specs.declared.Note.{Note}
-use Rattle.play_text.specs.declared.Note.the-variants.{Play, Level, Read, Stop}
+use Rattle.play_text.specs.declared.Entry.{Entry}
+use Rattle.play_text.specs.declared.Entry.the-variants.{Play, Level, Read, Stop}
 use Rattle.play_model.specs.declared.Player.{Player}
-use Rattle.play_model.specs.Sound.{heard, waited, readLine, notesFrom, notesOf}
+use Rattle.play_model.specs.Sound.{heard, waited, readLine, entriesFrom, entriesOf}
 use Rattle.play_model.specs.Turns.{go, playerOf, freshPlayer, levelTold, acted, stepSaid, cursorTurn, phaseTurn, turnOf, Goes}
-use Rattle.play_model.specs.Stretch.{noteAt}
+use Rattle.play_model.specs.Portion.{entryAt}
 use Rattle.play_model.proofs.LevelLaws.{all, waited-all, last-all, done-all}
 use Rattle.play_model.proofs.TellLaws.{Tells, by-rest, by-tell, by-end, goes-tells}
 use Rattle.play_model.proofs.TurnLaws.{turn-cursor, turn-phase}
@@ -37,6 +37,8 @@ use Rattle.play_model.proofs.WaitLaws.{waits}
 heard-same : (t last : ℕ) (s : State) → stateLevel s ≡ last → heard t last s ≡ []
 unfolding heard
 heard-same t last s e = rw (eq-eqb (stateLevel s) last e)
+
+-- ONE ACT
 
 -- what an act is
 
@@ -54,8 +56,10 @@ unfolding acted
 acted-read p c = refl
 
 module _ (log memory : List ℕ) where
-  abbrev pub Told : Player → List Note → ℕ → Type 0
+  abbrev pub Told : Player → List Entry → ℕ → Type 0
   Told p l k = Tells (turnOf log memory) p l k
+
+  -- TURNS AT THE LOG'S LINES
 
   -- the player's turns at the log's lines
   module _ (t last : ℕ) (s : State) (c : Cursor) where
@@ -81,34 +85,36 @@ module _ (log memory : List ℕ) where
 
   -- a wait
   wait-told : (n t : ℕ) (s : State) (c : Cursor) (l : List Act) (k : ℕ) → 1 ≤ n → n ≤ 1000000 → t + n ≤ 2000000000 → k + 1 < 4000010
-      → ((s′ : State) → Told (playerOf 2 0 (t + n) (stateLevel s′) s′ c) (notesFrom memory (t + n) (stateLevel s′) s′ l) k)
-      → Told (playerOf 2 n t (stateLevel s) s c) (waited memory n t (stateLevel s) s (λ t last s. notesFrom memory t last s l)) (k + 1)
+      → ((s′ : State) → Told (playerOf 2 0 (t + n) (stateLevel s′) s′ c) (entriesFrom memory (t + n) (stateLevel s′) s′ l) k)
+      → Told (playerOf 2 n t (stateLevel s) s c) (waited memory n t (stateLevel s) s (λ t last s. entriesFrom memory t last s l)) (k + 1)
   wait-told n t s c l k z a b m rest =
       let w = waits log memory n n t (stateLevel s) s c z a b in
       let d = done-all memory n t s in
       let q : n - all memory n t s .done ≡ 0 = omega arith in
-      let g : Goes (turnOf log memory) (playerOf 2 n t (stateLevel s) s c) (map (noteAt t) (all memory n t s .marks)) (w .turns)
+      let g : Goes (turnOf log memory) (playerOf 2 n t (stateLevel s) s c) (map (entryAt t) (all memory n t s .marks)) (w .turns)
       (playerOf 2 0 (t + n) (stateLevel (all memory n t s .state)) (all memory n t s .state) c) = rw (q, d, last-all memory n t s) at (w .goes) in
-      rw (waited-all memory n t s (λ t last s. notesFrom memory t last s l))
+      rw (waited-all memory n t s (λ t last s. entriesFrom memory t last s l))
       (goes-tells (turnOf log memory) g 1 (w .few) (rest (all memory n t s .state)) m)
 
   -- an access that led to the state s
-  access-told : (p : Player) (t last : ℕ) (s : State) (c : Cursor) (notes : List Note) (k m : ℕ)
-      → turnOf log memory p ≡ levelTold (playerOf 2 0 t last (p .state) (p .cursor)) s c → Told (playerOf 2 0 t (stateLevel s) s c) notes k → k < 4000010 → k < m
-      → Told p (heard t last s ++ notes) m
+  access-told : (p : Player) (t last : ℕ) (s : State) (c : Cursor) (entries : List Entry) (k m : ℕ)
+      → turnOf log memory p ≡ levelTold (playerOf 2 0 t last (p .state) (p .cursor)) s c → Told (playerOf 2 0 t (stateLevel s) s c) entries k → k < 4000010 → k < m
+      → Told p (heard t last s ++ entries) m
   unfolding levelTold heard
-  access-told p t last s c notes k m turn told low less = by (eqb (stateLevel s) last) refl turn
+  access-told p t last s c entries k m turn told low less = by (eqb (stateLevel s) last) refl turn
     where
       by : (z : Bool) → eqb (stateLevel s) last ≡ z
           → turnOf log memory p ≡ pick z (go on (playerOf 2 0 t last s c)) (go (says (Level t (stateLevel s))) (playerOf 2 0 t (stateLevel s) s c))
-          → Told p (pick z [] (Level t (stateLevel s) ∷ []) ++ notes) m
-      by true e u = by-rest (turnOf log memory) m u (subst (λ (x : ℕ). Told (playerOf 2 0 t x s c) notes k) (eqb-true (stateLevel s) last e) told) less
+          → Told p (pick z [] (Level t (stateLevel s) ∷ []) ++ entries) m
+      by true e u = by-rest (turnOf log memory) m u (subst (λ (x : ℕ). Told (playerOf 2 0 t x s c) entries k) (eqb-true (stateLevel s) last e) told) less
       by false e u = by-tell (turnOf log memory) m u told low
+
+  -- ALL ACTS
 
   -- the acts that a cursor stands for: at most two turns that say nothing for each of its steps
   acts-told : {c : Cursor} {l : List Act} {f : ℕ} → Gives (stepOf log) c l f → f ≤ 2000002 → (t : ℕ) (s : State) → Every l → t + clocksIn l ≤ 2000000000
-      → Told (playerOf 2 0 t (stateLevel s) s c) (notesFrom memory t (stateLevel s) s l) (2 * f)
-  unfolding notesFrom readLine clocksIn actClocks
+      → Told (playerOf 2 0 t (stateLevel s) s c) (entriesFrom memory t (stateLevel s) s l) (2 * f)
+  unfolding entriesFrom readLine clocksIn actClocks
   acts-told {c = c} (ends f e p) h t s w b =
       by-tell (turnOf log memory) (2 * f) (turn-over t (stateLevel s) s c e) (by-end (turnOf log memory) 0 (turn-end t (stateLevel s) s (stepOf log c .state))) (omega arith)
   acts-told {c = c} (goes {k = k} f e g p) h t s w b =
@@ -119,14 +125,14 @@ module _ (log memory : List ℕ) where
       (omega arith)
   acts-told {c = c} (gives {a = line.Access (bus.Write r v)} {l = l} {k = k} f e g p) h t s w b =
       let s′ : State = accessState (bus.Write r v) s in
-      access-told (playerOf 2 0 t (stateLevel s) s c) t (stateLevel s) s′ (stepOf log c .state) (notesFrom memory t (stateLevel s′) s′ l) (2 * k) (2 * f)
+      access-told (playerOf 2 0 t (stateLevel s) s c) t (stateLevel s) s′ (stepOf log c .state) (entriesFrom memory t (stateLevel s′) s′ l) (2 * k) (2 * f)
       (turn-act t (stateLevel s) s c (line.Access (bus.Write r v)) e ∙ acted-write (playerOf 2 0 t (stateLevel s) s c) r v (stepOf log c .state))
       (acts-told g (omega arith) t s′ (w .1) (omega arith)) (omega arith) (omega arith)
   acts-told {c = c} (gives {a = line.Access bus.Read} {l = l} {k = k} f e g p) h t s w b =
       let s′ : State = accessState bus.Read s in
-      let told : Told (playerOf 2 0 t (stateLevel s) s′ (stepOf log c .state)) (heard t (stateLevel s) s′ ++ notesFrom memory t (stateLevel s′) s′ l) (2 * k) =
+      let told : Told (playerOf 2 0 t (stateLevel s) s′ (stepOf log c .state)) (heard t (stateLevel s) s′ ++ entriesFrom memory t (stateLevel s′) s′ l) (2 * k) =
       rw (heard-same t (stateLevel s) s′ (level-read s))
-      (subst (λ (x : ℕ). Told (playerOf 2 0 t x s′ (stepOf log c .state)) (notesFrom memory t (stateLevel s′) s′ l) (2 * k)) (level-read s)
+      (subst (λ (x : ℕ). Told (playerOf 2 0 t x s′ (stepOf log c .state)) (entriesFrom memory t (stateLevel s′) s′ l) (2 * k)) (level-read s)
       (acts-told g (omega arith) t s′ (w .1) (omega arith))) in
       by-tell (turnOf log memory) (2 * f) (turn-act t (stateLevel s) s c (line.Access bus.Read) e ∙ acted-read (playerOf 2 0 t (stateLevel s) s c) (stepOf log c .state)) told (omega arith)
 
@@ -141,8 +147,8 @@ module _ (log memory : List ℕ) where
   turn-level pal = turn-phase log memory (playerOf 1 0 0 0 (powerOn pal) beginning) (λ e. absurd (let z : _≡_ {A = ℕ} 1 2 = e in omega arith))
 
   -- A PLAYER AT THE BEGINNING SAYS THE WHOLE OF IT, on either machine
-  pub fresh-told : checkOf log .number ≡ 0 → (pal : Bool) → Told (freshPlayer pal) (notesOf pal memory (acts (treeOf log))) 1
-  unfolding notesOf
+  pub fresh-told : checkOf log .number ≡ 0 → (pal : Bool) → Told (freshPlayer pal) (entriesOf pal memory (acts (treeOf log))) 1
+  unfolding entriesOf
   fresh-told h pal =
       let few = clear log h .in-clocks in
       let sum = clocks-listed (treeOf log) in

@@ -17,9 +17,9 @@ use Rattle.log_cursor.specs.Stepping.{stepOf}
 use Rattle.chip.specs.Level.{stateLevel}
 use Rattle.chip.specs.declared.State.{State}
 use Rattle.chip.proofs.RangeLaws.{level-most}
-use Rattle.play_text.specs.declared.Note.{Note}
-use Rattle.play_text.specs.declared.Note.the-variants.{Play, Level}
-use Rattle.play_text.specs.Notes.{noteText}
+use Rattle.play_text.specs.declared.Entry.{Entry}
+use Rattle.play_text.specs.declared.Entry.the-variants.{Play, Level}
+use Rattle.play_text.specs.Entries.{entryText}
 use Rattle.play_text.proofs.TextLaws.{level-size, read-size, stop-size, play-size}
 use Rattle.play_model.specs.declared.Player.{Player}
 use Rattle.play_model.specs.Turns.{Go, go, playerOf, levelTold, acted, stepSaid, cursorTurn, waitTurn, phaseTurn, turnOf}
@@ -42,7 +42,7 @@ module _ (log memory : List ℕ) (p : Player) where
   turn-nine h z k n = rw (eq-eqb (p .phase) 2 h, ne-eqb (p .wait) 0 (λ y. omega arith), le-leb (p .wait) 1000000 k, lt-leb (p .time + p .wait) 2000000000 n)
 
 -- over, or refused
-abbrev pub Ends : Said Note → Type 0
+abbrev pub Ends : Said Entry → Type 0
 Ends over = Unit {0}
 Ends on = ⊥
 Ends (says n) = ⊥
@@ -88,10 +88,10 @@ phase-stays p = by (eqb (p .phase) 0) (eqb (p .phase) 1)
     by false false e = refl
 
 -- a line that a turn says has 23 bytes at most
-abbrev pub Short : Said Note → Type 0
+abbrev pub Short : Said Entry → Type 0
 Short over = Unit {0}
 Short on = Unit {0}
-Short (says n) = length (noteText n) ≤ 23
+Short (says n) = length (entryText n) ≤ 23
 Short (refused k q) = Unit {0}
 
 level-short : (p : Player) (s : State) (c : Cursor) → Short (levelTold p s c .said)

@@ -1,4 +1,4 @@
--- A stretch of a wait, read with room for many records, is so many turns with room for one. Assumes nothing.
+-- A portion of a wait, read with room for many records, is so many turns with room for one. Assumes nothing.
 use Prim.Native.Nat.{ℕ, zero, suc, _+_, _-_, _≤_, _<_}
 use mathlib.Core.Path.{_≡_, refl, sym, ap, ap₂, _∙_, subst}
 use mathlib.Core.Logic.{_⊎_, inl, inr}
@@ -16,42 +16,48 @@ use Rattle.chip.specs.Range.{inRange, Bytes}
 use Rattle.chip.specs.declared.State.{State}
 use Rattle.chip.proofs.RangeLaws.{StateRanged, state-in, state-back, clock-kept}
 use Rattle.log_cursor.specs.declared.Cursor.{Cursor}
-use Rattle.play_text.specs.declared.Note.{Note}
-use Rattle.play_text.specs.declared.Note.the-variants.{Level}
+use Rattle.play_text.specs.declared.Entry.{Entry}
+use Rattle.play_text.specs.declared.Entry.the-variants.{Level}
 use Rattle.play_model.specs.declared.Player.{Player}
 use Rattle.play_model.specs.Turns.{Go, go, playerOf, markSaid, markLast, waitedBy, waitTurn, turnOf, Goes, here, quietly, saying}
-use Rattle.play_model.specs.Stretch.{noteAt, lastOf}
+use Rattle.play_model.specs.Portion.{entryAt, lastOf}
 use Rattle.play_model.proofs.RoomLaws.{plain-more, plain-all, plain-most, plain-room, plain-none}
 
+-- RECORDS FROM A LATER START
+
 -- clocks counted from d earlier
-notes-raised : (t d : ℕ) (ms : List Mark) → map (noteAt t) (map (raised d) ms) ≡ map (noteAt (t + d)) ms
-notes-raised t d [] = refl
-notes-raised t d (m ∷ ms) =
-    ap (λ (k : ℕ). Level k (m .level) ∷ map (noteAt t) (map (raised d) ms)) (sym (add-assoc t d (m .clock)))
-    ∙ ap (λ (l : List Note). Level (t + d + m .clock) (m .level) ∷ l) (notes-raised t d ms)
+entries-raised : (t d : ℕ) (ms : List Mark) → map (entryAt t) (map (raised d) ms) ≡ map (entryAt (t + d)) ms
+entries-raised t d [] = refl
+entries-raised t d (m ∷ ms) =
+    ap (λ (k : ℕ). Level k (m .level) ∷ map (entryAt t) (map (raised d) ms)) (sym (add-assoc t d (m .clock)))
+    ∙ ap (λ (l : List Entry). Level (t + d + m .clock) (m .level) ∷ l) (entries-raised t d ms)
 
 last-raised : (last d : ℕ) (ms : List Mark) → lastOf last (map (raised d) ms) ≡ lastOf last ms
 unfolding lastOf
 last-raised last d [] = refl
 last-raised last d (m ∷ ms) = last-raised (m .level) d ms
 
+-- A TURN OR MORE
+
 module _ (turn : Player → Go) where
   -- a turn or more
-  pub record Ways (p : Player) (notes : List Note) (q : Player) : Type 0 where
+  pub record Ways (p : Player) (entries : List Entry) (q : Player) : Type 0 where
     pub turns : ℕ
     pub some : 0 < turns
-    pub few : turns ≤ length notes + 1
-    pub goes : Goes turn p notes turns q
+    pub few : turns ≤ length entries + 1
+    pub goes : Goes turn p entries turns q
 
-  pub by-quiet : {p p′ q : Player} {notes : List Note} {n : ℕ} → turn p ≡ go on p′ → Goes turn p′ notes n q → Goes turn p notes (suc n) q
-  by-quiet {p = p} {q = q} {notes = notes} {n = n} e g =
-      let g′ : Goes turn (turn p .state) notes n q = rw e g in
+  pub by-quiet : {p p′ q : Player} {entries : List Entry} {n : ℕ} → turn p ≡ go on p′ → Goes turn p′ entries n q → Goes turn p entries (suc n) q
+  by-quiet {p = p} {q = q} {entries = entries} {n = n} e g =
+      let g′ : Goes turn (turn p .state) entries n q = rw e g in
       quietly (ap (λ (x : Go). x .said) e) g′
 
-  pub by-saying : {p p′ q : Player} {a : Note} {notes : List Note} {n : ℕ} → turn p ≡ go (says a) p′ → Goes turn p′ notes n q → Goes turn p (a ∷ notes) (suc n) q
-  by-saying {p = p} {q = q} {notes = notes} {n = n} e g =
-      let g′ : Goes turn (turn p .state) notes n q = rw e g in
+  pub by-saying : {p p′ q : Player} {a : Entry} {entries : List Entry} {n : ℕ} → turn p ≡ go (says a) p′ → Goes turn p′ entries n q → Goes turn p (a ∷ entries) (suc n) q
+  by-saying {p = p} {q = q} {entries = entries} {n = n} e g =
+      let g′ : Goes turn (turn p .state) entries n q = rw e g in
       saying (ap (λ (x : Go). x .said) e) g′
+
+-- TURNS OF A WAIT
 
 module _ (log memory : List ℕ) where
   wait-turn : (w t last : ℕ) (s : State) (c : Cursor) → 0 < w → w ≤ 1000000 → t + w ≤ 2000000000
@@ -67,12 +73,12 @@ module _ (log memory : List ℕ) where
       ap (λ (l : List Mark). r .room + length l) (sym h)
       ∙ (ap (λ (x : Progress State). x .room + length (x .marks)) e ∙ plain-room (chipMachine memory) 1 w s)
 
-  -- behind a stretch that read r
+  -- behind a portion that read r
   abbrev behind : ℕ → ℕ → ℕ → Cursor → Progress State → Player
   behind w t last c r = playerOf 2 (w - r .done) (t + r .done) (lastOf last (r .marks)) (r .state) c
 
   abbrev Read : ℕ → ℕ → ℕ → State → Cursor → Progress State → Type 0
-  Read w t last s c r = Ways (turnOf log memory) (playerOf 2 w t last s c) (map (noteAt t) (r .marks)) (behind w t last c r)
+  Read w t last s c r = Ways (turnOf log memory) (playerOf 2 w t last s c) (map (entryAt t) (r .marks)) (behind w t last c r)
 
   module _ (w t last : ℕ) (s : State) (c : Cursor) (z : 0 < w) (a : w ≤ 1000000) (b : t + w ≤ 2000000000) where
     -- a turn that brings no record ends the wait
@@ -92,16 +98,16 @@ module _ (log memory : List ℕ) where
     -- a turn that brings a record, and then what the rest of the wait brings
     one : (more : ℕ) (r : Progress State) → r ≡ plain (chipMachine memory) 1 w s → (x : Mark) → r .marks ≡ x ∷ []
         → (rest : Progress State) → plain (chipMachine memory) (1 + more) w s ≡ later (r .done) (x ∷ []) rest
-        → (n : ℕ) → n ≤ length (map (noteAt (t + r .done)) (rest .marks)) + 1 → Goes (turnOf log memory) (playerOf 2 (w - r .done) (t + r .done) (x .level) (r .state) c) (map (noteAt (t + r .done)) (rest .marks)) n
+        → (n : ℕ) → n ≤ length (map (entryAt (t + r .done)) (rest .marks)) + 1 → Goes (turnOf log memory) (playerOf 2 (w - r .done) (t + r .done) (x .level) (r .state) c) (map (entryAt (t + r .done)) (rest .marks)) n
         (playerOf 2 (w - r .done - rest .done) (t + r .done + rest .done) (lastOf (x .level) (rest .marks)) (rest .state) c)
         → Read w t last s c (plain (chipMachine memory) (1 + more) w s)
     unfolding lastOf markSaid markLast
     one more r e x h rest whole n few g =
-        let turn : turnOf log memory (playerOf 2 w t last s c) ≡ go (says (noteAt t x)) (playerOf 2 (w - r .done) (t + r .done) (x .level) (r .state) c) = wait-turn w t last s c z a b ∙ rw (← e, h) refl in
+        let turn : turnOf log memory (playerOf 2 w t last s c) ≡ go (says (entryAt t x)) (playerOf 2 (w - r .done) (t + r .done) (x .level) (r .state) c) = wait-turn w t last s c z a b ∙ rw (← e, h) refl in
         let i : w - (r .done + rest .done) ≡ w - r .done - rest .done = omega arith in
         let j : t + (r .done + rest .done) ≡ t + r .done + rest .done = omega arith in
         subst (Read w t last s c) (sym whole)
-        (rw (notes-raised t (r .done) (rest .marks), last-raised (x .level) (r .done) (rest .marks), i, j)
+        (rw (entries-raised t (r .done) (rest .marks), last-raised (x .level) (r .done) (rest .marks), i, j)
         (record { turns = suc n; some = omega arith; few = omega arith; goes = by-saying (turnOf log memory) turn g }))
 
   -- a reading whose only record took its only room
@@ -113,7 +119,7 @@ module _ (log memory : List ℕ) where
   either-way zero = inl refl
   either-way (suc n) = inr (omega arith)
 
-  -- as many turns as a stretch has records, and one where it has none
+  -- as many turns as a portion has records, and one where it has none
   pub waits : (more w t last : ℕ) (s : State) (c : Cursor) → 0 < w → w ≤ 1000000 → t + w ≤ 2000000000 → Read w t last s c (plain (chipMachine memory) (1 + more) w s)
   unfolding lastOf
   waits zero w t last s c z a b = by (plain (chipMachine memory) 1 w s) refl (plain (chipMachine memory) 1 w s .marks) refl
@@ -153,7 +159,7 @@ module _ (log memory : List ℕ) where
               ap (λ (n : ℕ). plain (chipMachine memory) (1 + more) n (r .state)) d ∙ plain-none (chipMachine memory) (1 + more) (r .state) in
               one w t last s c z a b (suc more) r e x h (start (1 + more) (r .state)) (whole ∙ ap (later (r .done) (x ∷ [])) rest) 0 (omega arith) (rw (k, add-zero) here)
 
--- a stretch keeps the state in range
+-- a portion keeps the state in range
 pub plain-ranged : (memory : List ℕ) → Bytes memory → (a n : ℕ) (s : State) → inRange s ≡ true → inRange (plain (chipMachine memory) a n s .state) ≡ true
 unfolding plain
 plain-ranged memory bytes a n s h = state-back _ (reading-keeps (chipMachine memory) StateRanged (clock-kept memory bytes) n (start a s) (state-in s h))

@@ -1,3 +1,3 @@
 pub mod Sound
-pub mod Stretch
+pub mod Portion
 pub mod Turns

@@ -18,14 +18,14 @@ use Rattle.chip.specs.Level.{stateLevel}
 use Rattle.chip.specs.Range.{powerOn}
 use Rattle.chip.specs.declared.State.{State}
 use Rattle.chip_access.specs.Access.{accessState, accessByte}
-use Rattle.play_text.specs.declared.Note.{Note}
-use Rattle.play_text.specs.declared.Note.the-variants.{Play, Level, Read, Stop}
+use Rattle.play_text.specs.declared.Entry.{Entry}
+use Rattle.play_text.specs.declared.Entry.the-variants.{Play, Level, Read, Stop}
 use Rattle.play_model.specs.declared.Player.{Player}
 
 abbrev pub Go : Type 0
-Go = Turn Player Note
+Go = Turn Player Entry
 
-abbrev pub go : Said Note → Player → Go
+abbrev pub go : Said Entry → Player → Go
 go w p = record { said = w; state = p }
 
 -- phase 0: `play=1` is due; 1: the first level; 2: the acts; 3 and above: all is over
@@ -63,8 +63,8 @@ stepSaid p (refused k q) c = go (refused k q) p
 unfoldable pub cursorTurn : List ℕ → Player → Go
 cursorTurn log p = stepSaid p (stepOf log (p .cursor) .said) (stepOf log (p .cursor) .state)
 
--- the first level that a stretch of a wait brought, as a line; and the last level behind it
-unfoldable pub markSaid : ℕ → List Mark → Said Note
+-- the first level that a portion of a wait brought, as a line; and the last level behind it
+unfoldable pub markSaid : ℕ → List Mark → Said Entry
 markSaid t [] = on
 markSaid t (m ∷ ms) = says (Level (t + m .clock) (m .level))
 
@@ -72,7 +72,7 @@ unfoldable pub markLast : ℕ → List Mark → ℕ
 markLast last [] = last
 markLast last (m ∷ ms) = m .level
 
--- the player behind a stretch of its wait
+-- the player behind a portion of its wait
 unfoldable pub waitedBy : Player → Progress State → Go
 waitedBy p r =
     go (markSaid (p .time) (r .marks))
@@ -100,8 +100,8 @@ turnOf log memory p =
     pick (eqb (p .phase) 2) (pick (eqb (p .wait) 0) (cursorTurn log p) (waitTurn memory p)) (phaseTurn p)
 
 -- from a player, in so many turns, to another, with the lines that are said on the way
-pub data Goes (turn : Player → Go) : Player → List Note → ℕ → Player → Type 0 where
+pub data Goes (turn : Player → Go) : Player → List Entry → ℕ → Player → Type 0 where
   here : {p : Player} → Goes turn p [] 0 p
-  quietly : {p q : Player} {notes : List Note} {n : ℕ} → turn p .said ≡ on → Goes turn (turn p .state) notes n q → Goes turn p notes (suc n) q
-  saying : {p q : Player} {note : Note} {notes : List Note} {n : ℕ} → turn p .said ≡ says note → Goes turn (turn p .state) notes n q
-      → Goes turn p (note ∷ notes) (suc n) q
+  quietly : {p q : Player} {entries : List Entry} {n : ℕ} → turn p .said ≡ on → Goes turn (turn p .state) entries n q → Goes turn p entries (suc n) q
+  saying : {p q : Player} {entry : Entry} {entries : List Entry} {n : ℕ} → turn p .said ≡ says entry → Goes turn (turn p .state) entries n q
+      → Goes turn p (entry ∷ entries) (suc n) q

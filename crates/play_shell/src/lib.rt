@@ -44,7 +44,7 @@ fn refused(number: u8, place: usize) {
 pub fn play(log: &[u8], memory: &[u8])
     ensures { λ r. ⌜ r ≡ tt ⌝ }
 {
-    let b = play::begin(log, memory);
+    let b = play_begin::begin(log, memory);
     if b.number == 0 {
         let p = b.player;
         all(p, log, memory);

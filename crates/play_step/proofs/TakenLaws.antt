@@ -1,4 +1,4 @@
--- What a step does is what the player's turns say: each turn is one, and a stretch of a wait as many as it has records. Assumes nothing.
+-- What a step does is what the player's turns say: each turn is one, and a portion of a wait as many as it has records. Assumes nothing.
 use Prim.Native.Nat.{ℕ, _+_, _-_, _≤_, _<_}
 use mathlib.Core.Path.{_≡_, refl, sym, ap, _∙_}
 use mathlib.Core.Bool.{Bool, true, false}
@@ -16,12 +16,12 @@ use Rattle.run_answer.specs.Run.{chipMachine, number}
 use Rattle.run_answer.proofs.AnswerLaws.{number-none}
 use Rattle.chip.specs.Range.{inRange, Bytes}
 use Rattle.chip.specs.declared.State.{State}
-use Rattle.play_text.specs.declared.Note.{Note}
-use Rattle.play_text.specs.Notes.{noteText, notesText}
+use Rattle.play_text.specs.declared.Entry.{Entry}
+use Rattle.play_text.specs.Entries.{entryText, entriesText}
 use Rattle.play_text.proofs.LineLaws.{lines-in, lines-end}
-use Rattle.play_text.proofs.TextLaws.{notes-none, notes-one}
+use Rattle.play_text.proofs.TextLaws.{entries-none, entries-one}
 use Rattle.play_model.specs.declared.Player.{Player}
-use Rattle.play_model.specs.Stretch.{noteAt}
+use Rattle.play_model.specs.Portion.{entryAt}
 use Rattle.play_model.specs.Turns.{Go, go, playerOf, cursorTurn, phaseTurn, turnOf, Goes, here}
 use Rattle.play_model.proofs.TurnLaws.{turn-phase, turn-cursor, turn-three, turn-nine, Ends, Short, cursor-stays, phase-stays, cursor-short, phase-short}
 use Rattle.play_model.proofs.WaitLaws.{by-quiet, by-saying, waits, plain-ranged}
@@ -30,18 +30,20 @@ use Rattle.play_turn.specs.declared.Told.the-variants.{Over, On, Says, Refused}
 use Rattle.play_turn.specs.declared.Went.{Went}
 use Rattle.play_turn.specs.Turned.{toldAs, went}
 use Rattle.play_step.specs.declared.Taken.{Taken}
-use Rattle.play_step.specs.Steps.{takenOf, takenBytes, roomFor, stretchOf, stretchText, stretchTaken, halted, waitTaken, waitText, stepTaken, stepBytes}
-use Rattle.play_step.proofs.StretchLaws.{room-fits, room-some, stretch-size}
+use Rattle.play_step.specs.Steps.{takenOf, takenBytes, roomFor, portionOf, portionText, portionTaken, halted, waitTaken, waitText, stepTaken, stepBytes}
+use Rattle.play_step.proofs.PortionLaws.{room-fits, room-some, portion-size}
+
+-- WHAT A STEP COMES TO
 
 -- a turn or more, and their lines behind `at`
 pub record Moved (turn : Player → Go) (p : Player) (at : ℕ) (before after : List ℕ) (r : Taken) : Type 0 where
-  pub notes : List Note
+  pub entries : List Entry
   pub turns : ℕ
   pub some : 0 < turns
-  pub goes : Goes turn p notes turns (r .player)
-  pub place : r .at ≡ at + length (notesText notes)
-  pub fits : at + length (notesText notes) ≤ length before
-  pub bytes : after ≡ sets before at (notesText notes)
+  pub goes : Goes turn p entries turns (r .player)
+  pub place : r .at ≡ at + length (entriesText entries)
+  pub fits : at + length (entriesText entries) ≤ length before
+  pub bytes : after ≡ sets before at (entriesText entries)
   pub fine : inRange (r .player .state) ≡ true
 
 -- what a step of the loop comes to, by its kind
@@ -53,8 +55,9 @@ pub record Took (turn : Player → Go) (p : Player) (at : ℕ) (before after : L
   pub stays : (r .kind ≡ 0 → ⊥) → (r .player ≡ p) × (r .at ≡ at)
   pub kinds : r .kind ≤ 2
 
+-- A TURN THAT IS NO PART OF A WAIT
 module _ (turn : Player → Go) (p : Player) (at : ℕ) (before after : List ℕ) (r : Taken) where
-  took-of : (s : Said Note) (q : Player) → turn p ≡ go s q → r ≡ takenOf before at (toldAs s) q → after ≡ takenBytes before at (toldAs s) → at + 23 ≤ length before
+  took-of : (s : Said Entry) (q : Player) → turn p ≡ go s q → r ≡ takenOf before at (toldAs s) q → after ≡ takenBytes before at (toldAs s) → at + 23 ≤ length before
       → Short s → inRange (r .player .state) ≡ true → (Ends s → q ≡ p) → Took turn p at before after r
   took-of over q e a b f h k w =
       let z : r .kind ≡ 1 = ap (λ (t : Taken). t .kind) a in
@@ -72,13 +75,13 @@ module _ (turn : Player → Go) (p : Player) (at : ℕ) (before after : List ℕ
       record {
         moved =
             λ y. record {
-              notes = [];
+              entries = [];
               turns = 1;
               some = omega arith;
               goes = rw j (by-quiet turn e here);
-              place = rw notes-none (i ∙ sym (add-zero at));
-              fits = rw notes-none (omega arith);
-              bytes = rw notes-none b;
+              place = rw entries-none (i ∙ sym (add-zero at));
+              fits = rw entries-none (omega arith);
+              bytes = rw entries-none b;
               fine = k;
             };
         ended = λ y. absurd (omega arith);
@@ -88,18 +91,18 @@ module _ (turn : Player → Go) (p : Player) (at : ℕ) (before after : List ℕ
       }
   took-of (says n) q e a b f h k w =
       let z : r .kind ≡ 0 = ap (λ (t : Taken). t .kind) a in
-      let i : r .at ≡ at + length (noteText n) = ap (λ (t : Taken). t .at) a ∙ lines-end before at 1 (noteText n) (omega arith) in
+      let i : r .at ≡ at + length (entryText n) = ap (λ (t : Taken). t .at) a ∙ lines-end before at 1 (entryText n) (omega arith) in
       let j : r .player ≡ q = ap (λ (t : Taken). t .player) a in
       record {
         moved =
             λ y. record {
-              notes = n ∷ [];
+              entries = n ∷ [];
               turns = 1;
               some = omega arith;
               goes = rw j (by-saying turn e here);
-              place = rw notes-one i;
-              fits = rw notes-one (omega arith);
-              bytes = rw notes-one (b ∙ lines-in before at 1 (noteText n) (omega arith));
+              place = rw entries-one i;
+              fits = rw entries-one (omega arith);
+              bytes = rw entries-one (b ∙ lines-in before at 1 (entryText n) (omega arith));
               fine = k;
             };
         ended = λ y. absurd (omega arith);
@@ -133,7 +136,7 @@ module _ (turn : Player → Go) (p : Player) (at : ℕ) (before after : List ℕ
       }
 
 module _ (log memory : List ℕ) (p : Player) (before : List ℕ) (at : ℕ) where
-  -- a stretch of a wait
+  -- A STRETCH OF A WAIT
   module _ (size : length memory ≡ 32768) (f : inRange (p .state) ≡ true) (space : at + 23 ≤ length before) (phase : p .phase ≡ 2) (some : 0 < p .wait) (after : List ℕ) (r : Taken)
       (k : inRange (r .player .state) ≡ true) where
     abbrev room : ℕ
@@ -142,31 +145,31 @@ module _ (log memory : List ℕ) (p : Player) (before : List ℕ) (at : ℕ) whe
     abbrev R : Progress State
     R = plain (chipMachine memory) room (p .wait) (p .state)
 
-    is-plain : p .wait ≤ 1000000 → stretchOf memory room p ≡ R
-    unfolding stretchOf
+    is-plain : p .wait ≤ 1000000 → portionOf memory room p ≡ R
+    unfolding portionOf
     is-plain h = rw (eq-eqb _ 0 (number-none memory (p .state) (p .wait) size f h))
 
-    came-to : r ≡ stretchTaken p at R → playerOf 2 (p .wait - R .done) (p .time + R .done) (stretchTaken p at R .player .last) (R .state) (p .cursor) ≡ r .player
+    came-to : r ≡ portionTaken p at R → playerOf 2 (p .wait - R .done) (p .time + R .done) (portionTaken p at R .player .last) (R .state) (p .cursor) ≡ r .player
     came-to e =
-        ap (λ (n : ℕ). playerOf n (p .wait - R .done) (p .time + R .done) (stretchTaken p at R .player .last) (R .state) (p .cursor)) (sym phase)
+        ap (λ (n : ℕ). playerOf n (p .wait - R .done) (p .time + R .done) (portionTaken p at R .player .last) (R .state) (p .cursor)) (sym phase)
         ∙ ap (λ (t : Taken). t .player) (sym e)
 
-    took-stretch : p .wait ≤ 1000000 → p .time + p .wait ≤ 2000000000 → r ≡ stretchTaken p at R → after ≡ sets before at (stretchText p R) → Took (turnOf log memory) p at before after r
-    took-stretch short total e b =
+    took-portion : p .wait ≤ 1000000 → p .time + p .wait ≤ 2000000000 → r ≡ portionTaken p at R → after ≡ sets before at (portionText p R) → Took (turnOf log memory) p at before after r
+    took-portion short total e b =
         let one : 1 + (room - 1) ≡ room = (let x = room-some (length before) at space in omega arith) in
         let same : playerOf 2 (p .wait) (p .time) (p .last) (p .state) (p .cursor) ≡ p = ap (λ (n : ℕ). playerOf n (p .wait) (p .time) (p .last) (p .state) (p .cursor)) (sym phase) in
         let w = rw (one, same) at (waits log memory (room - 1) (p .wait) (p .time) (p .last) (p .state) (p .cursor) some short total) in
-        let i : r .at ≡ at + length (stretchText p R) = ap (λ (t : Taken). t .at) e in
+        let i : r .at ≡ at + length (portionText p R) = ap (λ (t : Taken). t .at) e in
         let z : r .kind ≡ 0 = ap (λ (t : Taken). t .kind) e in
         record {
           moved =
               λ y. record {
-                notes = map (noteAt (p .time)) (R .marks);
+                entries = map (entryAt (p .time)) (R .marks);
                 turns = w .turns;
                 some = w .some;
                 goes = rw (came-to e) at (w .goes);
                 place = i;
-                fits = stretch-size memory p room (length before) at (room-fits (length before) at (omega arith));
+                fits = portion-size memory p room (length before) at (room-fits (length before) at (omega arith));
                 bytes = b;
                 fine = k;
               };
@@ -181,11 +184,11 @@ module _ (log memory : List ℕ) (p : Player) (before : List ℕ) (at : ℕ) whe
     took-wait = by (leb (p .wait) 1000000) refl (leb (p .time + p .wait) 2000000000) refl
       where
         by : (t : Bool) → leb (p .wait) 1000000 ≡ t → (u : Bool) → leb (p .time + p .wait) 2000000000 ≡ u
-            → r ≡ pick t (pick u (stretchTaken p at (stretchOf memory room p)) (halted 9 p at)) (halted 3 p at)
-            → after ≡ sets before at (pick t (pick u (stretchText p (stretchOf memory room p)) []) []) → Took (turnOf log memory) p at before after r
+            → r ≡ pick t (pick u (portionTaken p at (portionOf memory room p)) (halted 9 p at)) (halted 3 p at)
+            → after ≡ sets before at (pick t (pick u (portionText p (portionOf memory room p)) []) []) → Took (turnOf log memory) p at before after r
         by true a true c e b =
             let s = leb-true (p .wait) 1000000 a in
-            took-stretch s (leb-true (p .time + p .wait) 2000000000 c) (rw (is-plain s) at e) (rw (is-plain s) at b)
+            took-portion s (leb-true (p .time + p .wait) 2000000000 c) (rw (is-plain s) at e) (rw (is-plain s) at b)
         by true a false c e b =
             took-refusal (turnOf log memory) p at before after r 9
             (turn-nine log memory p phase some (leb-true (p .wait) 1000000 a) (leb-false (p .time + p .wait) 2000000000 c)) e b
@@ -211,7 +214,7 @@ module _ (log memory : List ℕ) (p : Player) (before : List ℕ) (at : ℕ) whe
           took-of (turnOf log memory) p at before after r (phaseTurn p .said) (phaseTurn p .state) (turn-phase log memory p (eqb-false (p .phase) 2 i)) e b space
           (phase-short p) k (phase-stays p)
 
-  -- what the code's parts come to
+  -- WHAT THE CODE'S PARTS COME TO
   pub by-turn : (eqb (p .phase) 2 ≡ true → eqb (p .wait) 0 ≡ true) → (w : Went) → w ≡ went (pick (eqb (p .phase) 2) (cursorTurn log p) (phaseTurn p)) → (after : List ℕ) (r : Taken)
       → r ≡ takenOf before at (w .told) (w .player) → after ≡ takenBytes before at (w .told) → (r ≡ stepTaken log memory p before at) × (after ≡ stepBytes log memory p before at)
   unfolding stepTaken stepBytes
@@ -240,10 +243,10 @@ taken-player out at (Refused k q) p = refl
 
 -- a wait keeps the state in range
 pub wait-kept : (memory : List ℕ) → Bytes memory → (room : ℕ) (p : Player) (at : ℕ) → inRange (p .state) ≡ true → inRange (waitTaken memory room p at .player .state) ≡ true
-unfolding waitTaken stretchOf
+unfolding waitTaken portionOf
 wait-kept memory bytes room p at f = by (leb (p .wait) 1000000) (leb (p .time + p .wait) 2000000000) (eqb (number memory (p .state) (p .wait)) 0)
   where
-    by : (t u v : Bool) → inRange (pick t (pick u (stretchTaken p at (pick v (plain (chipMachine memory) room (p .wait) (p .state)) (record { state = p .state; done = 0; room = room; marks = [] }))) (halted 9 p at)) (halted 3 p at) .player .state) ≡ true
+    by : (t u v : Bool) → inRange (pick t (pick u (portionTaken p at (pick v (plain (chipMachine memory) room (p .wait) (p .state)) (record { state = p .state; done = 0; room = room; marks = [] }))) (halted 9 p at)) (halted 3 p at) .player .state) ≡ true
     by true true true = plain-ranged memory bytes room (p .wait) (p .state) f
     by true true false = f
     by true false v = f

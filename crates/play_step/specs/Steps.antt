@@ -1,5 +1,5 @@
 -- Helper: nobody has to believe this; what the code leaves in lent bytes; proved to be turns (proofs/TakenLaws).
--- A step of the player over lent bytes: a turn's line, or a stretch of a wait as lines.
+-- A step of the player over lent bytes: a turn's line, or a portion of a wait as lines.
 use Prim.Native.Nat.{ℕ, _+_, _-_, _*_, _/_}
 use mathlib.Core.List.{List, [], map}
 use lib.ListN.{length, getD}
@@ -9,10 +9,10 @@ use Rattle.arith.specs.Pick.{pick}
 use Rattle.machine.specs.Reading.{Progress, start, plain}
 use Rattle.run_answer.specs.Run.{chipMachine, number}
 use Rattle.chip.specs.declared.State.{State}
-use Rattle.play_text.specs.Notes.{noteText, notesText}
+use Rattle.play_text.specs.Entries.{entryText, entriesText}
 use Rattle.play_text.specs.Lines.{linesIn, linesEnd}
 use Rattle.play_model.specs.declared.Player.{Player}
-use Rattle.play_model.specs.Stretch.{noteAt, lastOf}
+use Rattle.play_model.specs.Portion.{entryAt, lastOf}
 use Rattle.play_model.specs.Turns.{playerOf, cursorTurn, phaseTurn}
 use Rattle.play_turn.specs.declared.Told.{Told}
 use Rattle.play_turn.specs.declared.Told.the-variants.{Over, On, Says, Refused}
@@ -23,14 +23,14 @@ use Rattle.play_step.specs.declared.Taken.{Taken}
 abbrev pub takenOf : List ℕ → ℕ → Told → Player → Taken
 takenOf out at Over p = record { kind = 1; number = 0; place = 0; player = p; at = at }
 takenOf out at On p = record { kind = 0; number = 0; place = 0; player = p; at = at }
-takenOf out at (Says n) p = record { kind = 0; number = 0; place = 0; player = p; at = linesEnd out at 1 (noteText n) }
+takenOf out at (Says n) p = record { kind = 0; number = 0; place = 0; player = p; at = linesEnd out at 1 (entryText n) }
 takenOf out at (Refused k q) p = record { kind = 2; number = k; place = q; player = p; at = at }
 
 -- its line in the buffer
 abbrev pub takenBytes : List ℕ → ℕ → Told → List ℕ
 takenBytes out at Over = out
 takenBytes out at On = out
-takenBytes out at (Says n) = linesIn out at 1 (noteText n)
+takenBytes out at (Says n) = linesIn out at 1 (entryText n)
 takenBytes out at (Refused k q) = out
 
 -- how many records surely fit behind `at`: 23 bytes for each, and at most 256
@@ -41,24 +41,24 @@ roomFor size at = pick (ltb ((size - at) / 23) 256) ((size - at) / 23) 256
 abbrev pub lastIn : ℕ → ℕ → List ℕ → ℕ
 lastIn last n words = pick (eqb n 0) last (getD words (2 * n - 1) 0)
 
--- a stretch of a wait is the plain reading with so much room; with a memory or a state that a run refuses, nothing
-unfoldable pub stretchOf : List ℕ → ℕ → Player → Progress State
-stretchOf memory room p =
+-- a portion of a wait is the plain reading with so much room; with a memory or a state that a run refuses, nothing
+unfoldable pub portionOf : List ℕ → ℕ → Player → Progress State
+portionOf memory room p =
     pick (eqb (number memory (p .state) (p .wait)) 0) (plain (chipMachine memory) room (p .wait) (p .state)) (start room (p .state))
 
 -- its records as lines
-abbrev pub stretchText : Player → Progress State → List ℕ
-stretchText p r = notesText (map (noteAt (p .time)) (r .marks))
+abbrev pub portionText : Player → Progress State → List ℕ
+portionText p r = entriesText (map (entryAt (p .time)) (r .marks))
 
 -- the player behind it
-abbrev pub stretchTaken : Player → ℕ → Progress State → Taken
-stretchTaken p at r =
+abbrev pub portionTaken : Player → ℕ → Progress State → Taken
+portionTaken p at r =
     record {
       kind = 0;
       number = 0;
       place = 0;
       player = playerOf (p .phase) (p .wait - r .done) (p .time + r .done) (lastOf (p .last) (r .marks)) (r .state) (p .cursor);
-      at = at + length (stretchText p r);
+      at = at + length (portionText p r);
     }
 
 abbrev pub halted : ℕ → Player → ℕ → Taken
@@ -68,14 +68,14 @@ halted number p at = record { kind = 2; number = number; place = 0; player = p; 
 unfoldable pub waitTaken : List ℕ → ℕ → Player → ℕ → Taken
 waitTaken memory room p at =
     pick (leb (p .wait) 1000000)
-    (pick (leb (p .time + p .wait) 2000000000) (stretchTaken p at (stretchOf memory room p)) (halted 9 p at))
+    (pick (leb (p .time + p .wait) 2000000000) (portionTaken p at (portionOf memory room p)) (halted 9 p at))
     (halted 3 p at)
 
 unfoldable pub waitText : List ℕ → ℕ → Player → List ℕ
 waitText memory room p =
-    pick (leb (p .wait) 1000000) (pick (leb (p .time + p .wait) 2000000000) (stretchText p (stretchOf memory room p)) []) []
+    pick (leb (p .wait) 1000000) (pick (leb (p .time + p .wait) 2000000000) (portionText p (portionOf memory room p)) []) []
 
--- WHAT A STEP COMES TO: a stretch of a wait, or a turn
+-- WHAT A STEP COMES TO: a portion of a wait, or a turn
 unfoldable pub stepTaken : List ℕ → List ℕ → Player → List ℕ → ℕ → Taken
 stepTaken log memory p out at =
     pick (eqb (p .phase) 2)

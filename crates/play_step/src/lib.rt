@@ -1,4 +1,4 @@
-// A step of the player over lent bytes: a turn's line, or a stretch of a wait as lines.
+// A step of the player over lent bytes: a turn's line, or a portion of a wait as lines.
 ghost use mathlib.Core.Path.{_≡_};
 ghost use mathlib.Core.Bool.{true};
 ghost use Prim.Native.Nat.{_+_, _-_, _*_, _/_, _≤_, _<_};
@@ -6,7 +6,7 @@ ghost use lib.ListN.{length, getD};
 ghost use lib.Seq.{sets};
 ghost use Rattle.chip.specs.Range.{inRange};
 ghost use Rattle.play_model.specs.Turns.{playerOf};
-ghost use Rattle.play_step.specs.Steps.{takenOf, takenBytes, roomFor, lastIn, stretchOf, stretchText, stretchTaken, waitTaken, waitText, stepTaken, stepBytes};
+ghost use Rattle.play_step.specs.Steps.{takenOf, takenBytes, roomFor, lastIn, portionOf, portionText, portionTaken, waitTaken, waitText, stepTaken, stepBytes};
 use chip::State;
 use play_model::Player;
 use play_turn::Told;
@@ -52,13 +52,6 @@ fn take(w: Went, out: &mut [u8], at: usize) -> Taken
     }
 }
 
-fn wide(x: u32) -> u64
-    ensures { λ r. ⌜ r ≡ x ⌝ }
-    ensures { λ r. ⌜ r ≤ 4294967295 ⌝ }
-{
-    x as u64
-}
-
 // The last of n levels, or the one before them.
 fn last_level(last: u16, words: &[u32], n: usize) -> u16
     requires { ⌜ 2 * n ≤ length (now words) ⌝ }
@@ -72,7 +65,7 @@ fn last_level(last: u16, words: &[u32], n: usize) -> u16
     words[j] as u16
 }
 
-// The player behind a stretch of its wait.
+// The player behind a portion of its wait.
 fn behind(p: Player, done: u32, last: u16, s: State) -> Player
     requires { ⌜ (done ≤ p .wait) × (p .time + done ≤ 2000000000) ⌝ }
     ensures { λ r. ⌜ r ≡ playerOf (p .phase) (p .wait - done) (p .time + done) last s (p .cursor) ⌝ }
@@ -96,15 +89,15 @@ fn room(size: usize, at: usize) -> usize
     if n < 256 { n } else { 256 }
 }
 
-// A stretch of a wait, as many records as surely fit.
+// A portion of a wait, as many records as surely fit.
 fn waited(p: Player, memory: &[u8], out: &mut [u8], at: usize, words: &mut [u32]) -> Taken
     requires { ⌜ (p .time + p .wait ≤ 2000000000) × (length (now words) ≡ 512) ⌝ }
-    ensures { λ r. ⌜ r ≡ stretchTaken p at (stretchOf (now (memory .entry)) (roomFor (length (now (out .entry))) at) p) ⌝ }
-    ensures { λ r. ⌜ now (out .exit) ≡ sets (now (out .entry)) at (stretchText p (stretchOf (now (memory .entry)) (roomFor (length (now (out .entry))) at) p)) ⌝ }
+    ensures { λ r. ⌜ r ≡ portionTaken p at (portionOf (now (memory .entry)) (roomFor (length (now (out .entry))) at) p) ⌝ }
+    ensures { λ r. ⌜ now (out .exit) ≡ sets (now (out .entry)) at (portionText p (portionOf (now (memory .entry)) (roomFor (length (now (out .entry))) at) p)) ⌝ }
 {
     let end = 2 * room(out.len(), at);
     let s = p.state;
-    let ran = run::run(s, memory, wide(p.wait), &mut words[..end]);
+    let ran = run::run(s, memory, arith::wide_u32(p.wait), &mut words[..end]);
     let n = ran.records as usize;
     let next = play_text::level_lines(out, at, p.time, words, n);
     let last = last_level(p.last, words, n);
@@ -120,14 +113,14 @@ fn wait_step(p: Player, memory: &[u8], out: &mut [u8], at: usize) -> Taken
     if 1000000 < p.wait {
         return outcome(2, 3, 0, p, at);
     }
-    if 2000000000 < wide(p.time) + wide(p.wait) {
+    if 2000000000 < arith::wide_u32(p.time) + arith::wide_u32(p.wait) {
         return outcome(2, 9, 0, p, at);
     }
     let mut words = [0u32; 512];
     waited(p, memory, out, at, &mut words)
 }
 
-// A turn of the player, or as many as a stretch of a wait has.
+// A turn of the player, or as many as a portion of a wait has.
 pub fn step(p: Player, log: &[u8], memory: &[u8], out: &mut [u8], at: usize) -> Taken
     ensures { λ r. ⌜ r ≡ stepTaken (now (log .entry)) (now (memory .entry)) p (now (out .entry)) at ⌝ }
     ensures { λ r. ⌜ now (out .exit) ≡ stepBytes (now (log .entry)) (now (memory .entry)) p (now (out .entry)) at ⌝ }

@@ -12,9 +12,9 @@ use borrow.Author.Tests.{ltb-false}
 use Rattle.arith.specs.Pick.{pick}
 use Rattle.text.specs.Decimal.{digitsOf, decimalText}
 use Rattle.text.specs.Hex.{hexText}
-use Rattle.play_text.specs.declared.Note.{Note}
-use Rattle.play_text.specs.declared.Note.the-variants.{Play, Level, Read, Stop}
-use Rattle.play_text.specs.Notes.{noteText, notesText, refusalText}
+use Rattle.play_text.specs.declared.Entry.{Entry}
+use Rattle.play_text.specs.declared.Entry.the-variants.{Play, Level, Read, Stop}
+use Rattle.play_text.specs.Entries.{entryText, entriesText, refusalText}
 
 -- no more digits than places
 digits-few : (k n : ℕ) → length (digitsOf k n) ≤ k
@@ -48,7 +48,7 @@ pub decimal-ten : (n : ℕ) → length (decimalText n) ≤ 10
 unfolding decimalText
 decimal-ten n = digits-few 10 n
 
-pub decimal-five : (n : ℕ) → n ≤ 65535 → length (decimalText n) ≤ 5
+decimal-five : (n : ℕ) → n ≤ 65535 → length (decimalText n) ≤ 5
 unfolding decimalText
 decimal-five n h = let q : n < 10 ^ 5 = (let u : n < 100000 = omega arith in u) in digits-low 10 4 n q
 
@@ -61,51 +61,51 @@ unfolding hexText
 hex-two v = refl
 
 -- each line has a byte, and 23 hold it
-pub level-size : (t l : ℕ) → l ≤ 65535 → length (noteText (Level t l)) ≤ 23
-unfolding noteText
+pub level-size : (t l : ℕ) → l ≤ 65535 → length (entryText (Level t l)) ≤ 23
+unfolding entryText
 level-size t l h = simp length-append (omega (arith, decimal-ten t, decimal-five l h))
 
-pub read-size : (t v : ℕ) → length (noteText (Read t v)) ≤ 23
-unfolding noteText
+pub read-size : (t v : ℕ) → length (entryText (Read t v)) ≤ 23
+unfolding entryText
 read-size t v = simp length-append (omega (arith, decimal-ten t, hex-two v))
 
-pub stop-size : (t : ℕ) → length (noteText (Stop t)) ≤ 23
-unfolding noteText
+pub stop-size : (t : ℕ) → length (entryText (Stop t)) ≤ 23
+unfolding entryText
 stop-size t = simp length-append (omega (arith, decimal-ten t))
 
-pub play-size : length (noteText Play) ≤ 23
-unfolding noteText
+pub play-size : length (entryText Play) ≤ 23
+unfolding entryText
 play-size = omega arith
 
-pub note-some : (n : Note) → 0 < length (noteText n)
-unfolding noteText
-note-some Play = omega arith
-note-some (Level t l) = omega arith
-note-some (Read t v) = omega arith
-note-some (Stop t) = omega arith
+entry-some : (n : Entry) → 0 < length (entryText n)
+unfolding entryText
+entry-some Play = omega arith
+entry-some (Level t l) = omega arith
+entry-some (Read t v) = omega arith
+entry-some (Stop t) = omega arith
 
 -- lines behind lines
-pub notes-append : (a b : List Note) → notesText (a ++ b) ≡ notesText a ++ notesText b
-unfolding notesText
-notes-append [] b = refl
-notes-append (n ∷ a) b = rw append-assoc (ap (λ (l : List ℕ). noteText n ++ l) (notes-append a b))
+pub entries-append : (a b : List Entry) → entriesText (a ++ b) ≡ entriesText a ++ entriesText b
+unfolding entriesText
+entries-append [] b = refl
+entries-append (n ∷ a) b = rw append-assoc (ap (λ (l : List ℕ). entryText n ++ l) (entries-append a b))
 
-pub notes-none : notesText [] ≡ []
-unfolding notesText
-notes-none = refl
+pub entries-none : entriesText [] ≡ []
+unfolding entriesText
+entries-none = refl
 
-pub notes-one : (n : Note) → notesText (n ∷ []) ≡ noteText n
-unfolding notesText
-notes-one n = append-nil (noteText n)
+pub entries-one : (n : Entry) → entriesText (n ∷ []) ≡ entryText n
+unfolding entriesText
+entries-one n = append-nil (entryText n)
 
-pub notes-more : (n : Note) (l : List Note) → notesText (n ∷ l) ≡ noteText n ++ notesText l
-unfolding notesText
-notes-more n l = refl
+pub entries-more : (n : Entry) (l : List Entry) → entriesText (n ∷ l) ≡ entryText n ++ entriesText l
+unfolding entriesText
+entries-more n l = refl
 
-pub notes-empty : (l : List Note) → length (notesText l) ≡ 0 → l ≡ []
-unfolding notesText
-notes-empty [] e = refl
-notes-empty (n ∷ l) e = absurd (omega (arith, note-some n, simp length-append at e))
+pub entries-empty : (l : List Entry) → length (entriesText l) ≡ 0 → l ≡ []
+unfolding entriesText
+entries-empty [] e = refl
+entries-empty (n ∷ l) e = absurd (omega (arith, entry-some n, simp length-append at e))
 
 -- the lines of a refusal
 pub refusal-size : (number place : ℕ) → number ≤ 255 → length (refusalText number place) ≤ 40

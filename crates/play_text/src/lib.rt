@@ -1,16 +1,15 @@
 // The lines of what is played, written over lent bytes.
 ghost use mathlib.Core.Path.{_≡_};
 ghost use Prim.Native.Nat.{_+_, _*_, _/_, _≤_};
-ghost use lib.Dec.{leb, ltb};
+ghost use lib.Dec.{leb};
 ghost use lib.ListN.{length};
 ghost use lib.Seq.{sets};
-ghost use Rattle.arith.specs.Pick.{pick};
 ghost use Rattle.text_print.specs.Printed.{printed, placed};
-ghost use Rattle.play_text.specs.Notes.{noteText, notesText, refusalText};
-ghost use Rattle.play_text.specs.Lines.{Lined, linesIn, linesEnd, levelNotes};
+ghost use Rattle.play_text.specs.Entries.{entryText, entriesText, refusalText};
+ghost use Rattle.play_text.specs.Lines.{Lined, linesIn, linesEnd, levelEntries};
 
 // A line of what is played: `play=1`; a level or a status byte with its time; `stop` with its time.
-pub enum Note {
+pub enum Entry {
     Play,
     Level(u32, u16),
     Read(u32, u8),
@@ -19,8 +18,8 @@ pub enum Note {
 
 // A level line.
 fn level_line(out: &mut [u8], at: usize, time: u64, level: u64) -> usize
-    requires { ⌜ at + length (noteText (Note.Level time level)) ≤ length (now out) ⌝ }
-    ensures { λ r. ⌜ Lined (now (out .entry)) at (Note.Level time level) (now (out .exit)) r ⌝ }
+    requires { ⌜ at + length (entryText (Entry.Level time level)) ≤ length (now out) ⌝ }
+    ensures { λ r. ⌜ Lined (now (out .entry)) at (Entry.Level time level) (now (out .exit)) r ⌝ }
 {
     let a = text_print::fixed(out, at, b"level=");
     let b = text_print::decimal(out, a, time);
@@ -32,7 +31,7 @@ fn level_line(out: &mut [u8], at: usize, time: u64, level: u64) -> usize
 // A status line.
 fn read_line(out: &mut [u8], at: usize, time: u64, byte: u8) -> usize
     requires { ⌜ at + 23 ≤ length (now out) ⌝ }
-    ensures { λ r. ⌜ Lined (now (out .entry)) at (Note.Read time byte) (now (out .exit)) r ⌝ }
+    ensures { λ r. ⌜ Lined (now (out .entry)) at (Entry.Read time byte) (now (out .exit)) r ⌝ }
 {
     let a = text_print::fixed(out, at, b"read=");
     let b = text_print::decimal(out, a, time);
@@ -44,7 +43,7 @@ fn read_line(out: &mut [u8], at: usize, time: u64, byte: u8) -> usize
 // The last line.
 fn stop_line(out: &mut [u8], at: usize, time: u64) -> usize
     requires { ⌜ at + 23 ≤ length (now out) ⌝ }
-    ensures { λ r. ⌜ Lined (now (out .entry)) at (Note.Stop time) (now (out .exit)) r ⌝ }
+    ensures { λ r. ⌜ Lined (now (out .entry)) at (Entry.Stop time) (now (out .exit)) r ⌝ }
 {
     let a = text_print::fixed(out, at, b"stop=");
     let b = text_print::decimal(out, a, time);
@@ -54,29 +53,29 @@ fn stop_line(out: &mut [u8], at: usize, time: u64) -> usize
 // The first line.
 fn play_line(out: &mut [u8], at: usize) -> usize
     requires { ⌜ at + 23 ≤ length (now out) ⌝ }
-    ensures { λ r. ⌜ Lined (now (out .entry)) at Note.Play (now (out .exit)) r ⌝ }
+    ensures { λ r. ⌜ Lined (now (out .entry)) at Entry.Play (now (out .exit)) r ⌝ }
 {
     text_print::fixed(out, at, b"play=1\n")
 }
 
 // A level line in 23 bytes.
-fn level_note(out: &mut [u8], at: usize, time: u32, level: u16) -> usize
+fn level_entry(out: &mut [u8], at: usize, time: u32, level: u16) -> usize
     requires { ⌜ at + 23 ≤ length (now out) ⌝ }
-    ensures { λ r. ⌜ Lined (now (out .entry)) at (Note.Level time level) (now (out .exit)) r ⌝ }
+    ensures { λ r. ⌜ Lined (now (out .entry)) at (Entry.Level time level) (now (out .exit)) r ⌝ }
 {
-    level_line(out, at, wide(time), level as u64)
+    level_line(out, at, arith::wide_u32(time), level as u64)
 }
 
 // Any line: 23 bytes hold the longest.
-fn line(out: &mut [u8], at: usize, n: Note) -> usize
+fn line(out: &mut [u8], at: usize, n: Entry) -> usize
     requires { ⌜ at + 23 ≤ length (now out) ⌝ }
     ensures { λ r. ⌜ Lined (now (out .entry)) at n (now (out .exit)) r ⌝ }
 {
     match n {
-        Note::Play => play_line(out, at),
-        Note::Level(t, l) => level_note(out, at, t, l),
-        Note::Read(t, v) => read_line(out, at, wide(t), v),
-        Note::Stop(t) => stop_line(out, at, wide(t)),
+        Entry::Play => play_line(out, at),
+        Entry::Level(t, l) => level_entry(out, at, t, l),
+        Entry::Read(t, v) => read_line(out, at, arith::wide_u32(t), v),
+        Entry::Stop(t) => stop_line(out, at, arith::wide_u32(t)),
     }
 }
 
@@ -92,9 +91,9 @@ fn left(size: usize, at: usize, n: usize) -> bool
 }
 
 // A line where 23 bytes are left, else nothing; and the place behind it.
-pub fn put(out: &mut [u8], at: usize, n: Note) -> usize
-    ensures { λ r. ⌜ r ≡ linesEnd (now (out .entry)) at 1 (noteText n) ⌝ }
-    ensures { λ r. ⌜ now (out .exit) ≡ linesIn (now (out .entry)) at 1 (noteText n) ⌝ }
+pub fn put(out: &mut [u8], at: usize, n: Entry) -> usize
+    ensures { λ r. ⌜ r ≡ linesEnd (now (out .entry)) at 1 (entryText n) ⌝ }
+    ensures { λ r. ⌜ now (out .exit) ≡ linesIn (now (out .entry)) at 1 (entryText n) ⌝ }
 {
     if left(out.len(), at, 1) {
         return line(out, at, n);
@@ -102,46 +101,33 @@ pub fn put(out: &mut [u8], at: usize, n: Note) -> usize
     at
 }
 
-fn wide(x: u32) -> u64
-    ensures { λ r. ⌜ r ≡ x ⌝ }
-    ensures { λ r. ⌜ r ≤ 4294967295 ⌝ }
-{
-    x as u64
-}
-
 // n records of a wait that began at a time, as lines.
 fn records(out: &mut [u8], at: usize, time: u32, words: &[u32], n: usize) -> usize
     requires { ⌜ 2 * n ≤ length (now words) ⌝ }
-    requires { ⌜ at + length (notesText (levelNotes time n (now words))) ≤ length (now out) ⌝ }
-    ensures { λ r. ⌜ r ≡ at + length (notesText (levelNotes time n (now (words .entry)))) ⌝ }
-    ensures { λ r. ⌜ now (out .exit) ≡ sets (now (out .entry)) at (notesText (levelNotes time n (now (words .entry)))) ⌝ }
+    requires { ⌜ at + length (entriesText (levelEntries time n (now words))) ≤ length (now out) ⌝ }
+    ensures { λ r. ⌜ r ≡ at + length (entriesText (levelEntries time n (now (words .entry)))) ⌝ }
+    ensures { λ r. ⌜ now (out .exit) ≡ sets (now (out .entry)) at (entriesText (levelEntries time n (now (words .entry)))) ⌝ }
 {
     let mut place = at;
     let mut i = 0;
     while i < n {
         let k = 2 * i;
         let j = k + 1;
-        let clock = wide(words[k]);
-        let level = wide(words[j]) % 65536;
-        place = level_line(out, place, wide(time) + clock, level);
+        let clock = arith::wide_u32(words[k]);
+        let level = arith::wide_u32(words[j]) % 65536;
+        place = level_line(out, place, arith::wide_u32(time) + clock, level);
         i += 1;
     }
     place
 }
 
-fn least(x: usize, y: usize) -> usize
-    ensures { λ r. ⌜ r ≡ pick (ltb x y) x y ⌝ }
-{
-    if x < y { x } else { y }
-}
-
 // n records of a wait that began at a time, as lines where 23 bytes are left for each, else nothing; and the place behind them.
 pub fn level_lines(out: &mut [u8], at: usize, time: u32, words: &[u32], n: usize) -> usize
-    ensures { λ r. ⌜ r ≡ linesEnd (now (out .entry)) at n (notesText (levelNotes time n (now (words .entry)))) ⌝ }
-    ensures { λ r. ⌜ now (out .exit) ≡ linesIn (now (out .entry)) at n (notesText (levelNotes time n (now (words .entry)))) ⌝ }
+    ensures { λ r. ⌜ r ≡ linesEnd (now (out .entry)) at n (entriesText (levelEntries time n (now (words .entry)))) ⌝ }
+    ensures { λ r. ⌜ now (out .exit) ≡ linesIn (now (out .entry)) at n (entriesText (levelEntries time n (now (words .entry)))) ⌝ }
 {
     if left(out.len(), at, n) {
-        return records(out, at, time, words, least(n, words.len() / 2));
+        return records(out, at, time, words, arith::least_usize(n, words.len() / 2));
     }
     at
 }

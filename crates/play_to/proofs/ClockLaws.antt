@@ -4,9 +4,7 @@ use mathlib.Core.Path.{_≡_, refl, sym, ap, _∙_}
 use mathlib.Core.Bool.{Bool, true, false}
 use mathlib.Core.List.{List}
 use native.Mathlib.Omega.{arith}
-use lib.Dec.{ltb}
 use lib.ListN.{length}
-use borrow.Author.Tests.{ltb-true, ltb-false}
 use Rattle.arith.specs.Iterate.{iterate}
 use Rattle.arith.specs.Pick.{pick}
 use Rattle.arith.proofs.IterateLaws.{iterate-add, iterate-zero}
@@ -61,22 +59,6 @@ module _ {S : Type 0} (m : Machine S) where
       by zero e = omega (arith, plain-few m room n s, plain-room m room n s, e)
       by (suc r) e = let all = plain-all m room n s (omega (arith, e)) in omega (arith, all)
 
-pub portion-most : (n : ℕ) → (portion n ≤ n) × (portion n ≤ 1000000)
-unfolding portion
-portion-most n = by (ltb n 1000000) refl
-  where
-    by : (t : Bool) → ltb n 1000000 ≡ t → (pick t n 1000000 ≤ n) × (pick t n 1000000 ≤ 1000000)
-    by true e = let l = ltb-true n 1000000 e in (omega arith, omega arith)
-    by false e = let l = ltb-false n 1000000 e in (omega arith, omega arith)
-
-pub portion-some : (n : ℕ) → 0 < n → 0 < portion n
-unfolding portion
-portion-some n h = by (ltb n 1000000)
-  where
-    by : (t : Bool) → 0 < pick t n 1000000
-    by true = h
-    by false = omega arith
-
 -- a run of a part of the clocks left
 pub record Nearer (memory : List ℕ) (s : State) (left : ℕ) (r : Ran) : Type 0 where
   pub some : 0 < r .done
@@ -90,15 +72,15 @@ unfolding answer answered readBy
 nearer memory s left words r long bytes fine room some e =
     let n = portion left in
     let p = plain (chipMachine memory) (length words / 2) n s in
-    let low = portion-most left in
-    let is : r ≡ record { number = 0; state = p .state; done = p .done; records = length (p .marks) } = e ∙ rw (number-none memory s n long fine (low .1)) refl in
-    let d : 0 < p .done = plain-some (chipMachine memory) (length words / 2) n s (omega arith) (portion-some left some) in
+    let low : n ≤ 1000000 = omega arith in
+    let is : r ≡ record { number = 0; state = p .state; done = p .done; records = length (p .marks) } = e ∙ rw (number-none memory s n long fine low) refl in
+    let d : 0 < p .done = plain-some (chipMachine memory) (length words / 2) n s (omega arith) (omega arith) in
     let most : p .done ≤ n = plain-most (chipMachine memory) (length words / 2) n s in
-    let split : left ≡ p .done + (left - p .done) = omega (arith, low, most) in
+    let split : left ≡ p .done + (left - p .done) = omega (arith, most) in
     rw is
     (record {
       some = d;
-      most = omega (arith, low, most);
+      most = omega (arith, most);
       ranged = plain-ranged memory bytes (length words / 2) n s fine;
       same =
           ap (iterate (chipClock memory) (left - p .done)) (plain-went (chipMachine memory) (length words / 2) n s)

@@ -21,9 +21,9 @@ use Rattle.chip.specs.Level.{stateLevel}
 use Rattle.chip.specs.Range.{powerOn}
 use Rattle.chip.specs.declared.State.{State}
 use Rattle.chip_access.specs.Access.{accessState}
-use Rattle.play_text.specs.declared.Note.{Note}
-use Rattle.play_text.specs.declared.Note.the-variants.{Play, Level}
-use Rattle.play_model.specs.Sound.{heard, waited, readLine, notesFrom, notesOf}
+use Rattle.play_text.specs.declared.Entry.{Entry}
+use Rattle.play_text.specs.declared.Entry.the-variants.{Play, Level}
+use Rattle.play_model.specs.Sound.{heard, waited, readLine, entriesFrom, entriesOf}
 use Rattle.play_to.specs.declared.At.{At}
 use Rattle.play_to.specs.Reached.{atOf, reached, stateAt}
 use Rattle.play_to.proofs.WalkLaws.{at-is}
@@ -44,7 +44,7 @@ module _ (memory : List ℕ) (c : ℕ) where
   reached-clock (Access x ∷ l) t s h = rw zero-add (reached-clock l t (accessState x s) h)
 
   -- a wait in two parts
-  waited-cut : (a b t : ℕ) (s : State) (rest : ℕ → ℕ → State → List Note)
+  waited-cut : (a b t : ℕ) (s : State) (rest : ℕ → ℕ → State → List Entry)
       → waited memory (a + b) t (stateLevel s) s rest
       ≡ waited memory a t (stateLevel s) s (λ t last s. []) ++ waited memory b (t + a) (stateLevel (iterate (chipClock memory) a s)) (iterate (chipClock memory) a s) rest
   unfolding waited iterate
@@ -56,11 +56,11 @@ module _ (memory : List ℕ) (c : ℕ) where
       let far = iterate (chipClock memory) a s′ in
       let e : t + 1 + a ≡ t + suc a = omega arith in
       rw suc-add
-      (ap (λ (x : List Note). front ++ x) (waited-cut a b (t + 1) s′ rest)
+      (ap (λ (x : List Entry). front ++ x) (waited-cut a b (t + 1) s′ rest)
       ∙ (sym (append-assoc front one (waited memory b (t + 1 + a) (stateLevel far) far rest))
       ∙ ap (λ (k : ℕ). (front ++ one) ++ waited memory b k (stateLevel far) far rest) e))
 
-  waited-whole : (n t : ℕ) (s : State) (rest : ℕ → ℕ → State → List Note)
+  waited-whole : (n t : ℕ) (s : State) (rest : ℕ → ℕ → State → List Entry)
       → waited memory n t (stateLevel s) s rest
       ≡ waited memory n t (stateLevel s) s (λ t last s. []) ++ rest (t + n) (stateLevel (iterate (chipClock memory) n s)) (iterate (chipClock memory) n s)
   unfolding waited
@@ -73,29 +73,29 @@ module _ (memory : List ℕ) (c : ℕ) where
   behind (Access x ∷ l) t = behind l t
 
   -- the player's lines: some, and then what the state a sounds like from the clock of a on, with the acts `rest`
-  pub record Passes (notes : List Note) (a : At) (rest : List Act) : Type 0 where
-    pub before : List Note
-    pub split : notes ≡ before ++ notesFrom memory (a .clock) (stateLevel (a .state)) (a .state) rest
+  pub record Passes (entries : List Entry) (a : At) (rest : List Act) : Type 0 where
+    pub before : List Entry
+    pub split : entries ≡ before ++ entriesFrom memory (a .clock) (stateLevel (a .state)) (a .state) rest
 
-  more : (front : List Note) {notes : List Note} {a : At} {rest : List Act} → Passes notes a rest → Passes (front ++ notes) a rest
+  more : (front : List Entry) {entries : List Entry} {a : At} {rest : List Act} → Passes entries a rest → Passes (front ++ entries) a rest
   more front p =
       record {
         before = front ++ p .before;
-        split = ap (λ (x : List Note). front ++ x) (p .split) ∙ sym (append-assoc front (p .before) _);
+        split = ap (λ (x : List Entry). front ++ x) (p .split) ∙ sym (append-assoc front (p .before) _);
       }
 
   -- THE PLAYER PASSES THROUGH WHAT IS REACHED
-  pub passes : (l : List Act) (t : ℕ) (s : State) → t ≤ c → Passes (notesFrom memory t (stateLevel s) s l) (reached memory c l t s) (behind l t)
-  unfolding reached behind notesFrom
+  pub passes : (l : List Act) (t : ℕ) (s : State) → t ≤ c → Passes (entriesFrom memory t (stateLevel s) s l) (reached memory c l t s) (behind l t)
+  unfolding reached behind entriesFrom
   passes [] t s h = record { before = []; split = refl }
   passes (Wait n ∷ l) t s h = by (ltb c (t + n)) refl (λ i. passes l (t + n) (iterate (chipClock memory) n s) i)
     where
-      on : ℕ → ℕ → State → List Note
-      on t last s = notesFrom memory t last s l
+      on : ℕ → ℕ → State → List Entry
+      on t last s = entriesFrom memory t last s l
 
       by : (b : Bool) → ltb c (t + n) ≡ b
           → (t + n ≤ c → Passes (on (t + n) (stateLevel (iterate (chipClock memory) n s)) (iterate (chipClock memory) n s)) (reached memory c l (t + n) (iterate (chipClock memory) n s)) (behind l (t + n)))
-          → Passes (waited memory n t (stateLevel s) s (λ t last s. notesFrom memory t last s l))
+          → Passes (waited memory n t (stateLevel s) s (λ t last s. entriesFrom memory t last s l))
           (pick b (atOf c (iterate (chipClock memory) (c - t) s)) (reached memory c l (t + n) (iterate (chipClock memory) n s)))
           (pick b (Wait (t + n - c) ∷ l) (behind l (t + n)))
       by true e ih =
@@ -119,7 +119,7 @@ module _ (log memory : List ℕ) (c : ℕ) (long : length memory ≡ 32768) (fin
       ∙ rw (zero-add, clocks-listed (treeOf log)) refl)
 
   -- THE PLAYER'S LINES behind what is reached are those of the state reached, at the clock reached, for the acts that are left
-  pub player-passes : Passes memory c (notesOf (machineOf log) memory (acts (treeOf log))) (stateAt log memory c) (behind memory c (acts (treeOf log)) 0)
-  unfolding notesOf
+  pub player-passes : Passes memory c (entriesOf (machineOf log) memory (acts (treeOf log))) (stateAt log memory c) (behind memory c (acts (treeOf log)) 0)
+  unfolding entriesOf
   player-passes =
       rw (at-is log memory c long fine) (more memory c (Play ∷ Level 0 (stateLevel (powerOn (machineOf log))) ∷ []) (passes memory c (acts (treeOf log)) 0 (powerOn (machineOf log)) (omega arith)))

@@ -33,6 +33,8 @@ use Rattle.play_to.specs.declared.Moment.{Moment}
 use Rattle.play_to.specs.Reached.{atOf, refusedAt, reached, stateAt}
 use Rattle.play_to.specs.Walking.{momentOf, waitTo, accessTo, actTo, foundTo, Fine, Walking}
 
+-- ONE ACT
+
 -- a wait that goes past the clock, and one that doesn't
 module _ (memory : List ℕ) (c n : ℕ) (m : Moment) (h : m .time ≤ c) where
   pub wait-cut : c - m .time < n → momentOf true c (iterate (chipClock memory) (c - m .time) (m .state)) ≡ waitTo memory c n m
@@ -82,6 +84,8 @@ module _ (memory : List ℕ) (c : ℕ) where
       by true = refl
       by false = refl
   first-act (Access x) l m = refl
+
+-- THE WALK
 
 -- one step of the walk: it is over with the answer, or the walk goes on
 pub record Onward (log memory : List ℕ) (c : ℕ) (cursor : Cursor) (m : Moment) (left : ℕ) : Type 0 where
@@ -146,6 +150,8 @@ module _ (log memory : List ℕ) (c : ℕ) where
         gives = cursor-gives log h;
         same = refl;
       }
+
+-- THE ANSWER
 
 -- the answer, by its tests
 module _ (log memory : List ℕ) (c : ℕ) where

@@ -1,5 +1,5 @@
 -- Helper: nobody has to believe this; the walk of a log to a clock, act by act.
-use Prim.Native.Nat.{ℕ, _+_, _-_, _≤_}
+use Prim.Native.Nat.{ℕ, _+_, _-_, _≤_, min}
 use mathlib.Core.Path.{_≡_}
 use mathlib.Core.Bool.{Bool, true, false}
 use mathlib.Core.List.{List}
@@ -24,8 +24,8 @@ use Rattle.play_to.specs.declared.Moment.{Moment}
 use Rattle.play_to.specs.Reached.{reached}
 
 -- so many of the clocks left as a run may do
-unfoldable pub portion : ℕ → ℕ
-portion n = pick (ltb n 1000000) n 1000000
+abbrev pub portion : ℕ → ℕ
+portion n = min n 1000000
 
 abbrev pub momentOf : Bool → ℕ → State → Moment
 momentOf over t s = record { over = over; time = t; state = s }

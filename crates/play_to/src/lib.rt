@@ -10,7 +10,7 @@ ghost use Rattle.log_judge.specs.Head.{machineOf};
 ghost use Rattle.log_judge.specs.Tree.{acts};
 ghost use Rattle.log_judge.specs.Whole.{treeOf, checkOf};
 ghost use Rattle.play_to.specs.Reached.{atOf, refusedAt, reached, stateAt};
-ghost use Rattle.play_to.specs.Walking.{portion, momentOf, waitTo, accessTo, actTo, foundTo, Fine};
+ghost use Rattle.play_to.specs.Walking.{momentOf, waitTo, accessTo, actTo, foundTo, Fine};
 use bus::Access;
 use chip::State;
 use log_cursor::Found;
@@ -64,19 +64,6 @@ fn refused_at(number: u8, place: usize) -> At
     }
 }
 
-fn wide(x: u32) -> u64
-    ensures { λ r. ⌜ r ≡ x ⌝ }
-{
-    x as u64
-}
-
-// So many of the clocks left as a run may do.
-fn portion_of(left: u64) -> u64
-    ensures { λ r. ⌜ r ≡ portion left ⌝ }
-{
-    if left < 1000000 { left } else { 1000000 }
-}
-
 // The state n clocks on, run by run: a run ends early where the words are full, and does a clock at least.
 fn clocks_on(s: State, memory: &[u8], n: u64, words: &mut [u32]) -> State
     requires { ⌜ (length (now memory) ≡ 32768) × (inRange s ≡ true) ⌝ }
@@ -87,8 +74,8 @@ fn clocks_on(s: State, memory: &[u8], n: u64, words: &mut [u32]) -> State
     let mut state = s;
     let mut left = n;
     while 0 < left {
-        let r = run::run(state, memory, portion_of(left), words);
-        left -= wide(r.done);
+        let r = run::run(state, memory, arith::least_u64(left, 1000000), words);
+        left -= arith::wide_u32(r.done);
         state = r.state;
     }
     state
@@ -103,7 +90,7 @@ fn wait_to(m: Moment, memory: &[u8], clock: u64, n: u32, words: &mut [u32]) -> M
 {
     let s = m.state;
     let left = clock - m.time;
-    let wait = wide(n);
+    let wait = arith::wide_u32(n);
     if left < wait {
         let next = clocks_on(s, memory, left, words);
         return moment_of(true, clock, next);

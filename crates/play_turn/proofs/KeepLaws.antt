@@ -15,7 +15,7 @@ use Rattle.chip.specs.Range.{inRange}
 use Rattle.chip.specs.declared.State.{State}
 use Rattle.chip_access.specs.Access.{accessed}
 use Rattle.chip_access.specs.declared.Outcome.{Outcome}
-use Rattle.play_text.specs.declared.Note.the-variants.{Level, Read}
+use Rattle.play_text.specs.declared.Entry.the-variants.{Level, Read}
 use Rattle.play_model.specs.declared.Player.{Player}
 use Rattle.play_model.specs.Turns.{go, playerOf, levelTold, acted}
 use Rattle.play_turn.specs.declared.Went.{Went}

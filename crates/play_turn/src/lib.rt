@@ -3,7 +3,7 @@ ghost use mathlib.Core.Path.{_≡_};
 ghost use lib.Dec.{eqb};
 ghost use Rattle.arith.specs.Pick.{pick};
 ghost use Rattle.machine.specs.Saying.{says};
-ghost use Rattle.play_model.specs.Turns.{playerOf, freshPlayer, endedPlayer, go, levelTold, acted, stepSaid, cursorTurn, phaseTurn};
+ghost use Rattle.play_model.specs.Turns.{playerOf, go, levelTold, acted, stepSaid, cursorTurn, phaseTurn};
 ghost use Rattle.play_turn.specs.Turned.{went, foundSaid, Keeps};
 use bus::Access;
 use chip::State;
@@ -11,13 +11,13 @@ use log_cursor::Cursor;
 use log_cursor::Found;
 use log_line::Act;
 use play_model::Player;
-use play_text::Note;
+use play_text::Entry;
 
 // What a turn says: that all is over; nothing; a line; or a refusal's number and place.
 pub enum Told {
     Over,
     On,
-    Says(Note),
+    Says(Entry),
     Refused(u8, usize),
 }
 
@@ -25,38 +25,6 @@ pub enum Told {
 pub struct Went {
     pub told: Told,
     pub player: Player,
-}
-
-// The player at the beginning of a log for a machine.
-fn fresh(pal: bool) -> Player
-    ensures { λ r. ⌜ r ≡ freshPlayer pal ⌝ }
-{
-    let s = chip::power_on(pal);
-    let c = log_cursor::start();
-    Player {
-        phase: 0,
-        wait: 0,
-        time: 0,
-        last: 0,
-        state: s,
-        cursor: c,
-    }
-}
-
-// A player with nothing to play.
-fn ended() -> Player
-    ensures { λ r. ⌜ r ≡ endedPlayer ⌝ }
-{
-    let mut p = fresh(false);
-    p.phase = 3;
-    p
-}
-
-// The player that a log for a machine begins with: at its beginning where it can be played, else one with nothing to play.
-pub fn first(passes: bool, pal: bool) -> Player
-    ensures { λ r. ⌜ r ≡ pick passes (freshPlayer pal) endedPlayer ⌝ }
-{
-    if passes { fresh(pal) } else { ended() }
 }
 
 // Behind an access that led to the state s.
@@ -78,7 +46,7 @@ fn heard_at(p: Player, s: State, c: Cursor) -> Went
         };
     }
     Went {
-        told: Told::Says(Note::Level(p.time, level)),
+        told: Told::Says(Entry::Level(p.time, level)),
         player: Player {
             phase: 2,
             wait: 0,
@@ -92,10 +60,10 @@ fn heard_at(p: Player, s: State, c: Cursor) -> Went
 
 // Behind a read of a byte that led to the state s, which leaves the level.
 fn read_at(p: Player, byte: u8, s: State, c: Cursor) -> Went
-    ensures { λ r. ⌜ r ≡ went (go (says (Note.Read (p .time) byte)) (playerOf 2 0 (p .time) (p .last) s c)) ⌝ }
+    ensures { λ r. ⌜ r ≡ went (go (says (Entry.Read (p .time) byte)) (playerOf 2 0 (p .time) (p .last) s c)) ⌝ }
 {
     Went {
-        told: Told::Says(Note::Read(p.time, byte)),
+        told: Told::Says(Entry::Read(p.time, byte)),
         player: Player {
             phase: 2,
             wait: 0,
@@ -172,7 +140,7 @@ fn stepped_to(p: Player, f: Found, c: Cursor) -> Went
             player: at_cursor(p, 2, c),
         },
         Found::End => Went {
-            told: Told::Says(Note::Stop(p.time)),
+            told: Told::Says(Entry::Stop(p.time)),
             player: at_cursor(p, 3, c),
         },
         Found::Refused(k, q) => Went {
@@ -203,7 +171,7 @@ fn phase_turn(p: Player) -> Went
     if p.phase == 0 {
         q.phase = 1;
         return Went {
-            told: Told::Says(Note::Play),
+            told: Told::Says(Entry::Play),
             player: q,
         };
     }
@@ -213,7 +181,7 @@ fn phase_turn(p: Player) -> Went
         q.phase = 2;
         q.last = level;
         return Went {
-            told: Told::Says(Note::Level(p.time, level)),
+            told: Told::Says(Entry::Level(p.time, level)),
             player: q,
         };
     }

@@ -1,12 +1,10 @@
 // The leaping run: from frame step to frame step, each channel brought up only when what it gives may change.
 ghost use mathlib.Core.Path.{_≡_};
 ghost use mathlib.Core.Bool.{true};
-ghost use mathlib.Core.List.{List};
 ghost use Prim.Native.Nat.{ℕ, _+_, _-_, _/_, _≤_, _<_};
 ghost use lib.Dec.{eqb};
 ghost use lib.ListN.{length};
 ghost use Rattle.arith.specs.Pick.{pick};
-ghost use Rattle.leap_stretch.specs.Lagged.{sooner};
 ghost use Rattle.chip.specs.Leap.{beforeStep};
 ghost use Rattle.chip.specs.Range.{inRange};
 ghost use Rattle.run_answer.specs.Run.{answer, answered, lent, readBy, over, flat, stored};
@@ -149,12 +147,6 @@ fn stretch_on(
     }
 }
 
-fn least(x: u32, y: u32) -> u32
-    ensures { λ r. ⌜ r ≡ sooner x y ⌝ }
-{
-    if x < y { x } else { y }
-}
-
 // The clocks up to the next frame step, or but one of those left.
 fn next_stretch(
     s: State,
@@ -169,7 +161,7 @@ fn next_stretch(
     requires { ⌜ (records ≤ base) × (records ≤ length (now words) / 2) ⌝ }
     ensures { λ r. ⌜ Stretched (now (memory .entry)) s (stretchEnd left s) base records (now (words .entry)) (now (words .exit)) r ⌝ }
 {
-    let end = least(left - 1, s.before_step());
+    let end = arith::least_u32(left - 1, s.before_step());
     stretch_on(s, memory, end, base, words, records)
 }
 

@@ -108,7 +108,7 @@ module _ (memory : List ℕ) (s : State) (words₀ : List ℕ) where
         m = record { clock = done + 1; level = stateLevel (chipClock memory state) }
 
     -- a clock that needs a record and has no room: the reading ends here
-    pub held-stuck : (count : ℕ) → (stateLevel (chipClock memory state) ≡ stateLevel state → ⊥) → roomOf words₀ ≤ n → done ≤ count
+    held-stuck : (count : ℕ) → (stateLevel (chipClock memory state) ≡ stateLevel state → ⊥) → roomOf words₀ ≤ n → done ≤ count
         → reading (chipMachine memory) count (start (roomOf words₀) s) ≡ here
     unfolding iterate
     held-stuck count e q b =

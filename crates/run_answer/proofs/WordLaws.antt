@@ -15,7 +15,7 @@ unfolding flat
 length-flat [] = refl
 length-flat (m ∷ ms) = omega (arith, length-flat ms)
 
-pub flat-append : (a b : List Mark) → flat (a ++ b) ≡ flat a ++ flat b
+flat-append : (a b : List Mark) → flat (a ++ b) ≡ flat a ++ flat b
 unfolding flat
 flat-append [] b = refl
 flat-append (m ∷ a) b = ap (λ (l : List ℕ). m .clock ∷ m .level ∷ l) (flat-append a b)

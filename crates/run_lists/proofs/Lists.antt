@@ -17,13 +17,15 @@ use Rattle.chip.specs.declared.State.{State}
 use Rattle.chip.proofs.RangeLaws.{StateRanged, state-in, state-back, clock-kept}
 use Rattle.chip_api.specs.Answer.{isMemory}
 use Rattle.run_answer.specs.Run.{chipMachine, roomOf, flat, over, readBy, refusal, answered, answer, lent}
-use Rattle.run_lists.specs.Lists.{Request, Outcome, marksOf, written, behind, joined, runs, asks, asked, Share, ReadAs, ListPlain, ListsAlike, Splits, Split}
+use Rattle.run_lists.specs.Lists.{Request, Outcome, marksOf, wordsWritten, wordsBehind, joined, runAll, asks, asked, Share, ReadAs, ListPlain, ListsAlike, Splits, Split}
 use Rattle.run_answer.specs.declared.Ran.{Ran}
 use Rattle.run_answer.proofs.AnswerLaws.{number-one, number-three, number-none, refused, worked-out}
 use Rattle.run_answer.proofs.WordLaws.{length-flat}
 
+-- RECORDS AS WORDS
+
 -- words that were written from records are read back as those records
-pub marks-flat : (ms : List Mark) → marksOf (flat ms) ≡ ms
+marks-flat : (ms : List Mark) → marksOf (flat ms) ≡ ms
 unfolding marksOf flat
 marks-flat [] = refl
 marks-flat (m ∷ ms) = ap (λ (l : List Mark). m ∷ l) (marks-flat ms)
@@ -37,13 +39,15 @@ abbrev ranOf : Progress State → Ran
 ranOf p = record { number = 0; state = p .state; done = p .done; records = length (p .marks) }
 
 module _ (p : Progress State) (words : List ℕ) where
-  front : written (ranOf p) (over (flat (p .marks)) words) ≡ flat (p .marks)
+  front : wordsWritten (ranOf p) (over (flat (p .marks)) words) ≡ flat (p .marks)
   unfolding over
   front = take-at (flat (p .marks)) _ _ (length-flat (p .marks))
 
-  back : behind (ranOf p) (over (flat (p .marks)) words) ≡ drop (2 * length (p .marks)) words
+  back : wordsBehind (ranOf p) (over (flat (p .marks)) words) ≡ drop (2 * length (p .marks)) words
   unfolding over
   back = drop-at (flat (p .marks)) _ _ (length-flat (p .marks)) ∙ ap (λ (k : ℕ). drop k words) (length-flat (p .marks))
+
+-- READINGS ONE BEHIND THE OTHER
 
 -- a reading leaves its room: that of the words behind its records
 room-left : (memory : List ℕ) (s : State) (count : ℕ) (words : List ℕ)
@@ -70,6 +74,8 @@ read-on memory s words a b =
 read-kept : (memory : List ℕ) → Bytes memory → (s : State) → StateRanged s → (count : ℕ) (words : List ℕ) → StateRanged (readBy memory s count words .state)
 unfolding readBy plain
 read-kept memory bytes s r count words = reading-keeps (chipMachine memory) StateRanged (clock-kept memory bytes) count (start (roomOf words) s) r
+
+-- ONE RUN OF THE LIST
 
 -- a run that is not refused
 ran : (memory : List ℕ) (s : State) (count : ℕ) (words : List ℕ) → length memory ≡ 32768 → inRange s ≡ true → count ≤ 1_000_000
@@ -106,6 +112,8 @@ either memory q s words r share = go (isMemory (q .memory)) (leb (q .count) 1_00
         let m : q .memory ≡ memory = share (eqb-true _ _ e) (leb-true _ _ f) in
         let z = ran (q .memory) s (q .count) words (eqb-true _ _ e) (state-back s r) (leb-true _ _ f) in
         inr (rw (e, f), rw (← m) (z .0), rw (← m) (z .1))
+
+-- A RUN AND THE REST OF THE LIST
 
 -- a refused run changes nothing
 joined-refused : (n : ℕ) (s : State) (words : List ℕ) (rest : State → List ℕ → Outcome) → joined (refusal n s) words rest ≡ rest s words
@@ -144,16 +152,16 @@ unfolding readBy plain reading
 read-none memory s words = record { state = refl; done = refl; marks = refl; size = refl; rest = refl }
 
 listed : (memory : List ℕ) → Bytes memory → (requests : List Request) → Share memory requests → (s : State) → StateRanged s → (words : List ℕ)
-    → ReadAs words (readBy memory s (asked requests) words) (runs requests s words)
-unfolding runs asked Refused Done
+    → ReadAs words (readBy memory s (asked requests) words) (runAll requests s words)
+unfolding runAll asked Refused Done
 listed memory bytes [] share s r words = read-none memory s words
 listed memory bytes (q ∷ qs) share s r words =
     ⊎-elim
-    (λ w. rw (w .1, w .2, w .3, zero-add, joined-refused (w .0) s words (runs qs)) (listed memory bytes qs (share .1) s r words))
+    (λ w. rw (w .1, w .2, w .3, zero-add, joined-refused (w .0) s words (runAll qs)) (listed memory bytes qs (share .1) s r words))
     (λ w.
     let p = readBy memory s (q .count) words in
     rw (w .0, w .1, w .2, read-on memory s words (q .count) (asked qs))
-    (joined-done words p (readBy memory (p .state) (asked qs) (drop (2 * length (p .marks)) words)) (runs qs) (room-left memory s (q .count) words .1)
+    (joined-done words p (readBy memory (p .state) (asked qs) (drop (2 * length (p .marks)) words)) (runAll qs) (room-left memory s (q .count) words .1)
     (listed memory bytes qs (share .1) (p .state) (read-kept memory bytes s r (q .count) words) (drop (2 * length (p .marks)) words))))
     (either memory q s words r (share .0))
 
@@ -199,7 +207,7 @@ split-read p q words =
           ∙ sym (back whole words);
     }
 
--- a RUN OF a CLOCKS, THEN ONE OF b, IS ONE OF a + b
+-- A RUN OF a CLOCKS, THEN ONE OF b, IS ONE OF a + b
 pub split : Split
 split memory bytes size s r words a b fits =
     let p = readBy memory s a words in

@@ -32,28 +32,28 @@ marksOf (x ∷ []) = []
 marksOf (x ∷ y ∷ l) = record { clock = x; level = y } ∷ marksOf l
 
 -- the words that a run wrote, and those behind its records
-abbrev pub written : Ran → List ℕ → List ℕ
-written r words = take (2 * r .records) words
+abbrev pub wordsWritten : Ran → List ℕ → List ℕ
+wordsWritten r words = take (2 * r .records) words
 
-abbrev pub behind : Ran → List ℕ → List ℕ
-behind r words = drop (2 * r .records) words
+abbrev pub wordsBehind : Ran → List ℕ → List ℕ
+wordsBehind r words = drop (2 * r .records) words
 
 -- a run's answer with the words as it left them, then the rest of the list: "Each run is lent the words behind the records so far"; "the clocks
 -- in its records as whole numbers of any size, raised by the clocks done before it"
 unfoldable pub joined : Ran → List ℕ → (State → List ℕ → Outcome) → Outcome
 joined r words rest =
-    let o = rest (r .state) (behind r words) in
+    let o = rest (r .state) (wordsBehind r words) in
     record {
       state = o .state;
       done = r .done + o .done;
-      marks = marksOf (written r words) ++ map (raised (r .done)) (o .marks);
-      words = written r words ++ o .words;
+      marks = marksOf (wordsWritten r words) ++ map (raised (r .done)) (o .marks);
+      words = wordsWritten r words ++ o .words;
     }
 
 -- the list, run by run, by what a run promises
-unfoldable pub runs : List Request → State → List ℕ → Outcome
-runs [] s words = record { state = s; done = 0; marks = []; words = words }
-runs (q ∷ qs) s words = joined (answer (q .memory) s (q .count) words) (lent (q .memory) s (q .count) words) (runs qs)
+unfoldable pub runAll : List Request → State → List ℕ → Outcome
+runAll [] s words = record { state = s; done = 0; marks = []; words = words }
+runAll (q ∷ qs) s words = joined (answer (q .memory) s (q .count) words) (lent (q .memory) s (q .count) words) (runAll qs)
 
 -- "a run is refused exactly where 1 or 3 holds (2 never does), and then counts as asking for 0 clocks"
 unfoldable pub asks : Request → ℕ
@@ -82,7 +82,7 @@ pub record ReadAs (words : List ℕ) (p : Progress State) (o : Outcome) : Type 0
 abbrev pub ListPlain : Type 0
 ListPlain =
     (memory : List ℕ) → Bytes memory → (requests : List Request) → Share memory requests → (s : State) → inRange s ≡ true → (words : List ℕ)
-    → ReadAs words (plain (chipMachine memory) (roomOf words) (asked requests) s) (runs requests s words)
+    → ReadAs words (plain (chipMachine memory) (roomOf words) (asked requests) s) (runAll requests s words)
 
 -- "the same state, clocks done and records"
 pub record Alike (o o′ : Outcome) : Type 0 where
@@ -95,7 +95,7 @@ abbrev pub ListsAlike : Type 0
 ListsAlike =
     (memory : List ℕ) → Bytes memory → (requests requests′ : List Request) → Share memory requests → Share memory requests′
     → (s : State) → inRange s ≡ true → (words words′ : List ℕ) → roomOf words ≡ roomOf words′ → asked requests ≡ asked requests′
-    → Alike (runs requests s words) (runs requests′ s words′)
+    → Alike (runAll requests s words) (runAll requests′ s words′)
 
 -- two runs, the second from where the first left off, give what one does
 pub record Splits (first second whole : Ran) (words₁ words₂ words : List ℕ) : Type 0 where
@@ -103,8 +103,8 @@ pub record Splits (first second whole : Ran) (words₁ words₂ words : List ℕ
   pub state : second .state ≡ whole .state
   pub done : first .done + second .done ≡ whole .done
   pub records : first .records + second .records ≡ whole .records
-  pub marks : marksOf (written first words₁) ++ map (raised (first .done)) (marksOf (written second words₂)) ≡ marksOf (written whole words)
-  pub rest : behind second words₂ ≡ behind whole words
+  pub marks : marksOf (wordsWritten first words₁) ++ map (raised (first .done)) (marksOf (wordsWritten second words₂)) ≡ marksOf (wordsWritten whole words)
+  pub rest : wordsBehind second words₂ ≡ wordsBehind whole words
 
 -- "Where a+b is at most 1,000,000, a run of a clocks and then one of b give what a+b gives at once."
 abbrev pub Split : Type 0
@@ -112,5 +112,5 @@ Split =
     (memory : List ℕ) → Bytes memory → length memory ≡ 32768 → (s : State) → inRange s ≡ true → (words : List ℕ) (a b : ℕ) → a + b ≤ 1_000_000
     → let first = answer memory s a words in
     let words₁ = lent memory s a words in
-    Splits first (answer memory (first .state) b (behind first words₁)) (answer memory s (a + b) words)
-    words₁ (lent memory (first .state) b (behind first words₁)) (lent memory s (a + b) words)
+    Splits first (answer memory (first .state) b (wordsBehind first words₁)) (answer memory s (a + b) words)
+    words₁ (lent memory (first .state) b (wordsBehind first words₁)) (lent memory s (a + b) words)

@@ -11,7 +11,7 @@ use Rattle.chip_mixer.specs.Fraction.{scale, fractionOf}
 use Rattle.chip_mixer.proofs.FractionLaws.{over, again}
 use Rattle.run_meter.specs.declared.Measured.{Measured}
 use Rattle.run_meter.specs.declared.Measured.the-variants.{Refused, NoLevels, Silent, Steady, Moving}
-use Rattle.run_meter.specs.Measure.{measureOf, levelsOf}
+use Rattle.run_meter.specs.Measure.{measureOf, measuredLevels}
 use Rattle.run_meter.specs.Meter.{valuesOf, inFractions, meterOf}
 use Rattle.run_meter.proofs.Answers.{Says, says}
 
@@ -31,7 +31,7 @@ one : (n : ℕ) → n ≤ 32767 → Exact (fractionOf n) n
 unfolding fractionOf
 one n h = record { value = over n (omega arith); back = again n (omega arith) }
 
-each : (l : List ℕ) (r : Measured) → Says l r → Exactly (valuesOf (inFractions r)) (levelsOf r)
+each : (l : List ℕ) (r : Measured) → Says l r → Exactly (valuesOf (inFractions r)) (measuredLevels r)
 each l (Refused k) s = tt
 each l NoLevels s = tt
 each l Silent s = tt
@@ -39,5 +39,5 @@ each l (Steady v) s = (one v (s .3), tt)
 each l (Moving a b) s = (one a (omega (arith, s .0, s .1)), (one b (s .1), tt))
 
 -- THE METER'S LEVELS ARE EXACT
-pub exact : (l : List ℕ) → Exactly (valuesOf (meterOf l)) (levelsOf (measureOf l))
+pub exact : (l : List ℕ) → Exactly (valuesOf (meterOf l)) (measuredLevels (measureOf l))
 exact l = each l (measureOf l) (says l)

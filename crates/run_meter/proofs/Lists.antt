@@ -22,7 +22,7 @@ pub all-map : {P Q : ℕ → Type 0} {l : List ℕ} → ((x : ℕ) → P x → Q
 all-map f none = none
 all-map f (and {x} p a) = and (f x p) (all-map f a)
 
-pub all-both : {P Q : ℕ → Type 0} {l : List ℕ} → All P l → All Q l → All (λ y. P y × Q y) l
+all-both : {P Q : ℕ → Type 0} {l : List ℕ} → All P l → All Q l → All (λ y. P y × Q y) l
 all-both none none = none
 all-both (and p a) (and q b) = and (p, q) (all-both a b)
 

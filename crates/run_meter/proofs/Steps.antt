@@ -27,13 +27,13 @@ module _ (l : List ℕ) (i : ℕ) where
   unfolding highest
   high-over h x = rw (drop-of-length-le l {i = i} h)
 
-pub levels-length : (w : List ℕ) → length (levelsIn w) ≡ length w / 2
+levels-length : (w : List ℕ) → length (levelsIn w) ≡ length w / 2
 unfolding levelsIn
 levels-length [] = refl
 levels-length (c ∷ []) = refl
 levels-length (c ∷ l ∷ w) = let h = levels-length w in omega arith
 
-pub level-at : (w : List ℕ) (i : ℕ) → getD (levelsIn w) i 0 ≡ getD w (2 * i + 1) 0
+level-at : (w : List ℕ) (i : ℕ) → getD (levelsIn w) i 0 ≡ getD w (2 * i + 1) 0
 unfolding levelsIn
 level-at [] i = refl
 level-at (c ∷ []) i = rw (add-one (2 * i))
@@ -51,7 +51,7 @@ module _ (start count : ℕ) (w : List ℕ) where
   pub there-length : length there ≡ min (start + count) (length w / 2)
   there-length = rw length-take (let h = levels-length w in omega arith)
 
-  pub there-at : (i : ℕ) → i < min (start + count) (length w / 2) → getD there i 0 ≡ getD w (2 * i + 1) 0
+  there-at : (i : ℕ) → i < min (start + count) (length w / 2) → getD there i 0 ≡ getD w (2 * i + 1) 0
   there-at i h = getD-take (min (start + count) (length w / 2)) (levelsIn w) i 0 h ∙ level-at w i
 
   -- one turn over the records

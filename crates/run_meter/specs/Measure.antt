@@ -8,20 +8,20 @@ use Rattle.run_meter.specs.declared.Measured.the-variants.{Refused, NoLe
 use Rattle.run_meter.specs.Levels.{allAre, anyAbove, lowest, highest}
 
 -- document 01's number for each answer, 0 where it is done
-abbrev pub numberOf : Measured → ℕ
-numberOf (Refused k) = k
-numberOf NoLevels = 0
-numberOf Silent = 0
-numberOf (Steady v) = 0
-numberOf (Moving a b) = 0
+abbrev pub measuredNumber : Measured → ℕ
+measuredNumber (Refused k) = k
+measuredNumber NoLevels = 0
+measuredNumber Silent = 0
+measuredNumber (Steady v) = 0
+measuredNumber (Moving a b) = 0
 
 -- and its values: no level, its level, or the lowest and the highest
-abbrev pub levelsOf : Measured → List ℕ
-levelsOf (Refused k) = []
-levelsOf NoLevels = []
-levelsOf Silent = []
-levelsOf (Steady v) = v ∷ []
-levelsOf (Moving a b) = a ∷ b ∷ []
+abbrev pub measuredLevels : Measured → List ℕ
+measuredLevels (Refused k) = []
+measuredLevels NoLevels = []
+measuredLevels Silent = []
+measuredLevels (Steady v) = v ∷ []
+measuredLevels (Moving a b) = a ∷ b ∷ []
 
 -- "Refusals: 29 for a level above 32,767." "Silent means all are 0, steady all equal and not 0, moving anything else"
 unfoldable pub measureOf : List ℕ → Measured

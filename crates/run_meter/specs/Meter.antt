@@ -10,12 +10,12 @@ use Rattle.run_meter.specs.declared.Metered.the-variants.{Refused, NoLev
 use Rattle.run_meter.specs.Measure.{measureOf}
 
 -- document 01's number for each answer, and its values: no level, its level, or the lowest and the highest
-abbrev pub numberOf : Metered → ℕ
-numberOf (Refused k) = k
-numberOf NoLevels = 0
-numberOf Silent = 0
-numberOf (Steady v) = 0
-numberOf (Moving a b) = 0
+abbrev pub meteredNumber : Metered → ℕ
+meteredNumber (Refused k) = k
+meteredNumber NoLevels = 0
+meteredNumber Silent = 0
+meteredNumber (Steady v) = 0
+meteredNumber (Moving a b) = 0
 
 abbrev pub valuesOf : Metered → List Float
 valuesOf (Refused k) = []

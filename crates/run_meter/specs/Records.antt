@@ -16,6 +16,6 @@ unfoldable pub recordLevels : ℕ → ℕ → List ℕ → List ℕ
 recordLevels start count words = drop start (take (start + count) (levelsIn words))
 
 -- with the level before them, where it counts
-abbrev pub heard : Before → List ℕ → List ℕ
-heard Nothing l = l
-heard (Level x) l = x ∷ l
+abbrev pub levelsHeard : Before → List ℕ → List ℕ
+levelsHeard Nothing l = l
+levelsHeard (Level x) l = x ∷ l

@@ -4,7 +4,7 @@ ghost use mathlib.Core.Path.{_≡_};
 ghost use mathlib.Core.List.{[], _∷_};
 ghost use Prim.Native.Nat.{min, max};
 ghost use Rattle.run_meter.specs.Measure.{measureOf};
-ghost use Rattle.run_meter.specs.Meter.{numberOf, inFractions, meterOf};
+ghost use Rattle.run_meter.specs.Meter.{meteredNumber, inFractions, meterOf};
 ghost use Rattle.run_meter.specs.Spans.{spanAt, spanOver, spanFrom, toldOf};
 
 pub mod records;
@@ -108,7 +108,7 @@ pub fn measure(levels: &[u32]) -> Measured
 
 // Document 01's number of an answer: 0, or that of a refusal.
 pub fn number_of(m: Metered) -> u8
-    ensures { λ r. ⌜ r ≡ numberOf m ⌝ }
+    ensures { λ r. ⌜ r ≡ meteredNumber m ⌝ }
 {
     match m {
         Metered::Refused(number) => number,

@@ -3,7 +3,7 @@ ghost use mathlib.Core.Path.{_≡_};
 ghost use Prim.Native.Nat.{_+_, min};
 ghost use Rattle.run_meter.specs.Measure.{measureOf};
 ghost use Rattle.run_meter.specs.Meter.{meterOf};
-ghost use Rattle.run_meter.specs.Records.{recordLevels, heard};
+ghost use Rattle.run_meter.specs.Records.{recordLevels, levelsHeard};
 ghost use Rattle.run_meter.specs.Spans.{spanOver, spanFrom};
 use super::Measured;
 use super::Metered;
@@ -67,7 +67,7 @@ fn alone(words: &[u32], start: usize, count: usize) -> Measured
 
 // What the levels of `count` records from record `start` on are, of those that are there. Refused: 29.
 pub fn measure(before: Before, words: &[u32], start: usize, count: usize) -> Measured
-    ensures { λ r. ⌜ r ≡ measureOf (heard before (recordLevels start count (now (words .entry)))) ⌝ }
+    ensures { λ r. ⌜ r ≡ measureOf (levelsHeard before (recordLevels start count (now (words .entry)))) ⌝ }
 {
     match before {
         Before::Nothing => alone(words, start, count),
@@ -80,7 +80,7 @@ pub fn measure(before: Before, words: &[u32], start: usize, count: usize) -> Mea
 
 // The same, every level as the exact fraction of 32,768.
 pub fn meter(before: Before, words: &[u32], start: usize, count: usize) -> Metered
-    ensures { λ r. ⌜ r ≡ meterOf (heard before (recordLevels start count (now (words .entry)))) ⌝ }
+    ensures { λ r. ⌜ r ≡ meterOf (levelsHeard before (recordLevels start count (now (words .entry)))) ⌝ }
 {
     let m = measure(before, words, start, count);
     super::in_fractions(m)

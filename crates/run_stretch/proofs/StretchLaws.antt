@@ -1,5 +1,5 @@
 -- What a stretch's loops hold, and how an event keeps it. Assumes nothing.
-use Prim.Native.Nat.{ℕ, _+_, _-_, _*_, _/_, _≤_, _<_}
+use Prim.Native.Nat.{ℕ, _+_, _-_, _/_, _≤_, _<_, min}
 use mathlib.Core.Path.{_≡_, refl, sym, ap, _∙_}
 use mathlib.Core.Bool.{Bool, true, false}
 use mathlib.Core.List.{List}
@@ -19,22 +19,21 @@ use Rattle.chip.specs.Level.{stateLevel}
 use Rattle.chip.specs.Range.{inRange, Bytes}
 use Rattle.chip.specs.declared.State.{State}
 use Rattle.chip.proofs.RangeLaws.{StateRanged, state-in, state-back, clock-kept}
-use Rattle.leap_stretch.specs.Lagged.{sooner, lagsAt, lagsOf, renewedWith, renewed, voicesRenewed, stateAt}
+use Rattle.leap_stretch.specs.Lagged.{lagsAt, lagsOf, renewedWith, renewed, voicesRenewed, stretchState}
 use Rattle.leap_stretch.specs.declared.Lags.{Lags}
 use Rattle.leap_stretch.specs.Voices.{voicesOf, voicesTo, voicesAfter, voicesLevel, lagsWith}
 use Rattle.leap_stretch.specs.declared.Voices.{Voices}
 use Rattle.leap_stretch.proofs.VoicesLaws.{Sound, sound-after, voices-start, event-of-voices}
 use Rattle.chip_mixer.specs.Parts.{othersWeight}
-use Rattle.leap_stretch.proofs.LaggedLaws.{sooner-most, Lagging, lagging-start, soon-past, next-past, next-soon, lagging-renewed, lagging-level, lagging-state, event-level}
+use Rattle.leap_stretch.proofs.LaggedLaws.{sooner-most, lagging-start, soon-past, next-past, next-soon, lagging-renewed, lagging-level, lagging-state, event-level}
 use Rattle.leap_stretch.proofs.WaitLaws.{voices-renewed}
 use Rattle.run_answer.specs.Run.{roomOf, stored}
 use Rattle.run_answer.specs.Held.{Held}
 use Rattle.run_answer.proofs.WordLaws.{stored-in}
 use Rattle.run_answer.proofs.RunLaws.{held-at, held-length, held-leap, held-same, held-mark}
-use Rattle.leap_chip.specs.Quiet.{Quiet, quietAfter}
+use Rattle.leap_chip.specs.Quiet.{Quiet}
 use Rattle.leap_stretch.proofs.QuietLaws.{quiet-leaps, quiet-passed}
 use Rattle.run_stretch.specs.Stretch.{Standing, Worked, stretchEnd, Passed, Stretched}
-use Rattle.run_stretch.specs.declared.Stretch.{Stretch}
 
 -- where the loops end
 pub goes-on : (r : Bool) (next until n room : ℕ) → r ≡ both (ltb next until) (ltb n room) → r ≡ true → (next < until) × (n < room)
@@ -42,13 +41,13 @@ goes-on r next until n room e h =
     let b = sym e ∙ h in
     (ltb-true next until (both-left (ltb next until) (ltb n room) b), ltb-true n room (both-right (ltb next until) (ltb n room) b))
 
-pub voices-most : (r noise dmc end : ℕ) → r ≡ sooner (sooner noise dmc) end → (r ≤ noise) × (r ≤ dmc) × (r ≤ end)
+pub voices-most : (r noise dmc end : ℕ) → r ≡ min (min noise dmc) end → (r ≤ noise) × (r ≤ dmc) × (r ≤ end)
 voices-most r noise dmc end e =
     let a = sooner-most noise dmc in
-    let b = sooner-most (sooner noise dmc) end in
+    let b = sooner-most (min noise dmc) end in
     (omega (arith, a, b), omega (arith, a, b), omega (arith, b))
 
-pub sounds-most : (r dmc end : ℕ) → r ≡ sooner dmc end → (r ≤ dmc) × (r ≤ end)
+pub sounds-most : (r dmc end : ℕ) → r ≡ min dmc end → (r ≤ dmc) × (r ≤ end)
 sounds-most r dmc end e = let a = sooner-most dmc end in (omega (arith, a), omega (arith, a))
 
 -- a stretch ends before the last clock left, and before the next frame step
@@ -107,7 +106,7 @@ module _ (memory : List ℕ) (s : State) (end base from records : ℕ) (before w
 
   -- and its end is the law's
   pub untouched-passed : (k : ℕ) → k ≤ end → (end < l .next → end ≤ k)
-      → Passed s end records before words (record { state = stateAt s l k; clocks = k; records = n; level = l .level })
+      → Passed s end records before words (record { state = stretchState s l k; clocks = k; records = n; level = l .level })
   untouched-passed k m far =
       let z : k ≡ end = omega (arith, far quiet-past) in
       record {
@@ -153,8 +152,8 @@ module _ (memory : List ℕ) (bytes : Bytes memory) (s : State) (end base from r
 
   -- a stop before the next event
   pub worked-stop : (k : ℕ) → l .now ≤ k → k < l .next → k ≤ end → from ≡ 0
-      → (Quiet s → Passed s end records before words (record { state = stateAt s l k; clocks = k; records = n; level = l .level }))
-      → Stretched memory s end base records before words (record { state = stateAt s l k; clocks = k; records = n; level = l .level })
+      → (Quiet s → Passed s end records before words (record { state = stretchState s l k; clocks = k; records = n; level = l .level }))
+      → Stretched memory s end base records before words (record { state = stretchState s l k; clocks = k; records = n; level = l .level })
   worked-stop k h q m z passes =
       let b = w .standing .short in
       let here = lagging-state memory bytes s r l (w .standing .lagging) k h q (omega arith) in

@@ -1,6 +1,6 @@
 -- Helper, but for what a stretch promises of the law of the leap (`stretchEnd`, `Passed`): what the run's loops hold between two events.
 -- What working a stretch of clocks that bring no frame step promises.
-use Prim.Native.Nat.{ℕ, _+_, _-_, _/_, _≤_}
+use Prim.Native.Nat.{ℕ, _+_, _-_, _/_, _≤_, min}
 use mathlib.Core.Path.{_≡_}
 use mathlib.Core.Bool.{true}
 use mathlib.Core.List.{List}
@@ -11,7 +11,6 @@ use Rattle.chip.specs.Clock.{chipClock}
 use Rattle.chip.specs.Level.{stateLevel}
 use Rattle.chip.specs.Range.{inRange}
 use Rattle.leap_chip.specs.Quiet.{Quiet, quietAfter}
-use Rattle.leap_stretch.specs.Lagged.{sooner}
 use Rattle.leap_stretch.proofs.LaggedLaws.{Lagging}
 use Rattle.run_answer.specs.Held.{Held}
 use Rattle.chip.specs.declared.State.{State}
@@ -40,7 +39,7 @@ pub record Worked (memory : List ℕ) (s : State) (end base from records : ℕ) 
 
 -- where a stretch ends that may go `left` clocks: before the next frame step, and before the last of them, which is worked by itself
 unfoldable pub stretchEnd : ℕ → State → ℕ
-stretchEnd left s = sooner (left - 1) (beforeStep s)
+stretchEnd left s = min (left - 1) (beforeStep s)
 
 -- "The run passes such stretches by that law": a quiet stretch goes to its end in one leap, writes nothing, and its state is the law's
 pub record Passed (s : State) (end n : ℕ) (before after : List ℕ) (r : Stretch) : Type 0 where

@@ -1,10 +1,9 @@
 // A stretch of a run: what working it comes to, what the run's loops hold between two events, and up to where each loop goes.
 ghost use mathlib.Core.Path.{_≡_};
 ghost use mathlib.Core.Bool.{true};
-ghost use Prim.Native.Nat.{_+_, _≤_, _<_};
+ghost use Prim.Native.Nat.{_+_, _≤_, _<_, min};
 ghost use lib.Dec.{ltb};
 ghost use Rattle.arith.specs.Pick.{both};
-ghost use Rattle.leap_stretch.specs.Lagged.{sooner};
 use chip::State;
 use leap_stretch::Lags;
 
@@ -16,27 +15,21 @@ pub struct Stretch {
     pub level: u16,
 }
 
-fn soonest(x: u64, y: u64) -> u64
-    ensures { λ r. ⌜ r ≡ sooner x y ⌝ }
-{
-    if x < y { x } else { y }
-}
-
 // Up to where only squares and triangle are due.
 pub fn voices_until(l: Lags, end: u32) -> u64
-    ensures { λ r. ⌜ r ≡ sooner (sooner (l .noise .next) (l .dmc .next)) (end + 1) ⌝ }
+    ensures { λ r. ⌜ r ≡ min (min (l .noise .next) (l .dmc .next)) (end + 1) ⌝ }
     ensures { λ r. ⌜ (r ≤ l .noise .next) × (r ≤ l .dmc .next) × (r ≤ end + 1) ⌝ }
 {
-    let slow = soonest(l.noise.next, l.dmc.next);
-    soonest(slow, end as u64 + 1)
+    let slow = arith::least_u64(l.noise.next, l.dmc.next);
+    arith::least_u64(slow, end as u64 + 1)
 }
 
 // Up to where the DMC is not due.
 pub fn sounds_until(l: Lags, end: u32) -> u64
-    ensures { λ r. ⌜ r ≡ sooner (l .dmc .next) (end + 1) ⌝ }
+    ensures { λ r. ⌜ r ≡ min (l .dmc .next) (end + 1) ⌝ }
     ensures { λ r. ⌜ (r ≤ l .dmc .next) × (r ≤ end + 1) ⌝ }
 {
-    soonest(l.dmc.next, end as u64 + 1)
+    arith::least_u64(l.dmc.next, end as u64 + 1)
 }
 
 // Whether the next event is before `until` and there is room for its record.

@@ -47,10 +47,10 @@ fn item(log: &[u8], k: u64) {
     text(b"item=");
     number(k);
     text(b" ");
-    let f = log_parts::items::item(log, k);
+    let f = log_item::item(log, k);
     match f {
-        log_parts::Found::Is(a) => act(a),
-        log_parts::Found::Refused(n, at) => place(b"refused=", n, at),
+        log_item::Found::Is(a) => act(a),
+        log_item::Found::Refused(n, at) => place(b"refused=", n, at),
     }
     text(b"\n");
 }
@@ -72,9 +72,9 @@ fn sum(part: &[u8]) -> u64 {
 fn body(log: &[u8], offset: usize) {
     text(b"body=");
     number(offset as u64);
-    let a = log_parts::bodies::body_check(log, offset);
+    let a = log_body::body_check(log, offset);
     place(b" check=", a.number, a.place);
-    let part = log_parts::bodies::body(log, offset);
+    let part = log_body::body(log, offset);
     text(b" bytes=");
     number(part.len() as u64);
     text(b" sum=");

@@ -26,7 +26,7 @@ use Rattle.chip_units.specs.Timer.{timerClock, periodHigh}
 use Rattle.chip_units.specs.Length.{lengthLoaded, lengthClock, lengthEnabled}
 use Rattle.chip_units.specs.Envelope.{envelopeClock, envelopeStarted, envelopeDivided, decayed, volume, envelopeBegun}
 use Rattle.chip_units.specs.Linear.{linearClock}
-use Rattle.chip.specs.Table.{noisePeriod, dmcPeriod}
+use Rattle.chip_tables.specs.Table.{noisePeriod, dmcPeriod}
 use Rattle.chip_units.specs.declared.sweep.Sweep.{Sweep}
 use Rattle.chip_dmc.specs.declared.Dmc.{Dmc}
 use Rattle.log_judge.specs.Judge.{judged, judge, ending}

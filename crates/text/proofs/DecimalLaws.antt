@@ -29,7 +29,7 @@ pub digit-high : (c : ℕ) → digit c ≡ true → c ≤ 57
 unfolding digit
 digit-high c e = leb-true _ _ (both-right (leb 48 c) (leb c 57) e)
 
--- what may lead, by the length
+-- WHAT MAY LEAD, by the length
 
 pub formed-none : (s : List ℕ) → length s ≡ 0 → formed s ≡ false
 unfolding formed
@@ -48,7 +48,7 @@ formed-more [] a b = absurd (a refl)
 formed-more (c ∷ []) a b = absurd (b refl)
 formed-more (c ∷ d ∷ s) a b = refl
 
--- the digits from a place on
+-- THE DIGITS FROM A PLACE ON
 
 module _ (s : List ℕ) (i : ℕ) (h : i < length s) where
   pub digits-one : (n : ℕ) → digit (getD s i 0) ≡ true → digits n (drop i s) ≡ digits (n * 10 + (getD s i 0 - 48)) (drop (i + 1) s)
@@ -63,7 +63,7 @@ pub digits-end : (s : List ℕ) (i n : ℕ) → length s ≤ i → digits n (dro
 unfolding digits
 digits-end s i n h = rw (drop-of-length-le s h)
 
--- cutting off is the same whether it is done on the way or at the end
+-- CUTTING OFF IS THE SAME whether it is done on the way or at the end
 
 cap-pick : (b : Bool) (x y : Number) → capped x ≡ capped y → capped (pick b x None) ≡ capped (pick b y None)
 cap-pick true x y e = e
@@ -81,7 +81,7 @@ cap-digits (c ∷ s) m =
     (sym (cap-digits s (min 4294967296 m * 10 + (c - 48)))
     ∙ (ap (λ (z : ℕ). capped (digits z s)) (omega arith) ∙ cap-digits s (m * 10 + (c - 48))))
 
--- either way round
+-- EITHER WAY ROUND
 
 data Side (n : ℕ) : Type 0 where
   small : n < 10 → Side n
@@ -105,7 +105,7 @@ digitsOf-big k n h = simp (le-ltb _ _ h)
 low-pow : (k n : ℕ) → n < 10 ^ suc k → n / 10 < 10 ^ k
 low-pow k n h = div-lt-iff-lt-mul {k = 10} {x = n} {y = 10 ^ k} (omega arith) .1 (rw pow-suc at h)
 
--- written, then read
+-- WRITTEN, THEN READ
 
 digits-snoc : (s : List ℕ) (m n d : ℕ) → d < 10 → digits m s ≡ Is n → digits m (s ++ ((48 + d) ∷ [])) ≡ Is (n * 10 + d)
 unfolding digits
@@ -176,7 +176,7 @@ pub decimal-complete : (n : ℕ) → n < 10 ^ 10 → decimal (decimalText n) ≡
 unfolding decimal decimalText
 decimal-complete n h = rw (formed-of n h) (back 9 n h)
 
--- read, then written
+-- READ, THEN WRITTEN
 
 digits-push : (k m c : ℕ) → 0 < m → digit c ≡ true → digitsOf (suc k) (m * 10 + (c - 48)) ≡ digitsOf k m ++ (c ∷ [])
 digits-push k m c p e =

@@ -18,7 +18,7 @@ use Rattle.text.specs.Decimal.{digit}
 use Rattle.text.specs.Hex.{hexDigit, hexValue, hexDigits, hex, hexByte, hexText}
 use Rattle.text.proofs.DecimalLaws.{is-digit, digit-low, digit-high}
 
--- the two kinds of hex digit, with what each says
+-- THE TWO KINDS OF HEX DIGIT, with what each says
 
 data Kind (c : ℕ) : Type 0 where
   number : digit c ≡ true → Kind c
@@ -91,7 +91,7 @@ value-byte d h = go (side d)
     go (small s) = rw (lt-ltb d 10 s, is-digit (48 + d) (omega arith) (omega arith)) (omega arith)
     go (big b) = rw (le-ltb d 10 b, above-digit (87 + d) (omega arith)) (omega arith)
 
--- the digits from a place on
+-- THE DIGITS FROM A PLACE ON
 
 module _ (s : List ℕ) (i : ℕ) (h : i < length s) where
   pub hex-one : (n : ℕ) → hexDigit (getD s i 0) ≡ true → hexDigits n (drop i s) ≡ hexDigits (n * 16 + hexValue (getD s i 0)) (drop (i + 1) s)
@@ -114,7 +114,7 @@ hex-next i n d h l = rw (add-one, pow-suc) (omega arith)
 pub hex-fits : (i n : ℕ) → i ≤ 4 → n < 16 ^ i → n < 65536
 hex-fits i n l h = omega (arith, pow-le-pow-right {n = 16} (omega arith) {i = i} {j = 4} l)
 
--- written, then read
+-- WRITTEN, THEN READ
 
 hex-snoc : (s : List ℕ) (m n d : ℕ) → d < 16 → hexDigits m s ≡ Is n → hexDigits m (s ++ (hexByte d ∷ [])) ≡ Is (n * 16 + d)
 unfolding hexDigits
@@ -152,7 +152,7 @@ pub hex-complete : (k n : ℕ) → n < 16 ^ k → hex k (hexText k n) ≡ Is n
 unfolding hex
 hex-complete k n h = rw (eq-eqb _ _ (hex-length k n)) (back k n h)
 
--- read, then written
+-- READ, THEN WRITTEN
 
 push : (k m c : ℕ) → hexDigit c ≡ true → hexText (suc k) (m * 16 + hexValue c) ≡ hexText k m ++ (c ∷ [])
 unfolding hexText

@@ -1,6 +1,6 @@
 // Text in bytes: keys, decimals and hex, read.
 ghost use mathlib.Core.Path.{_≡_};
-ghost use Prim.Native.Nat.{ℕ, _+_, _-_, _≤_, _<_};
+ghost use Prim.Native.Nat.{_+_, _-_, _≤_, _<_};
 ghost use lib.ListN.{length, drop};
 ghost use Rattle.text.specs.Key.{startsWith, exactly};
 ghost use Rattle.text.specs.Numbers.{within, capped};
@@ -45,20 +45,13 @@ fn minus(c: u8, k: u8) -> u64
     if c < k { 0 } else { (c - k) as u64 }
 }
 
-// A number cut off at 2^32, which no number in range reaches.
-fn cap(x: u64) -> u64
-    ensures { λ r. ⌜ (r ≤ 4294967296) × (r ≡ Prim.Native.Nat.min 4294967296 x) ⌝ }
-{
-    if x < 4294967296 { x } else { 4294967296 }
-}
-
 fn is_digit(c: u8) -> bool
     ensures { λ r. ⌜ r ≡ digit c ⌝ }
 {
     arith::both_of(48 <= c, c <= 57)
 }
 
-// The number that the digits of s say, cut off at 2^32; that too where s holds anything else.
+// The number that the digits of s say, cut off at 2^32, which no number in range reaches; that too where s holds anything else.
 fn value(s: &[u8]) -> u64
     ensures { λ r. ⌜ r ≡ capped (digits 0 (now (s .entry))) ⌝ }
 {
@@ -67,7 +60,7 @@ fn value(s: &[u8]) -> u64
     while i < s.len() {
         let c = s[i];
         if is_digit(c) {
-            n = cap(n * 10 + minus(c, 48));
+            n = arith::least_u64(4294967296, n * 10 + minus(c, 48));
             i += 1;
         } else {
             return 4294967296;

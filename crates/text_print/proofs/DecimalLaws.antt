@@ -21,10 +21,6 @@ pub digits-more : (k n : ℕ) → digitsIn (suc k) n ≡ digitsIn k (n / 10) ++ 
 unfolding digitsIn
 digits-more k n = refl
 
-pub digits-none : (n : ℕ) → digitsIn 0 n ≡ []
-unfolding digitsIn
-digits-none n = refl
-
 ten-pos : (w : ℕ) → 0 < 10 ^ w
 ten-pos zero = rw pow-zero (omega arith)
 ten-pos (suc w) = omega (arith, pow-suc 10 w, ten-pos w)

@@ -12,7 +12,7 @@ use Rattle.text_print.specs.Printed.{printed, placed, digitsIn}
 use Rattle.text_print.proofs.DecimalLaws.{length-digits, digits-more}
 
 -- a store behind a text, before or after it
-pub sets-set : (vs l : List ℕ) (i p v : ℕ) → i + length vs ≤ p → set (sets l i vs) p v ≡ sets (set l p v) i vs
+sets-set : (vs l : List ℕ) (i p v : ℕ) → i + length vs ≤ p → set (sets l i vs) p v ≡ sets (set l p v) i vs
 sets-set [] l i p v h = refl
 sets-set (w ∷ vs) l i p v h =
     let apart : i ≡ p → ⊥ = λ e. omega arith in
@@ -26,7 +26,7 @@ sets-append (w ∷ u) v l i =
     rw e (sets-append u v (set l i w) (suc i))
 
 -- a text with one more byte
-pub sets-last : (u l : List ℕ) (i k v : ℕ) → length u ≡ k → sets l i (u ++ (v ∷ [])) ≡ sets (set l (i + k) v) i u
+sets-last : (u l : List ℕ) (i k v : ℕ) → length u ≡ k → sets l i (u ++ (v ∷ [])) ≡ sets (set l (i + k) v) i u
 sets-last u l i k v e =
     sym (sets-append u (v ∷ []) l i)
     ∙ ap (λ (n : ℕ). set (sets l i u) (i + n) v) e
@@ -59,7 +59,7 @@ pub copy-end : (out text : List ℕ) (at i : ℕ) → length text ≤ i → sets
 copy-end out text at i h = rw (drop-of-length-le text h)
 
 -- digits from their back
-pub fill-step : (out : List ℕ) (at i j n d : ℕ) → i ≡ suc j → d ≡ 48 + n % 10
+fill-step : (out : List ℕ) (at i j n d : ℕ) → i ≡ suc j → d ≡ 48 + n % 10
     → sets (set out (at + j) d) at (digitsIn j (n / 10)) ≡ sets out at (digitsIn i n)
 fill-step out at i j n d e f =
     rw (e, f, digits-more) (sym (sets-last (digitsIn j (n / 10)) out at j (48 + n % 10) (length-digits j (n / 10))))
@@ -93,7 +93,7 @@ unfolding hexText
 length-hex v = refl
 
 -- four hex digits are two and two
-pub hex-pairs : (v : ℕ) → hexText 4 v ≡ hexText 2 (v / 256) ++ hexText 2 (v % 256)
+hex-pairs : (v : ℕ) → hexText 4 v ≡ hexText 2 (v / 256) ++ hexText 2 (v % 256)
 unfolding hexText
 hex-pairs v =
     let a : v / 16 / 16 / 16 % 16 ≡ v / 256 / 16 % 16 = omega arith in

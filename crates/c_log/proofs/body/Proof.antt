@@ -1,6 +1,6 @@
 use native.Mathlib.Omega.{arith}
 use denote.Ref.{now}
-use Rattle.log_parts.proofs.Limits.{body-answer}
+use Rattle.log_body.proofs.Limits.{body-answer}
 use Rattle.c_log.proofs.TotalLaws.{place-is}
 use Rattle.c_log.proofs.body.Statement.{statement}
 use Rattle.c_log.proofs.body.Tie as tie

@@ -3,7 +3,7 @@ use borrow.Author.Needs.{needs}
 use borrow.Author.Tests.{ne-eqb}
 use denote.Ref.{now}
 use mathlib.Core.Path.{sym, _∙_}
-use Rattle.log_parts.proofs.PartLaws.{body-unread}
+use Rattle.log_body.proofs.PartLaws.{body-unread}
 use Rattle.c_log.specs.Logs.{bodyValue}
 use Rattle.c_log.proofs.PackedLaws.{body-value-is}
 use Rattle.c_log.proofs.body_value.Statement.{statement}

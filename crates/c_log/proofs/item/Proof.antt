@@ -2,7 +2,7 @@ use native.Mathlib.Omega.{arith}
 use borrow.Author.Needs.{needs}
 use denote.Ref.{now}
 use mathlib.Core.Path.{sym, _∙_}
-use Rattle.log_parts.proofs.Limits.{item-waits, item-place}
+use Rattle.log_item.proofs.Limits.{item-waits, item-place}
 use Rattle.c_log.proofs.TotalLaws.{place-is}
 use Rattle.c_log.proofs.item.Statement.{statement}
 use Rattle.c_log.proofs.item.Tie as tie

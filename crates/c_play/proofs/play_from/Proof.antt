@@ -7,20 +7,20 @@ use Rattle.c_play.proofs.play_from.Statement.{statement}
 use Rattle.c_play.proofs.play_from.Tie as tie
 
 slice-aggregate-play-on : tie.Need-slice-aggregate-play-on
-slice-aggregate-play-on c = sym (length-take-le _ _ (c .before .most .ensures .0))
+slice-aggregate-play-on c = sym (length-take-le _ _ (omega (arith, c .before .least-usize .ensures)))
 
 returns : tie.Need-returns
 returns c =
     let start = c .before .before .before .before .before .before .before .before .before .before .before .before .args in
-    let size = c .before .before .before .before .most in
+    let size = c .before .before .before .before .least-usize in
     let went = c .before .before .play-on in
     let is = c .before .before .before .before .before .before .is-player .ensures in
     let read = c .before .before .before .before .before .before .before .decode .ensures in
-    let l = length-take-le (size .result) (start .text .now) (size .ensures .0) in
+    let l = length-take-le (size .result) (start .text .now) (omega (arith, size .ensures)) in
     let fits = played-fits _ _ _ _ _ _ (went .ensures) in (
       rw (← is, c .before .before .before .before .before .if1 .taken, ← read)
-          (played-whole (start .log .now) (start .memory .now) _ (start .text .now) _ (size .result) (went .result) (size .ensures .0) (size .ensures .2) (went .kept .1 .1 .1 .0) (went .ensures)),
-      omega (arith, size .ensures .1),
+          (played-whole (start .log .now) (start .memory .now) _ (start .text .now) _ (size .result) (went .result) (omega (arith, size .ensures)) (λ h. omega (arith, size .ensures)) (went .kept .1 .1 .1 .0) (went .ensures)),
+      omega (arith, size .ensures),
     )
 
 returns-2 : tie.Need-returns-2

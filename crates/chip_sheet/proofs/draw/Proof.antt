@@ -4,7 +4,7 @@ use native.Mathlib.Omega.{arith}
 use lib.ListN.{length, length-set}
 use lib.Seq.{sets}
 use borrow.Author.Needs.{needs}
-use Rattle.chip_sheet.specs.Sheet.{levelsOf}
+use Rattle.chip_sheet.specs.Sheet.{sheetLevels}
 use Rattle.chip_sheet.proofs.Levels.{draw-step, draw-end, drawn}
 use Rattle.chip_sheet.proofs.draw.Statement.{statement}
 use Rattle.chip_sheet.proofs.draw.Tie as tie
@@ -12,7 +12,7 @@ use Rattle.chip_sheet.proofs.draw.Tie as tie
 -- what is left to be stored makes the whole
 abbrev Inv-loop : tie.InvT-loop
 Inv-loop memory level address n buffer₀ l₀ a₀ i₀ buffer l a i =
-    (i ≤ n) × (length buffer ≡ length buffer₀) × (sets buffer i (levelsOf memory (n - i) a l) ≡ sets buffer₀ 0 (levelsOf memory n address level))
+    (i ≤ n) × (length buffer ≡ length buffer₀) × (sets buffer i (sheetLevels memory (n - i) a l) ≡ sets buffer₀ 0 (sheetLevels memory n address level))
 
 abbrev μ-loop : tie.MeasureT-loop
 μ-loop memory level address n buffer₀ l₀ a₀ i₀ buffer l a i = n - i

@@ -1,3 +1,4 @@
+-- Both measures are twice the bytes left, the block's one more; the loop's invariant: the totals so far and the answer from i on make the block's. A turn is `turn`, a line `part-of`. Assumes nothing.
 use Prim.Native.Nat.{ℕ, _+_, _-_, _*_, _≤_, _<_}
 use borrow.Author.Needs.{needs}
 use borrow.Fn.Kinds.{In}
@@ -20,7 +21,7 @@ use Rattle.log_block.proofs.read_line.Kinds as read-line-kinds
 use Rattle.log_block.proofs.read_line.Reads as read-line
 use Rattle.log_block.proofs.repeated.Reads as repeated-reads
 use Rattle.log_block.proofs.sum.Reads as sum-reads
-use Rattle.log_judge.specs.Block.{answer, readBlock, Small, loopPart}
+use Rattle.log_judge.specs.Block.{blockAnswer, readBlock, Small, loopPart}
 use Rattle.log_judge.specs.declared.Block.{Block}
 use Rattle.log_judge.specs.declared.Part.{Part}
 use Rattle.log_judge.specs.declared.Totals.{Totals}
@@ -57,7 +58,7 @@ read-line-calls t =
 
 abbrev read-block-Inv-loop : read-block-lts.InvT-loop
 read-block-Inv-loop log at depth i₀ t₀ i t =
-    Small t × (answer (readBlock log at depth) ≡ plus t (answer (readBlock log i depth))) × (at ≤ i)
+    Small t × (blockAnswer (readBlock log at depth) ≡ plus t (blockAnswer (readBlock log i depth))) × (at ≤ i)
 
 abbrev read-block-μ-loop : read-block-lts.MeasureT-loop
 read-block-μ-loop log at depth i₀ t₀ i t = length log - i
@@ -87,7 +88,7 @@ read-block-returns t c =
     let log = now (c .before .before .before .before .before .before .args .log) in
     let d = c .before .before .before .before .before .before .args .depth in
     let l = c .before .before .before .loop in
-    let k : ℕ → Block = λ p. answer (readBlock log p d) in
+    let k : ℕ → Block = λ p. blockAnswer (readBlock log p d) in
     c .ended .ensures
     ∙ (end-plus (c .before .before .read-line .result) k (l .t) (l .inv .0) (c .before .match .keys2)
     ∙ (ap (λ (q : Part). plus (l .t) (carry q k)) (c .before .before .read-line .ensures)
@@ -115,7 +116,7 @@ read-block-loop-again t c =
     let d = c .before .before .before .before .before .before .before .before .args .depth in
     let l = c .before .before .before .before .before .loop in
     let g = rw (c .before .before .p .given .1) at (rw (← c .before .before .before .before .read-line .ensures) at (part-good log (l .i) d)) in
-    let k : ℕ → Block = λ p. answer (readBlock log p d) in (
+    let k : ℕ → Block = λ p. blockAnswer (readBlock log p d) in (
       rw (c .sum .ensures) (small-cut _ _ _),
       l .inv .1
           ∙ (ap (plus (l .t)) (turn log (l .i) d ∙ ap (λ (q : Part). carry q k) (sym (c .before .before .before .before .read-line .ensures) ∙ c .before .before .p .given .1))
@@ -161,7 +162,7 @@ read-line-returns t c =
     let log = now (c .before .before .before .before .before .args .log) in
     let at = c .before .before .before .before .before .args .at in
     let d = c .before .before .before .before .before .args .depth in
-    let k : ℕ → ℕ → Block = λ p e. answer (readBlock log p e) in
+    let k : ℕ → ℕ → Block = λ p e. blockAnswer (readBlock log p e) in
     ap (finish d k) (sym (c .before .s .given .1) ∙ c .before .before .before .begin .ensures) ∙ part-of log at d
 
 read-line-returns-2 : (t : ℕ) → read-line-lts.Need-returns-2 (read-line-calls t) (read-line-at t) read-line.Post
@@ -169,7 +170,7 @@ read-line-returns-2 t c =
     let log = now (c .before .before .before .before .before .before .before .args .log) in
     let at = c .before .before .before .before .before .before .before .args .at in
     let d = c .before .before .before .before .before .before .before .args .depth in
-    let k : ℕ → ℕ → Block = λ p e. answer (readBlock log p e) in
+    let k : ℕ → ℕ → Block = λ p e. blockAnswer (readBlock log p e) in
     c .repeated .ensures
     ∙ (ap (loopPart (c .before .before .before .s2 .given .0 .0)) (c .before .read-block .ensures)
     ∙ (ap (finish d k) (sym (c .before .before .before .s2 .given .1) ∙ c .before .before .before .before .before .begin .ensures) ∙ part-of log at d))

@@ -8,7 +8,7 @@ scaled-requires c κs =
     (omega arith, rw (c .before .before .b .given .1) at (c .before .before .before .before .pre))
 
 returns : tie.Need-returns
-returns c = rw (c .before .before .before .b .given .1, c .scaled .ensures, c .before .wide .ensures)
+returns c = rw (c .before .before .before .b .given .1, c .scaled .ensures, c .before .wide-u8 .ensures .0)
 
 returns-2 : tie.Need-returns-2
 returns-2 c = rw (c .before .b2 .given .1)

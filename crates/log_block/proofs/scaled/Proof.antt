@@ -6,31 +6,31 @@ use Rattle.log_judge.proofs.TotalLaws.{totals≡}
 use Rattle.log_block.proofs.scaled.Statement.{statement}
 use Rattle.log_block.proofs.scaled.Tie as tie
 
-mul-cap : tie.Need-mul-cap
-mul-cap c =
+mul-least-u64 : tie.Need-mul-least-u64
+mul-least-u64 c =
     record { fits = omega (arith, mul-le-mul {n₁ = c .before .args .n} {m₁ = c .before .args .a .clocks} {n₂ = 255} {m₂ = 2000000001} (omega arith) (omega arith)) }
 
-mul-cap-2 : tie.Need-mul-cap-2
-mul-cap-2 c =
+mul-least-u64-2 : tie.Need-mul-least-u64-2
+mul-least-u64-2 c =
     record { fits = omega (arith, mul-le-mul {n₁ = c .before .before .before .args .n} {m₁ = 1 + c .before .before .before .args .a .turns} {n₂ = 255} {m₂ = 1000002} (omega arith) (omega arith)) }
 
-mul-cap-3 : tie.Need-mul-cap-3
-mul-cap-3 c =
+mul-least-u64-3 : tie.Need-mul-least-u64-3
+mul-least-u64-3 c =
     record { fits = omega (arith, mul-le-mul {n₁ = c .before .before .before .before .before .args .n} {m₁ = c .before .before .before .before .before .args .a .items} {n₂ = 255} {m₂ = 1000001} (omega arith) (omega arith)) }
 
 returns : tie.Need-returns
 returns c =
-    totals≡ (c .before .before .before .before .cap .ensures) (c .before .before .cap2 .ensures) (c .cap3 .ensures)
+    totals≡ (c .before .before .before .before .least-u64 .ensures) (c .before .before .least-u642 .ensures) (c .least-u643 .ensures)
 
 pub scaled-spec : {M : Type 1} → statement M
 scaled-spec =
     tie.close
     (tie.spec
-    mul-cap
+    mul-least-u64
     (λ c κs. search needs)
     (λ c. search needs)
-    mul-cap-2
+    mul-least-u64-2
     (λ c κs. search needs)
-    mul-cap-3
+    mul-least-u64-3
     (λ c κs. search needs)
     returns)

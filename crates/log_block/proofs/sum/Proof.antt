@@ -5,7 +5,7 @@ use Rattle.log_block.proofs.sum.Tie as tie
 
 returns : tie.Need-returns
 returns c =
-    totals≡ (c .before .before .before .before .before .before .cap .ensures) (c .before .before .before .cap2 .ensures) (c .cap3 .ensures)
+    totals≡ (c .before .before .before .before .before .before .least-u64 .ensures) (c .before .before .before .least-u642 .ensures) (c .least-u643 .ensures)
 
 pub sum-spec : {M : Type 1} → statement M
 sum-spec =

@@ -1,6 +1,6 @@
 use borrow.Author.Needs.{needs}
 use mathlib.Core.Path.{_∙_, ap, sym}
-use Rattle.log_cursor.specs.Stepping.{stepOf, readStep, stepped}
+use Rattle.log_cursor.specs.Stepping.{stepOf, readStep, steppedOf}
 use Rattle.log_cursor.proofs.AnswerLaws.{not-read}
 use Rattle.log_cursor.proofs.step.Statement.{statement}
 use Rattle.log_cursor.proofs.step.Tie as tie
@@ -9,7 +9,7 @@ returns : tie.Need-returns
 unfolding stepOf
 returns c =
     rw (← c .before .before .before .before .open-loops .ensures .0, ← c .before .before .before .read-inside .ensures)
-    (c .refusal .ensures ∙ ap stepped (not-read (c .before .before .before .read-inside .result) _ (c .before .before .match .keys2)))
+    (c .refusal .ensures ∙ ap steppedOf (not-read (c .before .before .before .read-inside .result) _ (c .before .before .match .keys2)))
 
 returns-2 : tie.Need-returns-2
 unfolding stepOf readStep

@@ -1,19 +1,19 @@
 -- Each `returns` goes by the tests on the way, the last one taken and those before it left. Assumes nothing.
 use mathlib.Core.Path.{refl, sym, ap, _∙_}
 use borrow.Author.Needs.{needs}
-use Rattle.log_line.specs.Said.{bodyOf, waitOf, writeOf, loopOf, stopOf}
+use Rattle.log_line.specs.Said.{unfedLine, waitOf, writeOf, loopOf, stopOf}
 use Rattle.log_line.proofs.body_of.Statement.{statement}
 use Rattle.log_line.proofs.body_of.Tie as tie
 
 returns : tie.Need-returns
-unfolding bodyOf
+unfolding unfedLine
 returns c =
     let p1 = c in
     let e1 = sym (p1 .before .exact .ensures) ∙ p1 .if1 .taken in
     rw e1
 
 returns-2 : tie.Need-returns-2
-unfolding bodyOf
+unfolding unfedLine
 returns-2 c =
     let p2 = c .before .before in
     let p1 = p2 .before .before .before in
@@ -22,7 +22,7 @@ returns-2 c =
     rw (e1, e2) (c .wait-of .ensures ∙ ap waitOf (c .before .behind .ensures))
 
 returns-3 : tie.Need-returns-3
-unfolding bodyOf
+unfolding unfedLine
 returns-3 c =
     let p3 = c .before .before in
     let p2 = p3 .before .before .before in
@@ -33,7 +33,7 @@ returns-3 c =
     rw (e1, e2, e3) (c .write-of .ensures ∙ ap writeOf (c .before .behind2 .ensures))
 
 returns-4 : tie.Need-returns-4
-unfolding bodyOf
+unfolding unfedLine
 returns-4 c =
     let p4 = c in
     let p3 = p4 .before .before .before in
@@ -46,7 +46,7 @@ returns-4 c =
     rw (e1, e2, e3, e4)
 
 returns-5 : tie.Need-returns-5
-unfolding bodyOf
+unfolding unfedLine
 returns-5 c =
     let p5 = c .before .before in
     let p4 = p5 .before .before .before in
@@ -61,7 +61,7 @@ returns-5 c =
     rw (e1, e2, e3, e4, e5) (c .loop-of .ensures ∙ ap loopOf (c .before .behind3 .ensures))
 
 returns-6 : tie.Need-returns-6
-unfolding bodyOf
+unfolding unfedLine
 returns-6 c =
     let p6 = c in
     let p5 = p6 .before .before .before in
@@ -78,7 +78,7 @@ returns-6 c =
     rw (e1, e2, e3, e4, e5, e6)
 
 returns-7 : tie.Need-returns-7
-unfolding bodyOf
+unfolding unfedLine
 returns-7 c =
     let p7 = c .before .before in
     let p6 = p7 .before .before .before in
@@ -97,7 +97,7 @@ returns-7 c =
     rw (e1, e2, e3, e4, e5, e6, e7) (c .stop-of .ensures ∙ ap stopOf (c .before .behind4 .ensures))
 
 returns-8 : tie.Need-returns-8
-unfolding bodyOf
+unfolding unfedLine
 returns-8 c =
     let p8 = c in
     let p7 = p8 .before .before .before in
@@ -118,7 +118,7 @@ returns-8 c =
     rw (e1, e2, e3, e4, e5, e6, e7, e8)
 
 returns-9 : tie.Need-returns-9
-unfolding bodyOf
+unfolding unfedLine
 returns-9 c =
     let p8 = c in
     let p7 = p8 .before .before .before in

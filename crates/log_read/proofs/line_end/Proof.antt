@@ -1,3 +1,4 @@
+-- The loop's invariant: the line from `at` ends where the line from i does; a turn is `len-more`, the end `len-feed` or `len-none`. Assumes nothing.
 use Prim.Native.Nat.{_+_, _-_, _≤_}
 use denote.Ref.{now}
 use lib.ListN.{length, drop}

@@ -1,3 +1,4 @@
+-- Each `returns` is one case of `wholeOf`: the line's variant, and what the flags called on the way give. Assumes nothing.
 use mathlib.Core.Path.{sym, ap, _∙_}
 use borrow.Author.Needs.{needs}
 use Rattle.log_spot.specs.Fault.{wholeOf}

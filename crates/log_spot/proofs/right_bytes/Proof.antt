@@ -1,3 +1,4 @@
+-- What each call ensures, put into the law of the first byte at fault of all allowed lines, `reach-begins`. Assumes nothing.
 use denote.Ref.{now}
 use mathlib.Core.Path.{sym, _∙_}
 use borrow.Author.Needs.{needs}

@@ -4,11 +4,9 @@ use Rattle.log_spot.proofs.start_if.Tie as tie
 use Rattle.log_spot.proofs.start_if.Reads as reads
 use Rattle.log_spot.proofs.start_if.Lts as lts
 
--- src/lib.rt:335:1
 returns : tie.Need-returns
 returns c = simp (c .if1 .taken)
 
--- src/lib.rt:335:1
 returns-2 : tie.Need-returns-2
 returns-2 c = search needs
 

@@ -10,7 +10,7 @@ use Rattle.log_writer.proofs.act_length.Tie as tie
 
 returns : tie.Need-returns
 unfolding actText ended
-returns c = let d = c .width .ensures in let w = c .before .wide .ensures in rw (c .before .before .before .a .given .1, ← w) (sym (keyed-long (bytes "wait=") (c .before .wide .result) refl ∙ ap (λ (x : ℕ). 6 + x) (sym (d .0))), omega arith)
+returns c = let d = c .width .ensures in let w = c .before .wide-u32 .ensures .0 in rw (c .before .before .before .a .given .1, ← w) (sym (keyed-long (bytes "wait=") (c .before .wide-u32 .result) refl ∙ ap (λ (x : ℕ). 6 + x) (sym (d .0))), omega arith)
 
 returns-2 : tie.Need-returns-2
 unfolding actText ended

@@ -5,7 +5,7 @@ use Rattle.log_writer.proofs.act_line.Tie as tie
 
 keyed-requires : tie.Need-keyed-requires
 unfolding actText ended
-keyed-requires c κs = rw (c .wide .ensures) (rw (c .before .before .before .before .a .given .1) at (c .before .before .before .before .before .before .before .pre))
+keyed-requires c κs = rw (c .wide-u32 .ensures .0) (rw (c .before .before .before .before .a .given .1) at (c .before .before .before .before .before .before .before .pre))
 
 access-line-requires : tie.Need-access-line-requires
 unfolding actText ended
@@ -13,7 +13,7 @@ access-line-requires c κs = rw (c .before .before .a2 .given .1) at (c .before 
 
 returns : tie.Need-returns
 unfolding actText ended
-returns c = rw (c .before .before .before .before .before .before .before .a .given .1) (rw (c .before .before .before .wide .ensures) at (c .before .before .keyed .ensures))
+returns c = rw (c .before .before .before .before .before .before .before .a .given .1) (rw (c .before .before .before .wide-u32 .ensures .0) at (c .before .before .keyed .ensures))
 
 returns-2 : tie.Need-returns-2
 unfolding actText ended

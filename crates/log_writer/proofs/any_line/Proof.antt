@@ -17,7 +17,7 @@ keyed-requires c κs = rw (c .before .before .before .l2 .given .1) at (c .befor
 
 keyed-requires-2 : tie.Need-keyed-requires-2
 unfolding lineText ended
-keyed-requires-2 c κs = rw (c .wide .ensures) (rw (c .before .before .before .before .l3 .given .1) at (c .before .before .before .before .before .before .before .pre))
+keyed-requires-2 c κs = rw (c .wide-u32 .ensures .0) (rw (c .before .before .before .before .l3 .given .1) at (c .before .before .before .before .before .before .before .pre))
 
 returns : tie.Need-returns
 unfolding lineText ended
@@ -41,7 +41,7 @@ returns-5 c = rw (c .before .before .before .before .before .enum-told3 .given .
 
 returns-6 : tie.Need-returns-6
 unfolding lineText ended
-returns-6 c = rw (c .before .before .before .before .before .before .before .l3 .given .1) (rw (c .before .before .before .wide .ensures) at (c .before .before .keyed2 .ensures))
+returns-6 c = rw (c .before .before .before .before .before .before .before .l3 .given .1) (rw (c .before .before .before .wide-u32 .ensures .0) at (c .before .before .keyed2 .ensures))
 
 returns-7 : tie.Need-returns-7
 unfolding lineText ended

@@ -30,7 +30,7 @@ returns-5 c = rw (c .enum-told3 .given .1) (refl, omega arith)
 
 returns-6 : tie.Need-returns-6
 unfolding lineText ended
-returns-6 c = let d = c .width2 .ensures in let w = c .before .wide .ensures in rw (c .before .before .before .l3 .given .1, ← w) (sym (keyed-long (bytes "stop=") (c .before .wide .result) refl ∙ ap (λ (x : ℕ). 6 + x) (sym (d .0))), omega arith)
+returns-6 c = let d = c .width2 .ensures in let w = c .before .wide-u32 .ensures .0 in rw (c .before .before .before .l3 .given .1, ← w) (sym (keyed-long (bytes "stop=") (c .before .wide-u32 .result) refl ∙ ap (λ (x : ℕ). 6 + x) (sym (d .0))), omega arith)
 
 returns-7 : tie.Need-returns-7
 unfolding lineText ended

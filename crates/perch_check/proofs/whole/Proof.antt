@@ -1,3 +1,4 @@
+-- Passed or refused, the text is `check=1` and a rest (`text-passed`, `text-refused`), joined by `put-then`; `whole-room` is the room for both. Assumes nothing.
 use borrow.Author.Needs.{needs}
 use mathlib.Core.Path.{_≡_, sym}
 use mathlib.Core.List.{_++_}

@@ -1,3 +1,4 @@
+-- The loop's invariant: what is read fits the buffer, which keeps its length; each turn has fewer bytes left. Assumes nothing.
 use Prim.Native.Nat.{_-_, _≤_}
 use mathlib.Core.Path.{_≡_}
 use lib.ListN.{length}

@@ -1,3 +1,4 @@
+-- What `whole` writes fits its 64 bytes by `meter-size`, and the bytes taken from them are the text by `text-taken`; `fixed` copies them. Assumes nothing.
 use borrow.Author.Needs.{needs}
 use mathlib.Core.Path.{_≡_, sym, ap, _∙_}
 use native.Mathlib.Omega.{arith}

@@ -1,3 +1,4 @@
+-- The loop's invariant: the lines that are left make the whole, in place and in bytes; a turn is `lines-step`. Assumes nothing.
 use Prim.Native.Nat.{ℕ, _+_, _-_, _≤_}
 use mathlib.Core.Path.{_≡_, refl, sym, ap, _∙_}
 use mathlib.Core.List.{List}
@@ -10,7 +11,6 @@ use Rattle.perch_sheet.proofs.Texts.{lines-room, lines-step, lines-end}
 use Rattle.perch_sheet.proofs.level_lines.Statement.{statement}
 use Rattle.perch_sheet.proofs.level_lines.Tie as tie
 
--- the lines that are left make the whole
 abbrev Inv-loop : tie.InvT-loop
 Inv-loop out₀ at address levels place₀ a₀ i₀ out place a i =
     (i ≤ length levels) × (length out ≡ length out₀)

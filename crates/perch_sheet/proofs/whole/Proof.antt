@@ -1,3 +1,4 @@
+-- Drawn or refused, the text is a first line and a rest (`text-drawn`, `text-refused`); `rest-room` finds the rest's room, and `rest-put` joins the two. Assumes nothing.
 use mathlib.Core.Path.{refl}
 use native.Mathlib.Omega.{arith}
 use borrow.Author.Needs.{needs}

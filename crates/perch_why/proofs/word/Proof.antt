@@ -1,3 +1,4 @@
+-- Each `returns` is one case of `reasonWord`: its own text by `put-last`, or what the function called writes. Assumes nothing.
 use borrow.Author.Needs.{needs}
 use Rattle.text.specs.Ascii.{bytes}
 use Rattle.text_print.proofs.PieceLaws.{put-last}

@@ -5,7 +5,7 @@ use Rattle.play_meter.proofs.act_on.Tie as tie
 
 returns : tie.Need-returns
 unfolding actOn
-returns c = rw (c .before .before .before .before .before .before .a .given .1, ← c .before .before .before .before .wide .ensures) (c .before .before .clocks-on .ensures)
+returns c = rw (c .before .before .before .before .before .before .a .given .1, ← c .before .before .before .before .wide-u32 .ensures .0) (c .before .before .clocks-on .ensures)
 
 returns-2 : tie.Need-returns-2
 unfolding actOn

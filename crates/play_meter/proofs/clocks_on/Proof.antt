@@ -1,3 +1,4 @@
+-- The loop's invariant: what is left of the clocks, from the state and the levels so far, comes to what all of them come to; a run does one at least. Assumes nothing.
 use mathlib.Core.Path.{_≡_, refl, sym, _∙_}
 use mathlib.Core.Bool.{true}
 use native.Mathlib.Omega.{arith}
@@ -24,30 +25,30 @@ sub-left c =
     let s = c .before .before .before .before .before .before .before .before .before .before .before .before .before in
     let l = c .before .before .before .before .before .before .before .before .before .before .loop in
     let r = c .before .before .before .before .before .before .run in
-    let e = rw (c .before .before .before .before .before .before .before .before .portion-of .ensures) at (r .ensures .0) in
-    let f = rw (c .before .before .before .before .before .before .before .before .portion-of .ensures) at (r .ensures .1) in
+    let e = rw (c .before .before .before .before .before .before .before .before .least-u64 .ensures) at (r .ensures .0) in
+    let f = rw (c .before .before .before .before .before .before .before .before .least-u64 .ensures) at (r .ensures .1) in
     let o = onward (s .args .memory .now) (l .state) (l .heard) (l .left) (l .words) _ (r .result) (s .pre .0 .0) (l .inv .0) (λ i. omega (arith, c .before .before .before .before .before .before .before .before .before .before .before .before .shared-slice-known .given i)) (omega (arith, l .inv .1, s .pre .1)) (c .before .before .before .before .before .before .before .before .before .loop-test .taken) e f in
-    omega (arith, c .wide .ensures, o .most)
+    omega (arith, c .wide-u32 .ensures .0, o .most)
 
 loop-less : tie.Need-loop-less Inv-loop μ-loop
 loop-less c =
     let s = c .before .before .before .before .before .before .before .before .before .before .before .before .before .before in
     let l = c .before .before .before .before .before .before .before .before .before .before .before .loop in
     let r = c .before .before .before .before .before .before .before .run in
-    let e = rw (c .before .before .before .before .before .before .before .before .before .portion-of .ensures) at (r .ensures .0) in
-    let f = rw (c .before .before .before .before .before .before .before .before .before .portion-of .ensures) at (r .ensures .1) in
+    let e = rw (c .before .before .before .before .before .before .before .before .before .least-u64 .ensures) at (r .ensures .0) in
+    let f = rw (c .before .before .before .before .before .before .before .before .before .least-u64 .ensures) at (r .ensures .1) in
     let o = onward (s .args .memory .now) (l .state) (l .heard) (l .left) (l .words) _ (r .result) (s .pre .0 .0) (l .inv .0) (λ i. omega (arith, c .before .before .before .before .before .before .before .before .before .before .before .before .before .shared-slice-known .given i)) (omega (arith, l .inv .1, s .pre .1)) (c .before .before .before .before .before .before .before .before .before .before .loop-test .taken) e f in
-    omega (arith, c .before .wide .ensures, o .some, o .most)
+    omega (arith, c .before .wide-u32 .ensures .0, o .some, o .most)
 
 loop-again : tie.Need-loop-again Inv-loop μ-loop
 loop-again c =
     let s = c .before .before .before .before .before .before .before .before .before .before .before .before .before .before in
     let l = c .before .before .before .before .before .before .before .before .before .before .before .loop in
     let r = c .before .before .before .before .before .before .before .run in
-    let e = rw (c .before .before .before .before .before .before .before .before .before .portion-of .ensures) at (r .ensures .0) in
-    let f = rw (c .before .before .before .before .before .before .before .before .before .portion-of .ensures) at (r .ensures .1) in
+    let e = rw (c .before .before .before .before .before .before .before .before .before .least-u64 .ensures) at (r .ensures .0) in
+    let f = rw (c .before .before .before .before .before .before .before .before .before .least-u64 .ensures) at (r .ensures .1) in
     let o = onward (s .args .memory .now) (l .state) (l .heard) (l .left) (l .words) _ (r .result) (s .pre .0 .0) (l .inv .0) (λ i. omega (arith, c .before .before .before .before .before .before .before .before .before .before .before .before .before .shared-slice-known .given i)) (omega (arith, l .inv .1, s .pre .1)) (c .before .before .before .before .before .before .before .before .before .before .loop-test .taken) e f in
-    (o .ranged, omega (arith, c .before .before .before .before .before .before .words .given, l .inv .1), rw (c .before .wide .ensures, c .before .before .with-records .ensures) (o .same ∙ l .inv .2))
+    (o .ranged, omega (arith, c .before .before .before .before .before .before .words .given, l .inv .1), rw (c .before .wide-u32 .ensures .0, c .before .before .with-records .ensures) (o .same ∙ l .inv .2))
 
 same-length : tie.Need-same-length Inv-loop μ-loop
 same-length c = c .before .before .loop .inv .1

@@ -1,15 +1,16 @@
+-- The loop's invariant: the acts that the cursor still gives, from the moment so far, come to the meter of all (`MeterWalking`). Assumes nothing.
 use mathlib.Core.Path.{_≡_, refl, ap, _∙_}
 use native.Mathlib.Omega.{arith}
 use borrow.Author.Needs.{needs}
 use lib.ListN.{length}
 use Rattle.log_cursor.specs.declared.Stepped.{Stepped}
-use Rattle.play_meter.specs.Walking.{Walking}
+use Rattle.play_meter.specs.Walking.{MeterWalking}
 use Rattle.play_meter.proofs.WalkLaws.{walk-start, walk-on, walk-left, told-whole}
 use Rattle.play_meter.proofs.walk.Statement.{statement}
 use Rattle.play_meter.proofs.walk.Tie as tie
 
 abbrev Inv-loop : tie.InvT-loop
-Inv-loop log memory words₀ cursor₀ m₀ left₀ words cursor m left = Walking log memory cursor m left × (length words ≡ length words₀)
+Inv-loop log memory words₀ cursor₀ m₀ left₀ words cursor m left = MeterWalking log memory cursor m left × (length words ≡ length words₀)
 
 abbrev μ-loop : tie.MeasureT-loop
 μ-loop log memory words₀ cursor₀ m₀ left₀ words cursor m left = left

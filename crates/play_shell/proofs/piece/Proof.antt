@@ -8,19 +8,15 @@ use Rattle.play_shell.proofs.piece.Reads as reads
 use Rattle.play_shell.proofs.piece.Lts as lts
 use Rattle.io.proofs.write_all.Reads as write-all-reads
 
--- src/lib.rt:9:45
 slice-aggregate-write-all : tie.Need-slice-aggregate-write-all
 slice-aggregate-write-all c = sym (length-take-le (c .before .before .before .args .n) (c .before .before .before .args .out .now) (omega arith))
 
--- src/lib.rt:9:9
 write-all-requires : tie.Need-write-all-requires
 write-all-requires c κs = search needs
 
--- src/lib.rt:9:9
 returns : tie.Need-returns
 returns c = search needs
 
--- src/lib.rt:7:1
 returns-2 : tie.Need-returns-2
 returns-2 c = search needs
 

@@ -1,7 +1,7 @@
 use mathlib.Core.Path.{sym}
 use borrow.Author.Tests.{lt-ltb, le-ltb}
 use Rattle.play_step.specs.Steps.{roomFor}
-use Rattle.play_step.proofs.StretchLaws.{room-none}
+use Rattle.play_step.proofs.PortionLaws.{room-none}
 use Rattle.play_step.proofs.room.Statement.{statement}
 use Rattle.play_step.proofs.room.Tie as tie
 

@@ -5,7 +5,7 @@ use native.Mathlib.Omega.{arith}
 use Prim.Native.Nat.{ℕ, _*_}
 use lib.ListN.{drop}
 use lib.Seq.{length-take-le}
-use Rattle.play_step.proofs.StretchLaws.{room-low, stretch-long, stretch-low, stretch-done, stretch-all}
+use Rattle.play_step.proofs.PortionLaws.{room-low, portion-long, portion-low, portion-done, portion-all}
 use Rattle.play_step.proofs.waited.Statement.{statement}
 use Rattle.play_step.proofs.waited.Tie as tie
 
@@ -23,18 +23,18 @@ last-level-requires c κs =
     let a = c .before .before .before .before .before .before .before .before .before .before .before .before .before .before .before .before .before .args in
     let k = c .before .before .before .before .before .before .before .before .before .before .before .before .before .room in
     let r = c .before .before .before .before .before .before .before .before .before .run in
-    let e = rw (c .before .before .before .before .before .before .before .before .before .before .before .wide .ensures .0) at (r .ensures .0) in
-    let l = ap (λ (x : List ℕ). x ++ drop (2 * k .result) (a .words .now)) (rw (c .before .before .before .before .before .before .before .before .before .before .before .wide .ensures .0) at (r .ensures .1)) in
-    (stretch-long (a .memory .now) (a .p) (a .at) (a .out .now) (a .words .now) (c .before .before .before .before .before .before .before .before .before .before .before .before .before .before .before .before .before .pre .1) (k .result) (k .ensures) (r .result) e (r .last .1 .1 .1 .0 ++ drop (2 * k .result) (a .words .now)) l, stretch-low (a .memory .now) (a .p) (a .at) (a .out .now) (a .words .now) (c .before .before .before .before .before .before .before .before .before .before .before .before .before .before .before .before .before .pre .1) (k .result) (k .ensures) (r .result) e (r .last .1 .1 .1 .0 ++ drop (2 * k .result) (a .words .now)) l)
+    let e = rw (c .before .before .before .before .before .before .before .before .before .before .before .wide-u32 .ensures .0) at (r .ensures .0) in
+    let l = ap (λ (x : List ℕ). x ++ drop (2 * k .result) (a .words .now)) (rw (c .before .before .before .before .before .before .before .before .before .before .before .wide-u32 .ensures .0) at (r .ensures .1)) in
+    (portion-long (a .memory .now) (a .p) (a .at) (a .out .now) (a .words .now) (c .before .before .before .before .before .before .before .before .before .before .before .before .before .before .before .before .before .pre .1) (k .result) (k .ensures) (r .result) e (r .last .1 .1 .1 .0 ++ drop (2 * k .result) (a .words .now)) l, portion-low (a .memory .now) (a .p) (a .at) (a .out .now) (a .words .now) (c .before .before .before .before .before .before .before .before .before .before .before .before .before .before .before .before .before .pre .1) (k .result) (k .ensures) (r .result) e (r .last .1 .1 .1 .0 ++ drop (2 * k .result) (a .words .now)) l)
 
 behind-requires : tie.Need-behind-requires
 behind-requires c κs =
     let a = c .before .before .before .before .before .before .before .before .before .before .before .before .before .before .before .before .before .before .before .args in
     let k = c .before .before .before .before .before .before .before .before .before .before .before .before .before .before .before .room in
     let r = c .before .before .before .before .before .before .before .before .before .before .before .run in
-    let e = rw (c .before .before .before .before .before .before .before .before .before .before .before .before .before .wide .ensures .0) at (r .ensures .0) in
-    let l = ap (λ (x : List ℕ). x ++ drop (2 * k .result) (a .words .now)) (rw (c .before .before .before .before .before .before .before .before .before .before .before .before .before .wide .ensures .0) at (r .ensures .1)) in
-    let d = stretch-done (a .memory .now) (a .p) (a .at) (a .out .now) (a .words .now) (c .before .before .before .before .before .before .before .before .before .before .before .before .before .before .before .before .before .before .before .pre .1) (k .result) (k .ensures) (r .result) e (r .last .1 .1 .1 .0 ++ drop (2 * k .result) (a .words .now)) l in
+    let e = rw (c .before .before .before .before .before .before .before .before .before .before .before .before .before .wide-u32 .ensures .0) at (r .ensures .0) in
+    let l = ap (λ (x : List ℕ). x ++ drop (2 * k .result) (a .words .now)) (rw (c .before .before .before .before .before .before .before .before .before .before .before .before .before .wide-u32 .ensures .0) at (r .ensures .1)) in
+    let d = portion-done (a .memory .now) (a .p) (a .at) (a .out .now) (a .words .now) (c .before .before .before .before .before .before .before .before .before .before .before .before .before .before .before .before .before .before .before .pre .1) (k .result) (k .ensures) (r .result) e (r .last .1 .1 .1 .0 ++ drop (2 * k .result) (a .words .now)) l in
     (d, omega (arith, d, c .before .before .before .before .before .before .before .before .before .before .before .before .before .before .before .before .before .before .before .pre .0))
 
 same-length : tie.Need-same-length
@@ -48,11 +48,11 @@ returns c =
     let a = c .before .before .before .before .before .before .before .before .before .before .before .before .before .before .before .before .before .before .before .before .before .args in
     let k = c .before .before .before .before .before .before .before .before .before .before .before .before .before .before .before .before .before .room in
     let r = c .before .before .before .before .before .before .before .before .before .before .before .before .before .run in
-    let e = rw (c .before .before .before .before .before .before .before .before .before .before .before .before .before .before .before .wide .ensures .0) at (r .ensures .0) in
-    let l = ap (λ (x : List ℕ). x ++ drop (2 * k .result) (a .words .now)) (rw (c .before .before .before .before .before .before .before .before .before .before .before .before .before .before .before .wide .ensures .0) at (r .ensures .1)) in
+    let e = rw (c .before .before .before .before .before .before .before .before .before .before .before .before .before .before .before .wide-u32 .ensures .0) at (r .ensures .0) in
+    let l = ap (λ (x : List ℕ). x ++ drop (2 * k .result) (a .words .now)) (rw (c .before .before .before .before .before .before .before .before .before .before .before .before .before .before .before .wide-u32 .ensures .0) at (r .ensures .1)) in
     let v = c .before .before .before .before .before .before .before .level-lines in
     rw (← k .ensures)
-    (stretch-all (a .memory .now) (a .p) (a .at) (a .out .now) (a .words .now) (c .before .before .before .before .before .before .before .before .before .before .before .before .before .before .before .before .before .before .before .before .before .pre .1) (k .result) (k .ensures) (r .result) e (r .last .1 .1 .1 .0 ++ drop (2 * k .result) (a .words .now)) l (c .outcome .result)
+    (portion-all (a .memory .now) (a .p) (a .at) (a .out .now) (a .words .now) (c .before .before .before .before .before .before .before .before .before .before .before .before .before .before .before .before .before .before .before .before .before .pre .1) (k .result) (k .ensures) (r .result) e (r .last .1 .1 .1 .0 ++ drop (2 * k .result) (a .words .now)) l (c .outcome .result)
     (c .outcome .ensures ∙ rw (c .before .behind .ensures, c .before .before .before .last-level .ensures, v .ensures .0) refl) (v .last .0) (v .ensures .1))
 
 pub waited-spec : {M : Type 1} → statement M

@@ -2,15 +2,15 @@ use borrow.Author.Needs.{needs}
 use mathlib.Core.List.{_++_}
 use Rattle.text.specs.Ascii.{bytes}
 use Rattle.text.specs.Decimal.{decimalText}
-use Rattle.play_text.specs.declared.Note.the-variants.{Level}
-use Rattle.play_text.specs.Notes.{noteText}
+use Rattle.play_text.specs.declared.Entry.the-variants.{Level}
+use Rattle.play_text.specs.Entries.{entryText}
 use Rattle.text_print.proofs.PieceLaws.{put-last, put-more}
 use Rattle.play_text.proofs.PieceLaws.{lined}
 use Rattle.play_text.proofs.level_line.Statement.{statement}
 use Rattle.play_text.proofs.level_line.Tie as tie
 
 returns : tie.Need-returns
-unfolding noteText
+unfolding entryText
 returns c = let room = c .before .before .before .before .before .before .before .before .before .before .before .before .before .before .before .before .before .before .before .before .before .before .before .before .pre in
     lined (c .before .before .before .before .before .before .before .before .before .before .before .before .before .before .before .before .before .before .before .before .before .before .before .before .args .out .now) (c .before .before .before .before .before .before .before .before .before .before .before .before .before .before .before .before .before .before .before .before .before .before .before .before .args .at) (Level (c .before .before .before .before .before .before .before .before .before .before .before .before .before .before .before .before .before .before .before .before .before .before .before .before .args .time) (c .before .before .before .before .before .before .before .before .before .before .before .before .before .before .before .before .before .before .before .before .before .before .before .before .args .level)) _ _ room
     (put-more (c .before .before .before .before .before .before .before .before .before .before .before .before .before .before .before .before .before .before .before .before .before .before .before .before .args .out .now) (c .before .before .before .before .before .before .before .before .before .before .before .before .before .before .before .before .before .before .before .before .before .before .before .before .args .at) (bytes "level=") ((decimalText (c .before .before .before .before .before .before .before .before .before .before .before .before .before .before .before .before .before .before .before .before .before .before .before .before .args .time)) ++ ((bytes ":") ++ ((decimalText (c .before .before .before .before .before .before .before .before .before .before .before .before .before .before .before .before .before .before .before .before .before .before .before .before .args .level)) ++ ((bytes "\n"))))) (c .before .before .before .before .before .before .before .before .before .before .before .before .before .before .before .before .before .before .before .before .fixed .last .0) (c .before .before .before .before .before .before .before .before .before .before .before .before .before .before .before .before .before .before .before .before .fixed .result) (c .before .before .fixed3 .last .0) (c .before .before .fixed3 .result) room (c .before .before .before .before .before .before .before .before .before .before .before .before .before .before .before .before .before .before .before .before .fixed .ensures .0) (c .before .before .before .before .before .before .before .before .before .before .before .before .before .before .before .before .before .before .before .before .fixed .ensures .1) (λ h0.

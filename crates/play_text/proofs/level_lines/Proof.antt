@@ -4,8 +4,8 @@ use native.Mathlib.Omega.{arith}
 use Prim.Native.Nat.{ℕ, _+_, _*_, _≤_}
 use lib.ListN.{length}
 use borrow.Author.Tests.{leb-true}
-use Rattle.play_text.specs.Lines.{levelNotes}
-use Rattle.play_text.proofs.LineLaws.{lines-in, lines-end, lines-out, lines-stay, levels-size, levels-all, few, few-long, few-least}
+use Rattle.play_text.specs.Lines.{levelEntries}
+use Rattle.play_text.proofs.LineLaws.{lines-in, lines-end, lines-out, lines-stay, levels-size, levels-all}
 use Rattle.play_text.proofs.level_lines.Statement.{statement}
 use Rattle.play_text.proofs.level_lines.Tie as tie
 
@@ -13,15 +13,15 @@ records-requires : tie.Need-records-requires
 records-requires c κs =
     let a = c .before .before .before .before .before .before .args in
     let h : a .at + 23 * a .n ≤ length (a .out .now) = leb-true _ _ (sym (c .before .before .before .left .ensures) ∙ c .before .before .if1 .taken) in
-    rw (c .least .ensures)
-    (few-long (a .n) (a .words .now), omega (arith, h, levels-size (a .time) (few (a .n) (a .words .now)) (a .words .now), few-least (a .n) (a .words .now)))
+    let k = c .least-usize in
+    (omega (arith, k .ensures), omega (arith, h, k .ensures, levels-size (a .time) (k .result) (a .words .now)))
 
 returns : tie.Need-returns
 returns c =
     let a = c .before .before .before .before .before .before .before .before .before .args in
     let h = leb-true _ _ (sym (c .before .before .before .before .before .before .left .ensures) ∙ c .before .before .before .before .before .if1 .taken) in
-    let all : levelNotes (a .time) (c .before .before .before .least .result) (a .words .now) ≡ levelNotes (a .time) (a .n) (a .words .now) =
-    ap (λ (k : ℕ). levelNotes (a .time) k (a .words .now)) (c .before .before .before .least .ensures) ∙ levels-all (a .time) (a .n) (a .words .now) in
+    let all : levelEntries (a .time) (c .before .before .before .least-usize .result) (a .words .now) ≡ levelEntries (a .time) (a .n) (a .words .now) =
+    ap (λ (k : ℕ). levelEntries (a .time) k (a .words .now)) (c .before .before .before .least-usize .ensures) ∙ levels-all (a .time) (a .n) (a .words .now) in
     let e = rw all at (c .before .before .records .ensures) in
     (e .0 ∙ sym (lines-end (a .out .now) (a .at) (a .n) _ h), e .1 ∙ sym (lines-in (a .out .now) (a .at) (a .n) _ h))
 

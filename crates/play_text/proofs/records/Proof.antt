@@ -1,3 +1,4 @@
+-- The loop's invariant: the records that are left to be written make the whole, in place and in bytes; a turn is `lines-step`. Assumes nothing.
 use mathlib.Core.Path.{_≡_, refl, sym, ap, ap₂, _∙_}
 use native.Mathlib.Omega.{arith}
 use Prim.Native.Nat.{ℕ, _+_, _-_, _*_, _%_, _≤_}
@@ -5,19 +6,18 @@ use native.Mathlib.Nat.{add-zero}
 use mathlib.Core.List.{List}
 use lib.ListN.{length, drop}
 use lib.Seq.{sets, length-sets}
-use Rattle.play_text.specs.Notes.{noteText, notesText}
-use Rattle.play_text.specs.declared.Note.the-variants.{Level}
-use Rattle.play_text.specs.Lines.{levelNotes}
+use Rattle.play_text.specs.Entries.{entryText, entriesText}
+use Rattle.play_text.specs.declared.Entry.the-variants.{Level}
+use Rattle.play_text.specs.Lines.{levelEntries}
 use Rattle.play_text.proofs.LineLaws.{lines-none, lines-all, lines-step}
 use Rattle.play_text.proofs.records.Statement.{statement}
 use Rattle.play_text.proofs.records.Tie as tie
 
--- what is left to be written makes the whole
 abbrev Inv-loop : tie.InvT-loop
 Inv-loop out₀ at time words n place₀ i₀ out place i =
     (i ≤ n) × (length out ≡ length out₀)
-    × (place + length (notesText (levelNotes time (n - i) (drop (2 * i) words))) ≡ at + length (notesText (levelNotes time n words)))
-    × (sets out place (notesText (levelNotes time (n - i) (drop (2 * i) words))) ≡ sets out₀ at (notesText (levelNotes time n words)))
+    × (place + length (entriesText (levelEntries time (n - i) (drop (2 * i) words))) ≡ at + length (entriesText (levelEntries time n words)))
+    × (sets out place (entriesText (levelEntries time (n - i) (drop (2 * i) words))) ≡ sets out₀ at (entriesText (levelEntries time n words)))
 
 abbrev μ-loop : tie.MeasureT-loop
 μ-loop out₀ at time words n place₀ i₀ out place i = n - i
@@ -31,26 +31,26 @@ mul-k c = omega (arith, c .before .before .before .before .pre .0)
 add-j : tie.Need-add-j Inv-loop μ-loop
 add-j c = omega (arith, c .before .before .before .before .pre .0)
 
-mul-wide : tie.Need-mul-wide Inv-loop μ-loop
-mul-wide c = omega (arith, c .before .before .before .before .pre .0)
+mul-wide-u32 : tie.Need-mul-wide-u32 Inv-loop μ-loop
+mul-wide-u32 c = omega (arith, c .before .before .before .before .pre .0)
 
-shared-slice-read-wide : tie.Need-shared-slice-read-wide Inv-loop μ-loop
-shared-slice-read-wide c = omega (arith, c .before .before .before .before .before .pre .0)
+shared-slice-read-wide-u32 : tie.Need-shared-slice-read-wide-u32 Inv-loop μ-loop
+shared-slice-read-wide-u32 c = omega (arith, c .before .before .before .before .before .pre .0)
 
-mul-wide-2 : tie.Need-mul-wide-2 Inv-loop μ-loop
-mul-wide-2 c = omega (arith, c .before .before .before .before .before .before .pre .0)
+mul-wide-u32-2 : tie.Need-mul-wide-u32-2 Inv-loop μ-loop
+mul-wide-u32-2 c = omega (arith, c .before .before .before .before .before .before .pre .0)
 
-shared-slice-read-wide-2 : tie.Need-shared-slice-read-wide-2 Inv-loop μ-loop
-shared-slice-read-wide-2 c = omega (arith, c .before .before .before .before .before .before .before .pre .0)
+shared-slice-read-wide-u32-2 : tie.Need-shared-slice-read-wide-u32-2 Inv-loop μ-loop
+shared-slice-read-wide-u32-2 c = omega (arith, c .before .before .before .before .before .before .before .pre .0)
 
 add-level-line : tie.Need-add-level-line Inv-loop μ-loop
-add-level-line c = omega (arith, c .wide3 .ensures .1, c .before .before .before .before .wide .ensures .1)
+add-level-line c = omega (arith, c .wide-u323 .ensures .1, c .before .before .before .before .wide-u32 .ensures .1)
 
 level-line-requires : tie.Need-level-line-requires Inv-loop μ-loop
 level-line-requires c κs = let a = c .before .before .before .before .before .before .before .before .before .before .args in
     let l = c .before .before .before .before .before .before .before .loop in
     let s = lines-step (a .time) (a .n) (a .words .now) (c .before .before .before .before .before .before .before .before .before .before .pre .0) (l .i) (c .before .before .before .before .before .before .loop-test .taken) (l .out) (l .place) _ _ (l .inv .2) (l .inv .3) (omega (arith, l .inv .1, c .before .before .before .before .before .before .before .before .before .before .pre .1))
-    (c .wide3 .result + c .before .before .before .before .wide .result) (c .before .before .wide2 .result % 65536) (ap₂ (λ (x y : ℕ). x + y) (c .wide3 .ensures .0) (c .before .before .before .before .wide .ensures .0)) (ap (λ (x : ℕ). x % 65536) (c .before .before .wide2 .ensures .0)) in
+    (c .wide-u323 .result + c .before .before .before .before .wide-u32 .result) (c .before .before .wide-u322 .result % 65536) (ap₂ (λ (x y : ℕ). x + y) (c .wide-u323 .ensures .0) (c .before .before .before .before .wide-u32 .ensures .0)) (ap (λ (x : ℕ). x % 65536) (c .before .before .wide-u322 .ensures .0)) in
     s .0
 
 add-i : tie.Need-add-i Inv-loop μ-loop
@@ -63,9 +63,9 @@ loop-again : tie.Need-loop-again Inv-loop μ-loop
 loop-again c = let a = c .before .before .before .before .before .before .before .before .before .before .before .before .before .args in
     let l = c .before .before .before .before .before .before .before .before .before .before .loop in
     let s = lines-step (a .time) (a .n) (a .words .now) (c .before .before .before .before .before .before .before .before .before .before .before .before .before .pre .0) (l .i) (c .before .before .before .before .before .before .before .before .before .loop-test .taken) (l .out) (l .place) _ _ (l .inv .2) (l .inv .3) (omega (arith, l .inv .1, c .before .before .before .before .before .before .before .before .before .before .before .before .before .pre .1))
-    (c .before .before .before .wide3 .result + c .before .before .before .before .before .before .before .wide .result) (c .before .before .before .before .before .wide2 .result % 65536) (ap₂ (λ (x y : ℕ). x + y) (c .before .before .before .wide3 .ensures .0) (c .before .before .before .before .before .before .before .wide .ensures .0)) (ap (λ (x : ℕ). x % 65536) (c .before .before .before .before .before .wide2 .ensures .0)) in
+    (c .before .before .before .wide-u323 .result + c .before .before .before .before .before .before .before .wide-u32 .result) (c .before .before .before .before .before .wide-u322 .result % 65536) (ap₂ (λ (x y : ℕ). x + y) (c .before .before .before .wide-u323 .ensures .0) (c .before .before .before .before .before .before .before .wide-u32 .ensures .0)) (ap (λ (x : ℕ). x % 65536) (c .before .before .before .before .before .wide-u322 .ensures .0)) in
     let e = c .before .before .level-line .ensures in
-    (omega arith, ap length (e .bytes) ∙ (length-sets (l .out) (l .place) (noteText (Level (c .before .before .before .wide3 .result + c .before .before .before .before .before .before .before .wide .result) (c .before .before .before .before .before .wide2 .result % 65536))) ∙ l .inv .1), rw (e .place) (s .1), rw (e .bytes, e .place) (s .2))
+    (omega arith, ap length (e .bytes) ∙ (length-sets (l .out) (l .place) (entryText (Level (c .before .before .before .wide-u323 .result + c .before .before .before .before .before .before .before .wide-u32 .result) (c .before .before .before .before .before .wide-u322 .result % 65536))) ∙ l .inv .1), rw (e .place) (s .1), rw (e .bytes, e .place) (s .2))
 
 same-length : tie.Need-same-length Inv-loop μ-loop
 same-length c = c .before .loop .inv .1
@@ -77,4 +77,4 @@ returns c = let a = c .before .before .before .before .args in
     (sym (add-zero (l .place)) ∙ (ap (λ (z : List ℕ). l .place + length z) (sym e) ∙ l .inv .2), ap (λ (z : List ℕ). sets (l .out) (l .place) z) (sym e) ∙ l .inv .3)
 
 pub records-spec : {M : Type 1} → statement M
-records-spec = tie.close (tie.spec Inv-loop μ-loop loop-holds mul-k add-j mul-wide shared-slice-read-wide (λ c κs. tt) mul-wide-2 shared-slice-read-wide-2 (λ c κs. tt) (λ c κs. tt) add-level-line level-line-requires add-i loop-less loop-again same-length returns)
+records-spec = tie.close (tie.spec Inv-loop μ-loop loop-holds mul-k add-j mul-wide-u32 shared-slice-read-wide-u32 (λ c κs. tt) mul-wide-u32-2 shared-slice-read-wide-u32-2 (λ c κs. tt) (λ c κs. tt) add-level-line level-line-requires add-i loop-less loop-again same-length returns)

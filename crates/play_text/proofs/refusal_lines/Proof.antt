@@ -5,7 +5,7 @@ use lib.ListN.{length}
 use mathlib.Core.List.{_++_}
 use Rattle.text.specs.Ascii.{bytes}
 use Rattle.text.specs.Decimal.{decimalText}
-use Rattle.play_text.specs.Notes.{refusalText}
+use Rattle.play_text.specs.Entries.{refusalText}
 use Rattle.play_text.proofs.TextLaws.{refusal-size}
 use Rattle.text_print.specs.Printed.{Put}
 use Rattle.text_print.proofs.PieceLaws.{put-last, put-more}

@@ -1,3 +1,4 @@
+-- The loop's invariant: what is left of the clocks, from the state so far, leads to where all of them lead; a run does one at least. Assumes nothing.
 use Prim.Native.Nat.{ℕ}
 use mathlib.Core.Path.{_≡_, refl, sym, ap, _∙_}
 use mathlib.Core.Bool.{true}
@@ -27,9 +28,9 @@ sub-left c =
     let a = s .args in
     let l = c .before .before .before .before .before .before .before .loop in
     let r = c .before .before .before .run in
-    let e = rw (c .before .before .before .before .before .portion-of .ensures) at (r .ensures .0) in
+    let e = rw (c .before .before .before .before .before .least-u64 .ensures) at (r .ensures .0) in
     let n = nearer (a .memory .now) (l .state) (l .left) (l .words) (r .result) (s .pre .0 .0) (λ i. omega (arith, c .before .before .before .before .before .before .before .before .before .shared-slice-known .given i)) (l .inv .0) (omega (arith, l .inv .1, s .pre .1)) (c .before .before .before .before .before .before .loop-test .taken) e in
-    omega (arith, c .wide .ensures, n .most)
+    omega (arith, c .wide-u32 .ensures .0, n .most)
 
 loop-less : tie.Need-loop-less Inv-loop μ-loop
 loop-less c =
@@ -37,9 +38,9 @@ loop-less c =
     let a = s .args in
     let l = c .before .before .before .before .before .before .before .before .loop in
     let r = c .before .before .before .before .run in
-    let e = rw (c .before .before .before .before .before .before .portion-of .ensures) at (r .ensures .0) in
+    let e = rw (c .before .before .before .before .before .before .least-u64 .ensures) at (r .ensures .0) in
     let n = nearer (a .memory .now) (l .state) (l .left) (l .words) (r .result) (s .pre .0 .0) (λ i. omega (arith, c .before .before .before .before .before .before .before .before .before .before .shared-slice-known .given i)) (l .inv .0) (omega (arith, l .inv .1, s .pre .1)) (c .before .before .before .before .before .before .before .loop-test .taken) e in
-    omega (arith, c .before .wide .ensures, n .some, n .most)
+    omega (arith, c .before .wide-u32 .ensures .0, n .some, n .most)
 
 loop-again : tie.Need-loop-again Inv-loop μ-loop
 loop-again c =
@@ -47,9 +48,9 @@ loop-again c =
     let a = s .args in
     let l = c .before .before .before .before .before .before .before .before .loop in
     let r = c .before .before .before .before .run in
-    let e = rw (c .before .before .before .before .before .before .portion-of .ensures) at (r .ensures .0) in
+    let e = rw (c .before .before .before .before .before .before .least-u64 .ensures) at (r .ensures .0) in
     let n = nearer (a .memory .now) (l .state) (l .left) (l .words) (r .result) (s .pre .0 .0) (λ i. omega (arith, c .before .before .before .before .before .before .before .before .before .before .shared-slice-known .given i)) (l .inv .0) (omega (arith, l .inv .1, s .pre .1)) (c .before .before .before .before .before .before .before .loop-test .taken) e in
-    (n .ranged, omega (arith, c .before .before .before .words .given, l .inv .1), rw (c .before .wide .ensures) (n .same ∙ l .inv .2))
+    (n .ranged, omega (arith, c .before .before .before .words .given, l .inv .1), rw (c .before .wide-u32 .ensures .0) (n .same ∙ l .inv .2))
 
 same-length : tie.Need-same-length Inv-loop μ-loop
 same-length c = c .before .loop .inv .1

@@ -1,3 +1,4 @@
+-- The loop's invariant: the acts that the cursor still gives, from the moment so far, lead to the answer (`Walking`). Assumes nothing.
 use mathlib.Core.Path.{_≡_, refl, ap, _∙_}
 use native.Mathlib.Omega.{arith}
 use lib.ListN.{length}

@@ -1,16 +1,15 @@
-use Prim.Native.Nat.{_+_, _-_, _≤_}
+use Prim.Native.Nat.{_+_, _-_, _≤_, min}
 use mathlib.Core.Path.{_≡_, _∙_, ap, refl}
 use native.Mathlib.Omega.{arith}
 use borrow.Author.Needs.{needs}
 use Rattle.chip.specs.Leap.{beforeStep}
-use Rattle.leap_stretch.specs.Lagged.{sooner}
 use Rattle.run_stretch.specs.Stretch.{stretchEnd}
 use Rattle.run_stretch.proofs.StretchLaws.{stretch-most}
 use Rattle.run.proofs.next_stretch.Statement.{statement}
 use Rattle.run.proofs.next_stretch.Tie as tie
 
-sub-least : tie.Need-sub-least
-sub-least c = omega (arith, c .before .before .pre .1 .0)
+sub-least-u32 : tie.Need-sub-least-u32
+sub-least-u32 c = omega (arith, c .before .before .pre .1 .0)
 
 stretch-on-requires : tie.Need-stretch-on-requires
 unfolding stretchEnd
@@ -18,8 +17,8 @@ stretch-on-requires c κs =
     let p = c .before .before .before .before .before .pre in
     let a = c .before .before .before .before .before .args in
     let m = stretch-most (a .left) (a .s) in
-    let e : c .before .least .result ≡ sooner (a .left - 1) (beforeStep (a .s)) =
-    c .before .least .ensures ∙ ap (sooner (a .left - 1)) (c .before .before .before-step .ensures)
+    let e : c .before .least-u32 .result ≡ min (a .left - 1) (beforeStep (a .s)) =
+    c .before .least-u32 .ensures ∙ ap (min (a .left - 1)) (c .before .before .before-step .ensures)
     in
     (p .0, (omega (arith, e, m), (omega (arith, e, m, p .1 .0), p .1 .1)))
 
@@ -30,11 +29,11 @@ returns : tie.Need-returns
 unfolding stretchEnd
 returns c =
     let a = c .before .before .before .before .before .before .before .before .args in
-    let e : c .before .before .before .before .least .result ≡ stretchEnd (a .left) (a .s) =
-    c .before .before .before .before .least .ensures ∙ ap (sooner (a .left - 1)) (c .before .before .before .before .before .before-step .ensures)
+    let e : c .before .before .before .before .least-u32 .result ≡ stretchEnd (a .left) (a .s) =
+    c .before .before .before .before .least-u32 .ensures ∙ ap (min (a .left - 1)) (c .before .before .before .before .before .before-step .ensures)
     in
     rw (← e) (c .before .before .stretch-on .ensures)
 
 pub next-stretch-spec : {M : Type 1} → statement M
 next-stretch-spec =
-    tie.close (tie.spec sub-least (λ c κs. tt) (λ c κs. tt) stretch-on-requires same-length returns)
+    tie.close (tie.spec sub-least-u32 (λ c κs. tt) (λ c κs. tt) stretch-on-requires same-length returns)

@@ -1,3 +1,4 @@
+-- The loop's invariant: the levels from i on, with the lowest and highest so far, make those of all; a turn is `low-step` and `high-step`. Assumes nothing.
 use Prim.Native.Nat.{_≤_, _-_}
 use mathlib.Core.Path.{_≡_, refl, sym, _∙_}
 use native.Mathlib.Omega.{arith}

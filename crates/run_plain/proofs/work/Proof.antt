@@ -1,3 +1,4 @@
+-- The loop's invariant is `Held`: the words, state and count are the plain reading's so far; a turn is `held-same` or `held-mark`, the ends `held-early` and `held-end`. Assumes nothing.
 use Prim.Native.Nat.{_-_, _≤_}
 use mathlib.Core.Path.{_≡_, refl, sym, ap, _∙_}
 use native.Mathlib.Omega.{arith}

@@ -19,8 +19,8 @@ abbrev μ-loop : tie.MeasureT-loop
 loop-holds : tie.Need-loop-holds Inv-loop μ-loop
 loop-holds c = (omega arith, refl)
 
-add-cap : tie.Need-add-cap Inv-loop μ-loop
-add-cap c =
+add-least-u64 : tie.Need-add-least-u64 Inv-loop μ-loop
+add-least-u64 c =
     let q = sym (c .before .before .is-digit .ensures) ∙ c .before .if1 .taken in
     let m = c .minus .ensures in
     omega (arith, digit-high _ q)
@@ -30,7 +30,7 @@ loop-again c =
     let s = now (c .before .before .before .before .before .before .before .before .args .s) in
     let l = c .before .before .before .before .before .before .loop in
     let q = sym (c .before .before .before .is-digit .ensures) ∙ c .before .before .if1 .taken in
-    let g = c .cap .ensures in
+    let g = c .least-u64 .ensures in
     let m = c .before .minus .ensures in (
       omega arith,
       l .inv .1
@@ -64,7 +64,7 @@ value-spec =
     (λ c κs. tt)
     (λ c. omega arith)
     (λ c κs. tt)
-    add-cap
+    add-least-u64
     (λ c κs. tt)
     (λ c. omega arith)
     (λ c. omega arith)

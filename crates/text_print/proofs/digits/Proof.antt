@@ -1,3 +1,4 @@
+-- The loop's invariant: what is left to be stored makes the whole; a turn stores two digits, `fill-pair`. Assumes nothing.
 use Prim.Native.Nat.{_+_, _-_, _/_, _≤_}
 use mathlib.Core.Path.{_≡_, refl, sym, ap, _∙_}
 use native.Mathlib.Omega.{arith}
@@ -9,7 +10,6 @@ use Rattle.text_print.proofs.StoreLaws.{fill-pair}
 use Rattle.text_print.proofs.digits.Statement.{statement}
 use Rattle.text_print.proofs.digits.Tie as tie
 
--- what is left to be stored makes the whole
 abbrev Inv-loop : tie.InvT-loop
 Inv-loop out₀ at k n i₀ left₀ out i left =
     (i ≤ k) × (length out ≡ length out₀) × (sets out at (digitsIn i left) ≡ sets out₀ at (digitsIn k n))

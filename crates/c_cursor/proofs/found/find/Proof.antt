@@ -3,14 +3,14 @@ use mathlib.Core.Path.{_≡_, refl, ap, sym, _∙_}
 use denote.Ref.{now}
 use native.Mathlib.Omega.{arith}
 use borrow.Author.Needs.{needs}
-use Rattle.log_cursor.specs.Stepping.{stepped, stepOf}
+use Rattle.log_cursor.specs.Stepping.{steppedOf, stepOf}
 use Rattle.c_cursor.specs.Next.{nextIn, nextOf}
 use Rattle.c_cursor.proofs.NextLaws.{turn-none, find-on, find-said}
 use Rattle.c_cursor.proofs.found.find.Statement.{statement}
 use Rattle.c_cursor.proofs.found.find.Tie as tie
 
 abbrev Inv-loop : tie.InvT-loop
-Inv-loop log c₀ left₀ c left = nextOf log c₀ ≡ stepped (nextIn (stepOf log) left c)
+Inv-loop log c₀ left₀ c left = nextOf log c₀ ≡ steppedOf (nextIn (stepOf log) left c)
 
 abbrev μ-loop : tie.MeasureT-loop
 μ-loop log c₀ left₀ c left = left
@@ -35,13 +35,13 @@ loop-again : tie.Need-loop-again Inv-loop μ-loop
 loop-again c =
     let l = c .before .before .before .before .before .loop in
     l .inv
-    ∙ ap stepped
+    ∙ ap steppedOf
     (find-on (now (c .before .before .before .before .before .before .before .args .log)) (l .c) (l .left) (c .before .before .before .step .result) (omega arith) (c .before .before .before .step .ensures) (c .before .enum-told .given .1))
 
 returns-2 : tie.Need-returns-2 Inv-loop μ-loop
 returns-2 c =
     let l = c .before .loop in
-    sym (l .inv ∙ ap stepped (turn-none (stepOf (now (c .before .before .before .args .log))) (l .c) (l .left) (omega arith)))
+    sym (l .inv ∙ ap steppedOf (turn-none (stepOf (now (c .before .before .before .args .log))) (l .c) (l .left) (omega arith)))
 
 pub find-spec : {M : Type 1} → statement M
 find-spec =

@@ -3,7 +3,7 @@ use mathlib.Core.Bool.{true, false, not}
 use lib.Dec.{eqb}
 use borrow.Author.Tests.{eq-eqb, ne-eqb}
 use Rattle.chip_frame.specs.Frame.{nextStep, frameDue}
-use Rattle.chip.specs.Table.{frameTimes}
+use Rattle.chip_tables.specs.Table.{frameTimes}
 use Rattle.chip.specs.Clock.{framed}
 use Rattle.chip.proofs.State.frame_clocked.Statement.{statement}
 use Rattle.chip.proofs.State.frame_clocked.Tie as tie

@@ -1,3 +1,4 @@
+-- The loop's invariant: behind `at` there is room for a line, and the buffer keeps its length; `room-left` keeps it. Assumes nothing.
 use Prim.Native.Nat.{ℕ, _+_, _-_, _≤_}
 use mathlib.Core.Path.{_≡_, refl}
 use mathlib.Core.Bool.{Bool, true, false}

@@ -1,3 +1,4 @@
+-- Each `returns` is one case of `reasonText`, the last that of any other number. Assumes nothing.
 use borrow.Author.Needs.{needs}
 use borrow.Author.Tests.{ne-eqb}
 use Rattle.perch_check.specs.Reasons.{reasonText}

@@ -1,3 +1,4 @@
+-- The loop's invariant: k is how many of the first i bytes stand behind their last line feed; a turn is `front-none` or `front-more`. Assumes nothing.
 use Prim.Native.Nat.{ℕ, _-_, _≤_}
 use mathlib.Core.Path.{_≡_, refl, ap, _∙_}
 use mathlib.Core.List.{List}

@@ -1,3 +1,4 @@
+-- What the calls ensure, put together, is `line-parts`; the sum and the difference fit by `parts-long`, `rest-low` and `front-low`. Assumes nothing.
 use Prim.Native.Nat.{ℕ}
 use mathlib.Core.Path.{ap, _∙_}
 use mathlib.Core.List.{List}

@@ -1,3 +1,4 @@
+-- The blanks and the mark, joined by `put-then`; the room is `mark-size`. Assumes nothing.
 use borrow.Author.Needs.{needs}
 use Prim.Native.Nat.{_+_, _≤_}
 use mathlib.Core.Path.{_≡_, ap, _∙_}

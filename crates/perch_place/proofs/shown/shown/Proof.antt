@@ -1,3 +1,4 @@
+-- The loop's invariant: the bytes that are left to be shown make the whole, in place and in bytes; a turn is `spell-step`. Assumes nothing.
 use Prim.Native.Nat.{ℕ, _+_, _-_, _≤_}
 use mathlib.Core.Path.{_≡_, refl, sym, ap, _∙_}
 use mathlib.Core.List.{List}

@@ -1,3 +1,4 @@
+-- A byte shown as itself is one text, an escaped one two, joined by `put-more`. Assumes nothing.
 use borrow.Author.Needs.{needs}
 use mathlib.Core.Path.{sym, _∙_}
 use mathlib.Core.List.{[], _∷_}

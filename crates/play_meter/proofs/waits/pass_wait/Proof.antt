@@ -11,16 +11,16 @@ clocks-on-requires c κs =
     ((s .pre .0 .0, s .pre .0 .1), s .pre .1)
 
 add-gauge-of : tie.Need-add-gauge-of
-add-gauge-of c = omega (arith, c .before .wide2 .ensures, c .before .before .before .before .before .before .before .before .before .before .before .before .before .before .before .pre .0 .2, c .before .before .before .before .before .before .before .before .before .before .before .before .before .before .before .good)
+add-gauge-of c = omega (arith, c .before .wide-u322 .ensures .0, c .before .before .before .before .before .before .before .before .before .before .before .before .before .before .before .pre .0 .2, c .before .before .before .before .before .before .before .before .before .before .before .before .before .before .before .good)
 
 returns : tie.Need-returns
 returns c =
     let a = c .before .before .before .before .before .before .before .before .before .before .before .before .before .before .before .before .args in
     let m = c .before .before .before .before .before .before .before .before .clocks-on in
     wait-passed (a .memory .now) (a .n) (a .g) (a .c) (m .result) (c .gauge-of .result) (c .before .before .before .told .result)
-    (m .ensures .0 ∙ rw (c .before .before .before .before .before .before .before .before .before .before .wide .ensures, c .before .before .before .before .before .before .before .before .before .before .before .at-level .ensures, c .before .before .before .before .before .before .before .before .before .before .before .before .level .ensures) refl)
+    (m .ensures .0 ∙ rw (c .before .before .before .before .before .before .before .before .before .before .wide-u32 .ensures .0, c .before .before .before .before .before .before .before .before .before .before .before .at-level .ensures, c .before .before .before .before .before .before .before .before .before .before .before .before .level .ensures) refl)
     (c .before .before .before .told .ensures)
-    (c .gauge-of .ensures ∙ rw (c .before .before .wide2 .ensures) refl)
+    (c .gauge-of .ensures ∙ rw (c .before .before .wide-u322 .ensures .0) refl)
 
 pub pass-wait-spec : {M : Type 1} → statement M
 pass-wait-spec =

@@ -1,3 +1,4 @@
+-- The loop's invariant: the records' levels from i on, with the lowest and highest so far, make those of all; a turn is `there-low` and `there-high`. Assumes nothing.
 use Prim.Native.Nat.{_+_, _/_, _-_, _≤_, _<_, min}
 use mathlib.Core.Path.{_≡_, refl, sym, _∙_}
 use native.Mathlib.Omega.{arith}

@@ -1,3 +1,4 @@
+-- Each number on the way is read as a signed one with its bound (`Reads`): no sum overflows by `plus-fits`, and each `returns` is the sum's value. Assumes nothing.
 use mathlib.Core.Path.{_≡_, _∙_, refl, ap}
 use mathlib.Core.Bool.{Bool, true, false}
 use Prim.Native.Nat.{ℕ, _/_, _^_, _≤_, _<_, _-_}

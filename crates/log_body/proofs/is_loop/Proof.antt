@@ -1,0 +1,51 @@
+use borrow.Author.Needs.{needs}
+use Rattle.log_body.specs.Bodies.{isLoop}
+use Rattle.log_body.proofs.is_loop.Statement.{statement}
+use Rattle.log_body.proofs.is_loop.Tie as tie
+
+returns : tie.Need-returns
+unfolding isLoop
+returns c = rw (c .enum-told .given .1)
+
+returns-2 : tie.Need-returns-2
+unfolding isLoop
+returns-2 c = rw (c .enum-told2 .given .1)
+
+returns-3 : tie.Need-returns-3
+unfolding isLoop
+returns-3 c = rw (c .enum-told3 .given .1)
+
+returns-4 : tie.Need-returns-4
+unfolding isLoop
+returns-4 c = rw (c .enum-told4 .given .1)
+
+returns-5 : tie.Need-returns-5
+unfolding isLoop
+returns-5 c = rw (c .enum-told5 .given .1)
+
+returns-6 : tie.Need-returns-6
+unfolding isLoop
+returns-6 c = rw (c .enum-told6 .given .1)
+
+returns-7 : tie.Need-returns-7
+unfolding isLoop
+returns-7 c = rw (c .enum-told7 .given .1)
+
+pub is-loop-spec : {M : Type 1} → statement M
+is-loop-spec =
+    tie.close
+    (tie.spec
+    (λ c. search needs)
+    (λ c. search needs)
+    (λ c. search needs)
+    (λ c. search needs)
+    (λ c. search needs)
+    (λ c. search needs)
+    (λ c. search needs)
+    returns
+    returns-2
+    returns-3
+    returns-4
+    returns-5
+    returns-6
+    returns-7)

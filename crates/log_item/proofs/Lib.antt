@@ -1,0 +1,4 @@
+pub mod CountLaws
+pub mod HopLaws
+pub mod Listed
+pub mod Limits

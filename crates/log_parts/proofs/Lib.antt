@@ -1,5 +1,0 @@
-pub mod CountLaws
-pub mod HopLaws
-pub mod Listed
-pub mod PartLaws
-pub mod Limits
