@@ -14,7 +14,7 @@ use Rattle.log_passing.proofs.Passing.{clear}
 use Rattle.log_fold.specs.declared.Folded.{Folded}
 use Rattle.log_fold.specs.Folding.{foldedLog}
 use Rattle.log_fold.specs.Promise.{Folds}
-use Rattle.log_fold.specs.Answer.{refusal, done, foldOf}
+use Rattle.log_fold.specs.Answer.{foldRefusal, foldDone, foldOf}
 use Rattle.log_fold.proofs.Passes.{folds}
 use Rattle.c_log.specs.Logs.{logPacked}
 use Rattle.c_log.proofs.PackedLaws.{apart}
@@ -30,7 +30,7 @@ unfolding foldOf
 fold-limits log out = go (eqb (checkOf log .number) 0) refl (ltb (length out) (length log))
   where
     go : (x : Bool) → eqb (checkOf log .number) 0 ≡ x → (y : Bool)
-        → Limited (pick x (pick y (refusal 32 0) (done (length (foldedLog log)))) (refusal (checkOf log .number) (checkOf log .place)))
+        → Limited (pick x (pick y (foldRefusal 32 0) (foldDone (length (foldedLog log)))) (foldRefusal (checkOf log .number) (checkOf log .place)))
     go true e true = record { number = omega arith; place = omega arith; long = omega arith }
     go true e false =
         let z = eqb-true (checkOf log .number) 0 e in

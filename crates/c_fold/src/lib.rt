@@ -2,7 +2,7 @@
 ghost use mathlib.Core.Path.{_≡_};
 ghost use Prim.Native.Nat.{_/_, _%_, _^_};
 ghost use lib.ListN.{take};
-ghost use Rattle.log_fold.specs.Answer.{lent};
+ghost use Rattle.log_fold.specs.Answer.{foldLent};
 ghost use Rattle.log_fold.specs.Promise.{Folds};
 ghost use Rattle.c_fold.specs.Packed.{foldPacked};
 
@@ -10,7 +10,7 @@ ghost use Rattle.c_fold.specs.Packed.{foldPacked};
 // for the same list on the same machine with the same end, and isn't longer. Refused: as the log; then 32, at 0. Refused, the text stays.
 pub fn fold(log: &[u8], text: &mut [u8]) -> u64
     ensures { λ r. ⌜ r ≡ foldPacked (now (log .entry)) (now (text .entry)) ⌝ }
-    ensures { λ r. ⌜ now (text .exit) ≡ lent (now (log .entry)) (now (text .entry)) ⌝ }
+    ensures { λ r. ⌜ now (text .exit) ≡ foldLent (now (log .entry)) (now (text .entry)) ⌝ }
     ensures { λ r. ⌜ (r % 2 ^ 8 ≡ 0 → Folds (now (log .entry)) (take (r / 2 ^ 32) (now (text .exit)))) ⌝ }
 {
     let a = log_fold::fold(log, text);

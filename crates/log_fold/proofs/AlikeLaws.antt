@@ -23,7 +23,7 @@ use Rattle.log_line.proofs.LineLaws.{printed-read, one-line}
 use Rattle.log_judge.specs.Tree.{Tree, end, act, loop, times, text, Within}
 use Rattle.log_passing.proofs.ActLaws.{Every}
 use Rattle.log_passing.proofs.TextLaws.{loop-long}
-use Rattle.log_fold.specs.Ahead.{leading, run, same, begins, copies}
+use Rattle.log_fold.specs.Ahead.{leading, inFront, sameLine, beginsWith, copies}
 use Rattle.log_fold.specs.Folding.{shorter, suits}
 use Rattle.log_fold.specs.Moves.{copiesOf, suitsOf}
 use Rattle.log_fold.proofs.AheadLaws.{behind, ahead, begins-are, every-leading, within-rest}
@@ -79,8 +79,8 @@ other-line a l x y p q n = go (startsWith (lineText (One a) ++ x) (lineText l ++
     go false e = refl
 
 -- a line of the three kinds
-act-line : (a c : Act) (x y : List ℕ) → Allowed a → Allowed c → startsWith (lineText (One a) ++ x) (lineText (One c) ++ y) ≡ both (same a c) (startsWith x y)
-unfolding same
+act-line : (a c : Act) (x y : List ℕ) → Allowed a → Allowed c → startsWith (lineText (One a) ++ x) (lineText (One c) ++ y) ≡ both (sameLine a c) (startsWith x y)
+unfolding sameLine
 act-line a c x y p q = go (exactly (lineText (One a)) (lineText (One c))) refl
   where
     go : (b : Bool) → exactly (lineText (One a)) (lineText (One c)) ≡ b → startsWith (lineText (One a) ++ x) (lineText (One c) ++ y) ≡ both b (startsWith x y)
@@ -98,23 +98,23 @@ act-line a c x y p q = go (exactly (lineText (One a)) (lineText (One c))) refl
 -- the bytes of a block start a text exactly where its lines do
 
 module _ (n : ℕ) (s : Printable (Stop n)) (r : List ℕ) where
-  pub starts-block : (b : List Act) (t : Tree) → Every b → Within t 0 → startsWith (text (run b end)) (text t ++ (lineText (Stop n) ++ r)) ≡ begins b (leading t)
-  unfolding text run begins leading startsWith
+  pub starts-block : (b : List Act) (t : Tree) → Every b → Within t 0 → startsWith (text (inFront b end)) (text t ++ (lineText (Stop n) ++ r)) ≡ beginsWith b (leading t)
+  unfolding text inFront beginsWith leading startsWith
   starts-block [] t e w = refl
-  starts-block (a ∷ b) end e w = other-line a (Stop n) (text (run b end)) r (e .0) s (λ q. let z : _≡_ {A = ℕ} 0 1 = cc in omega arith)
+  starts-block (a ∷ b) end e w = other-line a (Stop n) (text (inFront b end)) r (e .0) s (λ q. let z : _≡_ {A = ℕ} 0 1 = cc in omega arith)
   starts-block (a ∷ b) (act c t) e w =
-      ap (startsWith (lineText (One a) ++ text (run b end))) (append-assoc (lineText (One c)) (text t) (lineText (Stop n) ++ r))
-      ∙ (act-line a c (text (run b end)) (text t ++ (lineText (Stop n) ++ r)) (e .0) (w .0) ∙ ap (both (same a c)) (starts-block b t (e .1) (w .1)))
+      ap (startsWith (lineText (One a) ++ text (inFront b end))) (append-assoc (lineText (One c)) (text t) (lineText (Stop n) ++ r))
+      ∙ (act-line a c (text (inFront b end)) (text t ++ (lineText (Stop n) ++ r)) (e .0) (w .0) ∙ ap (both (sameLine a c)) (starts-block b t (e .1) (w .1)))
   starts-block (a ∷ b) (loop m u t) e w =
-      ap (startsWith (lineText (One a) ++ text (run b end))) (append-assoc (lineText (Loop m)) (text u ++ (lineText Done ++ text t)) (lineText (Stop n) ++ r))
-      ∙ other-line a (Loop m) (text (run b end)) ((text u ++ (lineText Done ++ text t)) ++ (lineText (Stop n) ++ r)) (e .0) (w .0) (λ q. let z : _≡_ {A = ℕ} 0 1 = cc in omega arith)
+      ap (startsWith (lineText (One a) ++ text (inFront b end))) (append-assoc (lineText (Loop m)) (text u ++ (lineText Done ++ text t)) (lineText (Stop n) ++ r))
+      ∙ other-line a (Loop m) (text (inFront b end)) ((text u ++ (lineText Done ++ text t)) ++ (lineText (Stop n) ++ r)) (e .0) (w .0) (λ q. let z : _≡_ {A = ℕ} 0 1 = cc in omega arith)
 
 -- what is behind lines in front
 
-pub text-run : (b : List Act) (t : Tree) → text (run b t) ≡ text (run b end) ++ text t
-unfolding text run
+pub text-run : (b : List Act) (t : Tree) → text (inFront b t) ≡ text (inFront b end) ++ text t
+unfolding text inFront
 text-run [] t = refl
-text-run (a ∷ b) t = ap (λ (x : List ℕ). lineText (One a) ++ x) (text-run b t) ∙ sym (append-assoc (lineText (One a)) (text (run b end)) (text t))
+text-run (a ∷ b) t = ap (λ (x : List ℕ). lineText (One a) ++ x) (text-run b t) ∙ sym (append-assoc (lineText (One a)) (text (inFront b end)) (text t))
 
 leading-behind : (t : Tree) (m : ℕ) → drop m (leading t) ≡ leading (behind t m)
 unfolding leading behind
@@ -126,47 +126,47 @@ leading-behind (loop n b t) zero = refl
 leading-behind (loop n b t) (suc m) = refl
 
 module _ (n : ℕ) (s : Printable (Stop n)) (r : List ℕ) where
-  pub copies-alike : (m : ℕ) (b : List Act) (t : Tree) → Every b → Within t 0 → copiesOf m (text (run b end)) (text t ++ (lineText (Stop n) ++ r)) ≡ copies m b (leading t)
+  pub copies-alike : (m : ℕ) (b : List Act) (t : Tree) → Every b → Within t 0 → copiesOf m (text (inFront b end)) (text t ++ (lineText (Stop n) ++ r)) ≡ copies m b (leading t)
   unfolding copiesOf copies
   copies-alike zero b t e w = refl
-  copies-alike (suc m) b t e w = go (begins b (leading t)) refl (copies-alike m b (behind t (length b)) e)
+  copies-alike (suc m) b t e w = go (beginsWith b (leading t)) refl (copies-alike m b (behind t (length b)) e)
     where
-      go : (x : Bool) → begins b (leading t) ≡ x
-          → (Within (behind t (length b)) 0 → copiesOf m (text (run b end)) (text (behind t (length b)) ++ (lineText (Stop n) ++ r)) ≡ copies m b (leading (behind t (length b))))
-          → pick (startsWith (text (run b end)) (text t ++ (lineText (Stop n) ++ r))) (suc (copiesOf m (text (run b end)) (drop (length (text (run b end))) (text t ++ (lineText (Stop n) ++ r))))) 0
-          ≡ pick (begins b (leading t)) (suc (copies m b (drop (length b) (leading t)))) 0
+      go : (x : Bool) → beginsWith b (leading t) ≡ x
+          → (Within (behind t (length b)) 0 → copiesOf m (text (inFront b end)) (text (behind t (length b)) ++ (lineText (Stop n) ++ r)) ≡ copies m b (leading (behind t (length b))))
+          → pick (startsWith (text (inFront b end)) (text t ++ (lineText (Stop n) ++ r))) (suc (copiesOf m (text (inFront b end)) (drop (length (text (inFront b end))) (text t ++ (lineText (Stop n) ++ r))))) 0
+          ≡ pick (beginsWith b (leading t)) (suc (copies m b (drop (length b) (leading t)))) 0
       go true h rec =
           let l : leading t ≡ b ++ drop (length b) (leading t) = begins-are b (leading t) e (every-leading t 0 w) h in
           let long : length b ≤ length (leading t) = omega (arith, simp length-append at (ap length l)) in
           let front : take (length b) (leading t) ≡ b = ap (take (length b)) l ∙ take-at b (drop (length b) (leading t)) (length b) refl in
-          let is : t ≡ run b (behind t (length b)) = ahead t (length b) long ∙ ap (λ (x : List Act). run x (behind t (length b))) front in
+          let is : t ≡ inFront b (behind t (length b)) = ahead t (length b) long ∙ ap (λ (x : List Act). inFront x (behind t (length b))) front in
           let w′ : Within (behind t (length b)) 0 = within-rest b (behind t (length b)) 0 (subst (λ (x : Tree). Within x 0) is w) in
-          let rest : drop (length (text (run b end))) (text t ++ (lineText (Stop n) ++ r)) ≡ text (behind t (length b)) ++ (lineText (Stop n) ++ r) =
-          ap (drop (length (text (run b end)))) (ap (λ (x : List ℕ). x ++ (lineText (Stop n) ++ r)) (ap text is ∙ text-run b (behind t (length b))) ∙ append-assoc (text (run b end)) (text (behind t (length b))) (lineText (Stop n) ++ r))
-          ∙ drop-at (text (run b end)) (text (behind t (length b)) ++ (lineText (Stop n) ++ r)) (length (text (run b end))) refl in
-          let both-true : startsWith (text (run b end)) (text t ++ (lineText (Stop n) ++ r)) ≡ true = starts-block n s r b t e w ∙ h in
-          rw (both-true, h) (ap suc (ap (copiesOf m (text (run b end))) rest ∙ (rec w′ ∙ ap (copies m b) (sym (leading-behind t (length b))))))
+          let rest : drop (length (text (inFront b end))) (text t ++ (lineText (Stop n) ++ r)) ≡ text (behind t (length b)) ++ (lineText (Stop n) ++ r) =
+          ap (drop (length (text (inFront b end)))) (ap (λ (x : List ℕ). x ++ (lineText (Stop n) ++ r)) (ap text is ∙ text-run b (behind t (length b))) ∙ append-assoc (text (inFront b end)) (text (behind t (length b))) (lineText (Stop n) ++ r))
+          ∙ drop-at (text (inFront b end)) (text (behind t (length b)) ++ (lineText (Stop n) ++ r)) (length (text (inFront b end))) refl in
+          let both-true : startsWith (text (inFront b end)) (text t ++ (lineText (Stop n) ++ r)) ≡ true = starts-block n s r b t e w ∙ h in
+          rw (both-true, h) (ap suc (ap (copiesOf m (text (inFront b end))) rest ∙ (rec w′ ∙ ap (copies m b) (sym (leading-behind t (length b))))))
       go false h rec =
-          let none : startsWith (text (run b end)) (text t ++ (lineText (Stop n) ++ r)) ≡ false = starts-block n s r b t e w ∙ h in
+          let none : startsWith (text (inFront b end)) (text t ++ (lineText (Stop n) ++ r)) ≡ false = starts-block n s r b t e w ∙ h in
           rw (none, h)
 
 -- what comes out shorter
 
-run-none : length (text (run [] end)) ≡ 0
-unfolding text run
+run-none : length (text (inFront [] end)) ≡ 0
+unfolding text inFront
 run-none = refl
 
-run-append : (b d : List Act) → length (text (run (b ++ d) end)) ≡ length (text (run b end)) + length (text (run d end))
-unfolding text run
+run-append : (b d : List Act) → length (text (inFront (b ++ d) end)) ≡ length (text (inFront b end)) + length (text (inFront d end))
+unfolding text inFront
 run-append [] d = omega arith
 run-append (a ∷ b) d = let h = run-append b d in simp length-append (omega arith)
 
-pub times-text : (c : ℕ) (b : List Act) → length (text (run (times c b) end)) ≡ c * length (text (run b end))
+pub times-text : (c : ℕ) (b : List Act) → length (text (inFront (times c b) end)) ≡ c * length (text (inFront b end))
 unfolding times
-times-text zero b = run-none ∙ sym (zero-mul (length (text (run b end))))
+times-text zero b = run-none ∙ sym (zero-mul (length (text (inFront b end))))
 times-text (suc c) b =
     let h = times-text c b in
-    run-append b (times c b) ∙ omega (arith, suc-mul c (length (text (run b end))))
+    run-append b (times c b) ∙ omega (arith, suc-mul c (length (text (inFront b end))))
 
 lines-long : (c : ℕ) → length (lineText (Loop c)) + length (lineText Done) ≡ 16 + length (decimalText c)
 unfolding lineText ended
@@ -176,13 +176,13 @@ empty-long : length (text end) ≡ 0
 unfolding text
 empty-long = refl
 
-pub loop-size : (c : ℕ) (b : List Act) → length (text (loop c (run b end) end)) ≡ 16 + length (decimalText c) + length (text (run b end))
-loop-size c b = omega (arith, loop-long c (run b end) end, lines-long c, empty-long)
+pub loop-size : (c : ℕ) (b : List Act) → length (text (loop c (inFront b end) end)) ≡ 16 + length (decimalText c) + length (text (inFront b end))
+loop-size c b = omega (arith, loop-long c (inFront b end) end, lines-long c, empty-long)
 
-pub suits-alike : (k : ℕ) (s : List Act) (p c : ℕ) → p ≤ length s → suitsOf k (length (text (run (take p s) end))) c ≡ suits k s p c
+pub suits-alike : (k : ℕ) (s : List Act) (p c : ℕ) → p ≤ length s → suitsOf k (length (text (inFront (take p s) end))) c ≡ suits k s p c
 unfolding suits suitsOf shorter
 suits-alike k s p c h =
     let b : List Act = take p s in
-    let e : ltb (16 + length (decimalText c) + length (text (run b end))) (c * length (text (run b end))) ≡ ltb (length (text (loop c (run b end) end))) (length (text (run (times c b) end))) =
+    let e : ltb (16 + length (decimalText c) + length (text (inFront b end))) (c * length (text (inFront b end))) ≡ ltb (length (text (loop c (inFront b end) end))) (length (text (inFront (times c b) end))) =
     ap₂ ltb (sym (loop-size c b)) (sym (times-text c b)) in
     rw (le-leb p (length s) h, e)

@@ -15,7 +15,7 @@ use Rattle.log_line.specs.declared.Act.{Act}
 use Rattle.log_judge.specs.Tree.{Tree, end, act, loop, acts, times, clocks, turns, text, Within}
 use Rattle.log_passing.proofs.ActLaws.{Every}
 use Rattle.log_passing.proofs.TextLaws.{loop-long, act-long}
-use Rattle.log_fold.specs.Ahead.{leading, run, copies, count}
+use Rattle.log_fold.specs.Ahead.{leading, inFront, copies, copiesThere}
 use Rattle.log_fold.specs.Folding.{shorter, suits, Choice, plain, fold, choiceIn, choice, made, folded}
 use Rattle.log_fold.proofs.AheadLaws.{behind, acts-run, turns-run, long-run, within-front, behind-none, ahead, every-leading, every-take, times-long, copies-are, copies-le}
 
@@ -23,17 +23,17 @@ use Rattle.log_fold.proofs.AheadLaws.{behind, acts-run, turns-run, long
 pub record Suits (k : ℕ) (s : List Act) (p c : ℕ) : Type 0 where
   pub some : 1 ≤ p
   pub inside : p ≤ length s
-  pub counted : c ≡ count s p
+  pub counted : c ≡ copiesThere s p
   pub two : 2 ≤ c
-  pub less : length (text (loop c (run (take p s) end) end)) < length (text (run (times c (take p s)) end))
+  pub less : length (text (loop c (inFront (take p s) end) end)) < length (text (inFront (times c (take p s)) end))
   pub room : k + c ≤ 1000000
 
-suits-are : (k : ℕ) (s : List Act) (p c : ℕ) → 1 ≤ p → c ≡ count s p → suits k s p c ≡ true → Suits k s p c
+suits-are : (k : ℕ) (s : List Act) (p c : ℕ) → 1 ≤ p → c ≡ copiesThere s p → suits k s p c ≡ true → Suits k s p c
 unfolding suits shorter
 suits-are k s p c z q e =
     let a : Bool = leb p (length s) in
     let b : Bool = leb 2 c in
-    let d : Bool = ltb (length (text (loop c (run (take p s) end) end))) (length (text (run (times c (take p s)) end))) in
+    let d : Bool = ltb (length (text (loop c (inFront (take p s) end) end))) (length (text (inFront (times c (take p s)) end))) in
     let f : Bool = leb (k + c) 1000000 in
     let e₁ : both b (both d f) ≡ true = both-right a (both b (both d f)) e in
     let e₂ : both d f ≡ true = both-right b (both d f) e₁ in
@@ -49,14 +49,14 @@ suits-are k s p c z q e =
 pub choice-is : (n k : ℕ) (s : List Act) (q p c : ℕ) → 1 ≤ q → choiceIn n k s q ≡ fold p c → Suits k s p c
 unfolding choiceIn
 choice-is zero k s q p c z e = absurd (let y : _≡_ {A = ℕ} 0 1 = cc in omega arith)
-choice-is (suc n) k s q p c z e = go (suits k s q (count s q)) refl e (λ h. choice-is n k s (q + 1) p c (omega arith) h)
+choice-is (suc n) k s q p c z e = go (suits k s q (copiesThere s q)) refl e (λ h. choice-is n k s (q + 1) p c (omega arith) h)
   where
-    go : (b : Bool) → suits k s q (count s q) ≡ b → pick b (fold q (count s q)) (choiceIn n k s (q + 1)) ≡ fold p c
+    go : (b : Bool) → suits k s q (copiesThere s q) ≡ b → pick b (fold q (copiesThere s q)) (choiceIn n k s (q + 1)) ≡ fold p c
         → (choiceIn n k s (q + 1) ≡ fold p c → Suits k s p c) → Suits k s p c
     go true h e r =
         let x : q ≡ p = cc in
-        let y : count s q ≡ c = cc in
-        suits-are k s p c (omega arith) (sym y ∙ ap (count s) x) (rw (x, rw x at y) at h)
+        let y : copiesThere s q ≡ c = cc in
+        suits-are k s p c (omega arith) (sym y ∙ ap (copiesThere s) x) (rw (x, rw x at y) at h)
     go false h e r = r e
 
 -- the lines that a loop replaces, and what is behind them
@@ -65,7 +65,7 @@ module _ (a : Act) (t : Tree) (k p c : ℕ) (w : Within (act a t) 0) (h : Suits 
   block-long = length-take-le p (leading (act a t)) (h .inside)
 
   pub whole : leading (act a t) ≡ times c (take p (leading (act a t))) ++ drop (c * p) (leading (act a t))
-  unfolding count
+  unfolding copiesThere
   whole =
       let s : List Act = leading (act a t) in
       let e : Every s = every-leading (act a t) 0 w in
@@ -82,22 +82,22 @@ module _ (a : Act) (t : Tree) (k p c : ℕ) (w : Within (act a t) 0) (h : Suits 
       let o : 1 * 1 ≤ c * p = mul-le-mul {n₁ = 1} {m₁ = 1} {n₂ = c} {m₂ = p} (omega (arith, h .two)) (h .some) in
       omega arith
 
-  pub replaced : act a t ≡ run (times c (take p (leading (act a t)))) (behind t (c * p - 1))
+  pub replaced : act a t ≡ inFront (times c (take p (leading (act a t)))) (behind t (c * p - 1))
   unfolding behind
   replaced =
       let s : List Act = leading (act a t) in
       let x : take (c * p) s ≡ times c (take p s) = ap (take (c * p)) whole ∙ take-at (times c (take p s)) (drop (c * p) s) (c * p) times-are in
       let y : behind (act a t) (c * p) ≡ behind t (c * p - 1) = ap (behind (act a t)) (sym product) in
-      ahead (act a t) (c * p) enough ∙ (ap (λ (l : List Act). run l (behind (act a t) (c * p))) x ∙ ap (run (times c (take p s))) y)
+      ahead (act a t) (c * p) enough ∙ (ap (λ (l : List Act). inFront l (behind (act a t) (c * p))) x ∙ ap (inFront (times c (take p s))) y)
 
-  pub within-body : Within (run (take p (leading (act a t))) end) 1
+  pub within-body : Within (inFront (take p (leading (act a t))) end) 1
   within-body =
       let s : List Act = leading (act a t) in
-      let e : act a t ≡ run (take p s) (behind (act a t) p) = ahead (act a t) p (h .inside) in
+      let e : act a t ≡ inFront (take p s) (behind (act a t) p) = ahead (act a t) p (h .inside) in
       within-front (take p s) (behind (act a t) p) 0 1 (subst (λ (x : Tree). Within x 0) e w)
 
   pub count-le : c ≤ 255
-  unfolding count
+  unfolding copiesThere
   count-le = rw (h .counted) (copies-le 255 (take p (leading (act a t))) (leading (act a t)))
 
 -- the copies that are folded
@@ -128,40 +128,40 @@ module _ (a : Act) (t : Tree) (k p c : ℕ) (w : Within (act a t) 0) (h : Suits 
   abbrev rest : Tree
   rest = behind t (c * p - 1)
 
-  acts-loop : acts (loop c (run B end) u) ≡ times c (acts (run B end)) ++ acts u
+  acts-loop : acts (loop c (inFront B end) u) ≡ times c (acts (inFront B end)) ++ acts u
   unfolding acts
   acts-loop = refl
 
-  body-acts : acts (run B end) ≡ B
+  body-acts : acts (inFront B end) ≡ B
   unfolding acts
   body-acts = acts-run B end ∙ append-nil B
 
-  loop-acts : acts (loop c (run B end) u) ≡ acts (act a t)
+  loop-acts : acts (loop c (inFront B end) u) ≡ acts (act a t)
   loop-acts =
       acts-loop ∙ (ap (λ (l : List Act). times c l ++ acts u) body-acts ∙ (ap (λ (l : List Act). times c B ++ l) (r .same-acts) ∙ (sym (acts-run (times c B) rest) ∙ ap acts (sym (replaced a t k p c w h)))))
 
-  turns-loop : turns (loop c (run B end) u) ≡ c * (1 + turns (run B end)) + turns u
+  turns-loop : turns (loop c (inFront B end) u) ≡ c * (1 + turns (inFront B end)) + turns u
   unfolding turns
   turns-loop = refl
 
-  body-turns : turns (run B end) ≡ p
+  body-turns : turns (inFront B end) ≡ p
   unfolding turns
   body-turns = omega (arith, turns-run B end, block-long a t k p c w h)
 
-  loop-turns : turns (loop c (run B end) u) ≡ turns (act a t) + (c + g)
+  loop-turns : turns (loop c (inFront B end) u) ≡ turns (act a t) + (c + g)
   loop-turns =
-      let x : turns (loop c (run B end) u) ≡ c * (1 + p) + turns u = turns-loop ∙ ap (λ (n : ℕ). c * (1 + n) + turns u) body-turns in
+      let x : turns (loop c (inFront B end) u) ≡ c * (1 + p) + turns u = turns-loop ∙ ap (λ (n : ℕ). c * (1 + n) + turns u) body-turns in
       let y : turns (act a t) ≡ c * p + turns rest = ap turns (replaced a t k p c w h) ∙ (turns-run (times c B) rest ∙ ap (λ (n : ℕ). n + turns rest) (times-are a t k p c w h)) in
       omega (arith, x, y, mul-add c 1 p, r .more-turns)
 
-  loop-text : length (text (loop c (run B end) u)) ≤ length (text (act a t))
+  loop-text : length (text (loop c (inFront B end) u)) ≤ length (text (act a t))
   loop-text =
-      let x : length (text (act a t)) ≡ length (text (run (times c B) end)) + length (text rest) = ap (λ (z : Tree). length (text z)) (replaced a t k p c w h) ∙ long-run (times c B) rest in
-      let y = loop-long c (run B end) u in
-      let z = loop-long c (run B end) end in
+      let x : length (text (act a t)) ≡ length (text (inFront (times c B) end)) + length (text rest) = ap (λ (z : Tree). length (text z)) (replaced a t k p c w h) ∙ long-run (times c B) rest in
+      let y = loop-long c (inFront B end) u in
+      let z = loop-long c (inFront B end) end in
       omega (arith, x, y, z, h .less, r .not-longer)
 
-  pub kept-fold : Kept (loop c (run B end) u) (act a t) (c + g) k
+  pub kept-fold : Kept (loop c (inFront B end) u) (act a t) (c + g) k
   kept-fold =
       record {
         same-acts = loop-acts;

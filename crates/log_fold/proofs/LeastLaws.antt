@@ -13,49 +13,49 @@ use lib.Seq.{drop-drop}
 use Rattle.arith.specs.Pick.{pick}
 use Rattle.log_line.specs.declared.Act.{Act}
 use Rattle.log_judge.specs.Tree.{Tree, end, act, loop}
-use Rattle.log_fold.specs.Ahead.{begins, copies, count}
+use Rattle.log_fold.specs.Ahead.{beginsWith, copies, copiesThere}
 use Rattle.log_fold.proofs.AheadLaws.{behind}
 use Rattle.log_fold.specs.Folding.{suits, plain, fold, choiceIn, choice, folded}
 
 -- no smaller p suits
-pub smallest : (n k : ℕ) (s : List Act) (q p c : ℕ) → choiceIn n k s q ≡ fold p c → (i : ℕ) → q ≤ i → i < p → suits k s i (count s i) ≡ false
+pub smallest : (n k : ℕ) (s : List Act) (q p c : ℕ) → choiceIn n k s q ≡ fold p c → (i : ℕ) → q ≤ i → i < p → suits k s i (copiesThere s i) ≡ false
 unfolding choiceIn
 smallest zero k s q p c e i g l = absurd (let y : _≡_ {A = ℕ} 0 1 = cc in omega arith)
-smallest (suc n) k s q p c e i g l = go (suits k s q (count s q)) refl e (λ h z. smallest n k s (q + 1) p c h i z l)
+smallest (suc n) k s q p c e i g l = go (suits k s q (copiesThere s q)) refl e (λ h z. smallest n k s (q + 1) p c h i z l)
   where
-    later : suits k s q (count s q) ≡ false → (q + 1 ≤ i → suits k s i (count s i) ≡ false) → (x : Bool) → eqb q i ≡ x → suits k s i (count s i) ≡ false
+    later : suits k s q (copiesThere s q) ≡ false → (q + 1 ≤ i → suits k s i (copiesThere s i) ≡ false) → (x : Bool) → eqb q i ≡ x → suits k s i (copiesThere s i) ≡ false
     later f r true x = rw (eqb-true q i x) at f
     later f r false x = r (let y = eqb-false q i x in omega arith)
 
-    go : (b : Bool) → suits k s q (count s q) ≡ b → pick b (fold q (count s q)) (choiceIn n k s (q + 1)) ≡ fold p c
-        → (choiceIn n k s (q + 1) ≡ fold p c → q + 1 ≤ i → suits k s i (count s i) ≡ false) → suits k s i (count s i) ≡ false
+    go : (b : Bool) → suits k s q (copiesThere s q) ≡ b → pick b (fold q (copiesThere s q)) (choiceIn n k s (q + 1)) ≡ fold p c
+        → (choiceIn n k s (q + 1) ≡ fold p c → q + 1 ≤ i → suits k s i (copiesThere s i) ≡ false) → suits k s i (copiesThere s i) ≡ false
     go true h e r = absurd (let x : q ≡ p = cc in omega arith)
     go false h e r = later h (r e) (eqb q i) refl
 
 -- where the line is copied, none does
-pub none-suits : (n k : ℕ) (s : List Act) (q : ℕ) → choiceIn n k s q ≡ plain → (i : ℕ) → q ≤ i → i < q + n → suits k s i (count s i) ≡ false
+pub none-suits : (n k : ℕ) (s : List Act) (q : ℕ) → choiceIn n k s q ≡ plain → (i : ℕ) → q ≤ i → i < q + n → suits k s i (copiesThere s i) ≡ false
 unfolding choiceIn
 none-suits zero k s q e i g l = absurd (omega arith)
-none-suits (suc n) k s q e i g l = go (suits k s q (count s q)) refl e (λ h z. none-suits n k s (q + 1) h i z (omega arith))
+none-suits (suc n) k s q e i g l = go (suits k s q (copiesThere s q)) refl e (λ h z. none-suits n k s (q + 1) h i z (omega arith))
   where
-    later : suits k s q (count s q) ≡ false → (q + 1 ≤ i → suits k s i (count s i) ≡ false) → (x : Bool) → eqb q i ≡ x → suits k s i (count s i) ≡ false
+    later : suits k s q (copiesThere s q) ≡ false → (q + 1 ≤ i → suits k s i (copiesThere s i) ≡ false) → (x : Bool) → eqb q i ≡ x → suits k s i (copiesThere s i) ≡ false
     later f r true x = rw (eqb-true q i x) at f
     later f r false x = r (let y = eqb-false q i x in omega arith)
 
-    go : (b : Bool) → suits k s q (count s q) ≡ b → pick b (fold q (count s q)) (choiceIn n k s (q + 1)) ≡ plain
-        → (choiceIn n k s (q + 1) ≡ plain → q + 1 ≤ i → suits k s i (count s i) ≡ false) → suits k s i (count s i) ≡ false
+    go : (b : Bool) → suits k s q (copiesThere s q) ≡ b → pick b (fold q (copiesThere s q)) (choiceIn n k s (q + 1)) ≡ plain
+        → (choiceIn n k s (q + 1) ≡ plain → q + 1 ≤ i → suits k s i (copiesThere s i) ≡ false) → suits k s i (copiesThere s i) ≡ false
     go true h e r = absurd (let y : _≡_ {A = ℕ} 0 1 = cc in omega arith)
     go false h e r = later h (r e) (eqb q i) refl
 
 -- behind the copies stands no further one, or there are as many as may be
-pub all-copies : (n : ℕ) (b s : List Act) → (copies n b s ≡ n) ⊎ (begins b (drop (copies n b s * length b) s) ≡ false)
+pub all-copies : (n : ℕ) (b s : List Act) → (copies n b s ≡ n) ⊎ (beginsWith b (drop (copies n b s * length b) s) ≡ false)
 unfolding copies
 all-copies zero b s = inl refl
-all-copies (suc n) b s = go (begins b s) refl (all-copies n b (drop (length b) s))
+all-copies (suc n) b s = go (beginsWith b s) refl (all-copies n b (drop (length b) s))
   where
-    go : (t : Bool) → begins b s ≡ t
-        → (copies n b (drop (length b) s) ≡ n) ⊎ (begins b (drop (copies n b (drop (length b) s) * length b) (drop (length b) s)) ≡ false)
-        → (pick t (suc (copies n b (drop (length b) s))) 0 ≡ suc n) ⊎ (begins b (drop (pick t (suc (copies n b (drop (length b) s))) 0 * length b) s) ≡ false)
+    go : (t : Bool) → beginsWith b s ≡ t
+        → (copies n b (drop (length b) s) ≡ n) ⊎ (beginsWith b (drop (copies n b (drop (length b) s) * length b) (drop (length b) s)) ≡ false)
+        → (pick t (suc (copies n b (drop (length b) s))) 0 ≡ suc n) ⊎ (beginsWith b (drop (pick t (suc (copies n b (drop (length b) s))) 0 * length b) s) ≡ false)
     go true e (inl x) = inl (ap suc x)
     go true e (inr x) =
         let c : ℕ = copies n b (drop (length b) s) in

@@ -15,7 +15,7 @@ use Rattle.log_judge.specs.Whole.{treeOf, checkOf}
 use Rattle.log_passing.proofs.ActLaws.{clocksIn, clocks-listed}
 use Rattle.log_passing.proofs.TextLaws.{stop-is}
 use Rattle.log_passing.proofs.Passing.{Clear, clear, Stands, stands, printed}
-use Rattle.log_fold.specs.Ahead.{leading, count}
+use Rattle.log_fold.specs.Ahead.{leading, copiesThere}
 use Rattle.log_fold.specs.Folding.{suits, plain, fold, choiceIn, choice, made, folded, foldedTree, foldedLog}
 use Rattle.log_fold.specs.Promise.{Folds, NoneSuits}
 use Rattle.log_fold.proofs.AheadLaws.{behind-none}
@@ -62,7 +62,7 @@ folds log h =
 
 -- a log in which nothing can be folded comes back byte for byte
 
-none-chosen : (n k : ℕ) (s : List Act) (q : ℕ) → ((p : ℕ) → q ≤ p → p < q + n → suits k s p (count s p) ≡ false) → choiceIn n k s q ≡ plain
+none-chosen : (n k : ℕ) (s : List Act) (q : ℕ) → ((p : ℕ) → q ≤ p → p < q + n → suits k s p (copiesThere s p) ≡ false) → choiceIn n k s q ≡ plain
 unfolding choiceIn
 none-chosen zero k s q f = refl
 none-chosen (suc n) k s q f = rw (f q (omega arith) (omega arith)) (none-chosen n k s (q + 1) (λ p a b. f p (omega arith) (omega arith)))

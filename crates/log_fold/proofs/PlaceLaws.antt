@@ -21,7 +21,7 @@ use Rattle.log_judge.proofs.PlaceLaws.{had-at, had-text, next-pos, next-le, byt
 use Rattle.log_judge.proofs.Derived.{Ending, closes, stops, Reads, an-act, a-loop, a-done, a-stop}
 use Rattle.log_passing.proofs.Passing.{tailOf, text-of, within-of}
 use Rattle.log_fold.specs.declared.Move.{Move}
-use Rattle.log_fold.specs.Ahead.{leading, run, count}
+use Rattle.log_fold.specs.Ahead.{leading, inFront, copiesThere}
 use Rattle.log_fold.specs.Folding.{suits, Choice, plain, fold, choiceIn, choice}
 use Rattle.log_fold.specs.Moves.{plainMove, loopMove, actEnd, copiesAt, suitsOf, chosenIn}
 use Rattle.log_fold.proofs.AheadLaws.{behind, ahead, every-leading, every-take}
@@ -50,15 +50,15 @@ module _ (log : List ℕ) where
   reads-on {at} (a-stop {p = p} {n = n} l) = let x = line-on at (Stop n) p l in (x .0, x .1)
 
 abbrev pub size : List Act → ℕ
-size s = length (text (run s end))
+size s = length (text (inFront s end))
 
 pub size-none : size [] ≡ 0
-unfolding text run
+unfolding text inFront
 size-none = refl
 
 size-more : (a : Act) (s : List Act) → size (a ∷ s) ≡ length (lineText (One a)) + size s
-unfolding text run lineText
-size-more a s = length-append (lineText (One a)) (text (run s end))
+unfolding text inFront lineText
+size-more a s = length-append (lineText (One a)) (text (inFront s end))
 
 -- a part of the log from a place to another
 pub span : (log : List ℕ) (at e : ℕ) (x : List ℕ) → drop at log ≡ x ++ drop e log → at ≤ e → e ≤ length log → (length x ≡ e - at) × (take (e - at) (drop at log) ≡ x)
@@ -122,23 +122,23 @@ module _ (log : List ℕ) (at k next : ℕ) (t : Tree) (p₀ q₀ n₀ : ℕ) (r
   toMove plain = plainMove next
   toMove (fold p c) = loopMove at (at + size (take p (leading t))) c
 
-  rest-is : (p : ℕ) → p ≤ length (leading t) → drop at log ≡ text (run (take p (leading t)) end) ++ (text (behind t p) ++ tailOf log (stops p₀ q₀ n₀))
+  rest-is : (p : ℕ) → p ≤ length (leading t) → drop at log ≡ text (inFront (take p (leading t)) end) ++ (text (behind t p) ++ tailOf log (stops p₀ q₀ n₀))
   rest-is p h =
       text-of log r
       ∙ (ap (λ (x : List ℕ). x ++ tailOf log (stops p₀ q₀ n₀)) (ap text (ahead t p h) ∙ text-run (take p (leading t)) (behind t p))
-      ∙ append-assoc (text (run (take p (leading t)) end)) (text (behind t p)) (tailOf log (stops p₀ q₀ n₀)))
+      ∙ append-assoc (text (inFront (take p (leading t)) end)) (text (behind t p)) (tailOf log (stops p₀ q₀ n₀)))
 
   sub-size : (p : ℕ) → at + size (take p (leading t)) - at ≡ size (take p (leading t))
   sub-size p = omega arith
 
-  pub part-of : (p : ℕ) → p ≤ length (leading t) → take (at + size (take p (leading t)) - at) (drop at log) ≡ text (run (take p (leading t)) end)
+  pub part-of : (p : ℕ) → p ≤ length (leading t) → take (at + size (take p (leading t)) - at) (drop at log) ≡ text (inFront (take p (leading t)) end)
   part-of p h =
       ap (λ (i : ℕ). take i (drop at log)) (sub-size p)
       ∙ (ap (take (size (take p (leading t)))) (rest-is p h)
-      ∙ take-at (text (run (take p (leading t)) end)) (text (behind t p) ++ tailOf log (stops p₀ q₀ n₀)) (size (take p (leading t))) refl)
+      ∙ take-at (text (inFront (take p (leading t)) end)) (text (behind t p) ++ tailOf log (stops p₀ q₀ n₀)) (size (take p (leading t))) refl)
 
-  copies-at : (p : ℕ) → p ≤ length (leading t) → copiesAt log at (at + size (take p (leading t))) ≡ count (leading t) p
-  unfolding copiesAt count
+  copies-at : (p : ℕ) → p ≤ length (leading t) → copiesAt log at (at + size (take p (leading t))) ≡ copiesThere (leading t) p
+  unfolding copiesAt copiesThere
   copies-at p h =
       let w : Within t 0 = within-of log r in
       rw (part-of p h, text-of log r) (copies-alike n₀ s (drop q₀ log) 255 (take p (leading t)) t (every-take p (leading t) (every-leading t 0 w)) w)
@@ -159,7 +159,7 @@ module _ (log : List ℕ) (at k next : ℕ) (t : Tree) (p₀ q₀ n₀ : ℕ) (r
           → chosenIn (suc m) log at k next (at + size (take p (leading t))) ≡ toMove (choiceIn (suc m) k (leading t) (p + 1))
       go true e rec =
           let less : p < length (leading t) = ltb-true p (length (leading t)) e in
-          let c : ℕ = count (leading t) (p + 1) in
+          let c : ℕ = copiesThere (leading t) (p + 1) in
           let here : ℕ = at + size (take p (leading t)) in
           let there : ℕ = at + size (take (p + 1) (leading t)) in
           let ends = rw (← add-one p) at (end-at log (stops p₀ q₀ n₀) t p at less r) in
@@ -173,8 +173,8 @@ module _ (log : List ℕ) (at k next : ℕ) (t : Tree) (p₀ q₀ n₀ : ℕ) (r
           ∙ fin (suits k (leading t) (p + 1) c) (rec (omega arith)))))
         where
           fin : (b : Bool) → chosenIn m log at k next (at + size (take (p + 1) (leading t))) ≡ toMove (choiceIn m k (leading t) (p + 1 + 1))
-              → pick b (loopMove at (at + size (take (p + 1) (leading t))) (count (leading t) (p + 1))) (chosenIn m log at k next (at + size (take (p + 1) (leading t))))
-              ≡ toMove (pick b (fold (p + 1) (count (leading t) (p + 1))) (choiceIn m k (leading t) (p + 1 + 1)))
+              → pick b (loopMove at (at + size (take (p + 1) (leading t))) (copiesThere (leading t) (p + 1))) (chosenIn m log at k next (at + size (take (p + 1) (leading t))))
+              ≡ toMove (pick b (fold (p + 1) (copiesThere (leading t) (p + 1))) (choiceIn m k (leading t) (p + 1 + 1)))
           fin true h = refl
           fin false h = h
       go false e rec =

@@ -16,7 +16,7 @@ use Rattle.log_judge.proofs.Derived.{closes, stops, Reads, an-act, a-loop, a-st
 use Rattle.log_passing.proofs.TextLaws.{act-text, loop-text}
 use Rattle.log_passing.proofs.Passing.{had-split, text-of, within-of}
 use Rattle.log_fold.specs.declared.Move.{Move}
-use Rattle.log_fold.specs.Ahead.{leading, run, count}
+use Rattle.log_fold.specs.Ahead.{leading, inFront, copiesThere}
 use Rattle.log_fold.specs.Folding.{Choice, plain, fold, choice, made, folded}
 use Rattle.log_fold.specs.Moves.{plainMove, loopMove, chosenIn, moveOf, loopText, moveText}
 use Rattle.log_fold.proofs.AheadLaws.{behind}
@@ -111,20 +111,20 @@ module _ (log : List ℕ) (n k at : ℕ) (a : Act) (u : Tree) (next p₀ q₀ : 
   two-less : c ≡ 0 → ⊥
   two-less e = omega (arith, h .two)
 
-  written : moveText c (take (at + size B - at) (drop at log)) ≡ loopText c (text (run B end))
-  written = ap (moveText c) (part-of log at k next (act a u) p₀ q₀ n r s p (h .inside)) ∙ move-looped c (text (run B end)) two-less
+  written : moveText c (take (at + size B - at) (drop at log)) ≡ loopText c (text (inFront B end))
+  written = ap (moveText c) (part-of log at k next (act a u) p₀ q₀ n r s p (h .inside)) ∙ move-looped c (text (inFront B end)) two-less
 
-  loop-long : length (loopText c (text (run B end))) ≡ length (text (loop c (run B end) end))
+  loop-long : length (loopText c (text (inFront B end))) ≡ length (text (loop c (inFront B end) end))
   unfolding loopText text
   loop-long = simp length-append (omega arith)
 
-  comes : text (loop c (run B end) (folded u (c * p - 1) (k + c))) ++ lineText (Stop n) ≡ loopText c (text (run B end)) ++ (text (folded (behind u (c * p - 1)) 0 (k + c)) ++ lineText (Stop n))
+  comes : text (loop c (inFront B end) (folded u (c * p - 1) (k + c))) ++ lineText (Stop n) ≡ loopText c (text (inFront B end)) ++ (text (folded (behind u (c * p - 1)) 0 (k + c)) ++ lineText (Stop n))
   unfolding loopText
   comes =
-      loop-text c (run B end) (folded u (c * p - 1) (k + c)) (lineText (Stop n))
-      ∙ (ap (λ (t : Tree). lineText (Loop c) ++ (text (run B end) ++ (lineText Done ++ (text t ++ lineText (Stop n))))) (goes-on u (c * p - 1) (k + c)) ∙ simp append-assoc)
+      loop-text c (inFront B end) (folded u (c * p - 1) (k + c)) (lineText (Stop n))
+      ∙ (ap (λ (t : Tree). lineText (Loop c) ++ (text (inFront B end) ++ (lineText Done ++ (text t ++ lineText (Stop n))))) (goes-on u (c * p - 1) (k + c)) ∙ simp append-assoc)
 
-  pub moved-loop : Moved log n k at (text (loop c (run B end) (folded u (c * p - 1) (k + c))) ++ lineText (Stop n)) (loopMove at (at + size B) c)
+  pub moved-loop : Moved log n k at (text (loop c (inFront B end) (folded u (c * p - 1) (k + c))) ++ lineText (Stop n)) (loopMove at (at + size B) c)
   moved-loop =
       let e : ℕ = at + size B in
       let here = reads-on log (reads-behind log (stops p₀ q₀ n) (act a u) p at (h .inside) r) in

@@ -17,25 +17,25 @@ leading (act a t) = a ∷ leading t
 leading (loop n b t) = []
 
 -- "equal": the same bytes
-unfoldable pub same : Act → Act → Bool
-same a b = exactly (lineText (One a)) (lineText (One b))
+unfoldable pub sameLine : Act → Act → Bool
+sameLine a b = exactly (lineText (One a)) (lineText (One b))
 
 -- the lines b stand at the front of s
-unfoldable pub begins : List Act → List Act → Bool
-begins [] s = true
-begins (a ∷ b) [] = false
-begins (a ∷ b) (c ∷ s) = both (same a c) (begins b s)
+unfoldable pub beginsWith : List Act → List Act → Bool
+beginsWith [] s = true
+beginsWith (a ∷ b) [] = false
+beginsWith (a ∷ b) (c ∷ s) = both (sameLine a c) (beginsWith b s)
 
 -- "equal copies of themselves": how many copies of b stand at the front of s, one behind the other; n at most
 unfoldable pub copies : ℕ → List Act → List Act → ℕ
 copies zero b s = 0
-copies (suc n) b s = pick (begins b s) (suc (copies n b (drop (length b) s))) 0
+copies (suc n) b s = pick (beginsWith b s) (suc (copies n b (drop (length b) s))) 0
 
 -- "as many copies as stand there, the first counted, at most 255", of the next p lines
-unfoldable pub count : List Act → ℕ → ℕ
-count s p = copies 255 (take p s) s
+unfoldable pub copiesThere : List Act → ℕ → ℕ
+copiesThere s p = copies 255 (take p s) s
 
 -- these acts in front of a block
-unfoldable pub run : List Act → Tree → Tree
-run [] t = t
-run (a ∷ s) t = act a (run s t)
+unfoldable pub inFront : List Act → Tree → Tree
+inFront [] t = t
+inFront (a ∷ s) t = act a (inFront s t)

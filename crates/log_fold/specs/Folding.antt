@@ -9,11 +9,11 @@ use Rattle.log_line.specs.declared.Act.{Act}
 use Rattle.log_judge.specs.Head.{machineOf}
 use Rattle.log_judge.specs.Tree.{Tree, end, act, loop, times, clocks, turns, text, logText}
 use Rattle.log_judge.specs.Whole.{treeOf}
-use Rattle.log_fold.specs.Ahead.{leading, run, count}
+use Rattle.log_fold.specs.Ahead.{leading, inFront, copiesThere}
 
 -- "come out shorter in bytes as a loop": c copies of the lines b
 unfoldable pub shorter : ℕ → List Act → Bool
-shorter c b = ltb (length (text (loop c (run b end) end))) (length (text (run (times c b) end)))
+shorter c b = ltb (length (text (loop c (inFront b end) end))) (length (text (inFront (times c b) end)))
 
 -- p of the lines s stand there, "are followed by equal copies of themselves, and come out shorter in bytes as a loop"; and "a p whose loop would bring
 -- the whole log, with folds made so far, over 1,000,000 turns is passed over": it has k turns so far, and the loop of c copies makes c more
@@ -28,7 +28,7 @@ pub data Choice : Type 0 where
 -- "the smallest p" that suits, of the n from p on
 unfoldable pub choiceIn : ℕ → ℕ → List Act → ℕ → Choice
 choiceIn zero k s p = plain
-choiceIn (suc n) k s p = pick (suits k s p (count s p)) (fold p (count s p)) (choiceIn n k s (p + 1))
+choiceIn (suc n) k s p = pick (suits k s p (copiesThere s p)) (fold p (copiesThere s p)) (choiceIn n k s (p + 1))
 
 -- "from 1 to 16"
 unfoldable pub choice : ℕ → List Act → Choice
@@ -38,7 +38,7 @@ choice k s = choiceIn 16 k s 1
 -- j lines more, when c turns more have been made
 unfoldable pub made : Act → List Act → (ℕ → ℕ → Tree) → Choice → Tree
 made a s rec plain = act a (rec 0 0)
-made a s rec (fold p c) = loop c (run (take p s) end) (rec (c * p - 1) c)
+made a s rec (fold p c) = loop c (inFront (take p s) end) (rec (c * p - 1) c)
 
 -- "From the left, at each wait, write or read outside a loop"; "Loops already there, and all other lines, are copied": what comes out of a block outside
 -- all loops, of which j lines stand in a loop that is written already, the whole log having k turns so far

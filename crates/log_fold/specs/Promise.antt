@@ -8,7 +8,7 @@ use lib.ListN.{length}
 use Rattle.log_judge.specs.Head.{machineOf}
 use Rattle.log_judge.specs.Tree.{Tree, end, act, loop, acts}
 use Rattle.log_judge.specs.Whole.{treeOf, stoppingOf, checkOf}
-use Rattle.log_fold.specs.Ahead.{leading, count}
+use Rattle.log_fold.specs.Ahead.{leading, copiesThere}
 use Rattle.log_fold.specs.Folding.{suits}
 
 pub record Folds (log new : List ℕ) : Type 0 where
@@ -21,5 +21,5 @@ pub record Folds (log new : List ℕ) : Type 0 where
 -- nothing can be folded, the whole log having k turns: at no wait, write or read outside a loop does one of the 16 p suit
 abbrev pub NoneSuits : ℕ → Tree → Type 0
 NoneSuits k end = Unit {0}
-NoneSuits k (act a t) = ((p : ℕ) → 1 ≤ p → p ≤ 16 → suits k (leading (act a t)) p (count (leading (act a t)) p) ≡ false) × NoneSuits k t
+NoneSuits k (act a t) = ((p : ℕ) → 1 ≤ p → p ≤ 16 → suits k (leading (act a t)) p (copiesThere (leading (act a t)) p) ≡ false) × NoneSuits k t
 NoneSuits k (loop n b t) = NoneSuits k t

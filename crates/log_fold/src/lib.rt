@@ -18,7 +18,7 @@ ghost use Rattle.log_judge.specs.Tree.{turns};
 ghost use Rattle.log_judge.specs.Whole.{treeOf, checkOf};
 ghost use Rattle.log_fold.specs.Folding.{foldedLog};
 ghost use Rattle.log_fold.specs.Promise.{Folds};
-ghost use Rattle.log_fold.specs.Answer.{refusal, foldOf, lent};
+ghost use Rattle.log_fold.specs.Answer.{foldRefusal, foldOf, foldLent};
 ghost use Rattle.log_fold.specs.Moves.{plainMove, loopMove, actLine, actEnd, runEnd, Mark, Marked, copiesIn, copiesAt, suitsOf, chosenIn, blockEnd, lineMove, moveOf, loopText, moveText};
 
 // The answer: 0 and the folded log's length, or a refusal's number and place.
@@ -255,7 +255,7 @@ fn pass(log: &[u8], out: &mut [u8], total: u64, marks: &mut [u64]) -> usize
 }
 
 fn refusal(number: u8, place: usize) -> Folded
-    ensures { λ r. ⌜ r ≡ refusal number place ⌝ }
+    ensures { λ r. ⌜ r ≡ foldRefusal number place ⌝ }
 {
     Folded {
         number,
@@ -268,7 +268,7 @@ fn refusal(number: u8, place: usize) -> Folded
 // fewer bytes than the log has. Refused, the bytes stay.
 pub fn fold(log: &[u8], out: &mut [u8]) -> Folded
     ensures { λ r. ⌜ r ≡ foldOf (now (log .entry)) (now (out .entry)) ⌝ }
-    ensures { λ r. ⌜ now (out .exit) ≡ lent (now (log .entry)) (now (out .entry)) ⌝ }
+    ensures { λ r. ⌜ now (out .exit) ≡ foldLent (now (log .entry)) (now (out .entry)) ⌝ }
     ensures { λ r. ⌜ (r .number ≡ 0 → Folds (now (log .entry)) (take (r .length) (now (out .exit)))) ⌝ }
 {
     let c = check(log);

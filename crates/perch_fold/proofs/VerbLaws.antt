@@ -9,7 +9,7 @@ use Rattle.log_judge.specs.Whole.{checkOf}
 use Rattle.log_passing.proofs.Passing.{clear}
 use Rattle.log_fold.specs.declared.Folded.{Folded}
 use Rattle.log_fold.specs.Folding.{foldedLog}
-use Rattle.log_fold.specs.Answer.{refusal, foldOf}
+use Rattle.log_fold.specs.Answer.{foldRefusal, foldOf}
 use Rattle.perch_fold.specs.declared.Outcome.the-variants.{Refused, Done}
 use Rattle.perch_fold.specs.Verb.{outcomeFrom, outcomeOf}
 
@@ -26,9 +26,9 @@ module _ (log out : List ℕ) (room : 60000 ≤ length out) where
   unfolding foldOf outcomeFrom
   folded-always h = rw (eq-eqb (checkOf log .number) 0 h, le-ltb (length out) (length log) (omega (arith, clear log h .short)))
 
-  refusal-is : (checkOf log .number ≡ 0 → ⊥) → foldOf log out ≡ refusal (checkOf log .number) (checkOf log .place)
+  refusal-is : (checkOf log .number ≡ 0 → ⊥) → foldOf log out ≡ foldRefusal (checkOf log .number) (checkOf log .place)
   unfolding foldOf
   refusal-is h = rw (ne-eqb (checkOf log .number) 0 h)
 
   pub refused-only : (checkOf log .number ≡ 0 → ⊥) → outcomeOf log out ≡ Refused (checkOf log .number) (checkOf log .place)
-  refused-only h = ap outcomeFrom (refusal-is h) ∙ refuses (refusal (checkOf log .number) (checkOf log .place)) h
+  refused-only h = ap outcomeFrom (refusal-is h) ∙ refuses (foldRefusal (checkOf log .number) (checkOf log .place)) h
