@@ -28,7 +28,7 @@ use Rattle.log_fold.specs.Folding.{shorter, suits}
 use Rattle.log_fold.specs.Moves.{copiesOf, suitsOf}
 use Rattle.log_fold.proofs.AheadLaws.{behind, ahead, begins-are, every-leading, within-rest}
 
--- two lines in front of texts
+-- TWO LINES IN FRONT OF TEXTS
 
 starts-on : (l x y : List ℕ) → startsWith (l ++ x) (l ++ y) ≡ startsWith x y
 unfolding startsWith
@@ -95,7 +95,7 @@ act-line a c x y p q = go (exactly (lineText (One a)) (lineText (One c))) refl
             apart (e) (ap (exactly (lineText (One a))) (sym h) ∙ exactly-self (lineText (One a)))
         other false f = refl
 
--- the bytes of a block start a text exactly where its lines do
+-- THE BYTES OF A BLOCK start a text exactly where its lines do
 
 module _ (n : ℕ) (s : Printable (Stop n)) (r : List ℕ) where
   pub starts-block : (b : List Act) (t : Tree) → Every b → Within t 0 → startsWith (text (inFront b end)) (text t ++ (lineText (Stop n) ++ r)) ≡ beginsWith b (leading t)
@@ -109,7 +109,7 @@ module _ (n : ℕ) (s : Printable (Stop n)) (r : List ℕ) where
       ap (startsWith (lineText (One a) ++ text (inFront b end))) (append-assoc (lineText (Loop m)) (text u ++ (lineText Done ++ text t)) (lineText (Stop n) ++ r))
       ∙ other-line a (Loop m) (text (inFront b end)) ((text u ++ (lineText Done ++ text t)) ++ (lineText (Stop n) ++ r)) (e .0) (w .0) (λ q. let z : _≡_ {A = ℕ} 0 1 = cc in omega arith)
 
--- what is behind lines in front
+-- WHAT IS BEHIND LINES IN FRONT
 
 pub text-run : (b : List Act) (t : Tree) → text (inFront b t) ≡ text (inFront b end) ++ text t
 unfolding text inFront
@@ -150,7 +150,7 @@ module _ (n : ℕ) (s : Printable (Stop n)) (r : List ℕ) where
           let none : startsWith (text (inFront b end)) (text t ++ (lineText (Stop n) ++ r)) ≡ false = starts-block n s r b t e w ∙ h in
           rw (none, h)
 
--- what comes out shorter
+-- WHAT COMES OUT SHORTER
 
 run-none : length (text (inFront [] end)) ≡ 0
 unfolding text inFront

@@ -19,7 +19,7 @@ use Rattle.log_fold.specs.Ahead.{leading, inFront, copies, copiesThere}
 use Rattle.log_fold.specs.Folding.{shorter, suits, Choice, plain, fold, choiceIn, choice, made, folded}
 use Rattle.log_fold.proofs.AheadLaws.{behind, acts-run, turns-run, long-run, within-front, behind-none, ahead, every-leading, every-take, times-long, copies-are, copies-le}
 
--- what is known of a loop that is made: p lines, c copies of them
+-- A LOOP THAT IS MADE: p lines, c copies of them
 pub record Suits (k : ℕ) (s : List Act) (p c : ℕ) : Type 0 where
   pub some : 1 ≤ p
   pub inside : p ≤ length s
@@ -59,7 +59,7 @@ choice-is (suc n) k s q p c z e = go (suits k s q (copiesThere s q)) refl e (λ 
         suits-are k s p c (omega arith) (sym y ∙ ap (copiesThere s) x) (rw (x, rw x at y) at h)
     go false h e r = r e
 
--- the lines that a loop replaces, and what is behind them
+-- THE LINES THAT A LOOP REPLACES, and what is behind them
 module _ (a : Act) (t : Tree) (k p c : ℕ) (w : Within (act a t) 0) (h : Suits k (leading (act a t)) p c) where
   pub block-long : length (take p (leading (act a t))) ≡ p
   block-long = length-take-le p (leading (act a t)) (h .inside)
@@ -112,7 +112,7 @@ added (loop n b t) j k = added t 0 k
 added (act a t) zero k = addedBy (λ j c. added t j (k + c)) (choice k (leading (act a t)))
 added (act a t) (suc j) k = added t j k
 
--- u is what comes out of t, with g copies folded, k being the turns so far
+-- WHAT COMES OUT: u out of t, with g copies folded, k being the turns so far
 pub record Kept (u t : Tree) (g k : ℕ) : Type 0 where
   pub same-acts : acts u ≡ acts t
   pub more-turns : turns u ≡ turns t + g

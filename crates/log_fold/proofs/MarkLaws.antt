@@ -14,7 +14,7 @@ use Rattle.text.specs.Key.{startsWith}
 use Rattle.text.proofs.KeyLaws.{starts-split, starts-joined}
 use Rattle.log_fold.specs.Moves.{alike, runEnd, Mark, Marked, copiesIn, copiesOf, copiesAt}
 
--- bytes alike
+-- BYTES ALIKE
 
 alike-on : (s t : List ℕ) (d : ℕ) → d ≤ alike s t → alike s t ≡ d + alike (drop d s) (drop d t)
 unfolding alike
@@ -58,7 +58,7 @@ alike-less (a ∷ b) s (c ∷ t) h = go (eqb c a) h (alike-less b s t)
     go true h r = let e = r h in omega arith
     go false h r = omega arith
 
--- copies
+-- COPIES
 
 copies-zero : (b r : List ℕ) → copiesOf 0 b r ≡ 0
 unfolding copiesOf
@@ -121,7 +121,7 @@ copies-in run m at n h =
     let c = mul-le-mul {n₁ = copiesIn run m} {m₁ = m} {n₂ = run / m + 1} {m₂ = m} a (omega arith) in
     omega (arith, add-mul (run / m) 1 m)
 
--- the run, byte by byte
+-- THE RUN, byte by byte
 
 module _ (log : List ℕ) (m x : ℕ) where
   pub run-same : x + m < length log → getD log (x + m) 0 ≡ getD log x 0 → runEnd log x m ≡ runEnd log (x + 1) m
@@ -139,7 +139,7 @@ module _ (log : List ℕ) (m x : ℕ) where
   unfolding runEnd
   run-over h = rw (drop-of-length-le log h, alike-none (drop x log)) (omega arith)
 
--- what was found at a place holds at later ones, up to the end of the run
+-- MARKS: what was found at a place holds at later ones, up to the end of the run
 
 run-on : (log : List ℕ) (at to m x : ℕ) → at ≤ to → to ≤ x → runEnd log at m ≡ x → runEnd log to m ≡ x
 unfolding runEnd

@@ -27,7 +27,7 @@ use Rattle.log_fold.specs.Moves.{plainMove, loopMove, actEnd, copiesAt, 
 use Rattle.log_fold.proofs.AheadLaws.{behind, ahead, every-leading, every-take}
 use Rattle.log_fold.proofs.AlikeLaws.{text-run, copies-alike, suits-alike}
 
--- places
+-- PLACES
 
 abbrev pub behindOf : Ending → ℕ
 behindOf (closes p q) = q
@@ -66,7 +66,7 @@ span log at e x q h k =
     let l : length x ≡ e - at = omega (arith, simp (length-drop, length-append) at (ap length q)) in
     (l, ap (take (e - at)) q ∙ take-at x (drop e log) (e - at) l)
 
--- the acts ahead, one by one
+-- THE ACTS AHEAD, one by one
 
 module _ (log : List ℕ) (e : Ending) where
   pub reads-behind : (t : Tree) (m at : ℕ) → m ≤ length (leading t) → Reads log at 0 t e → Reads log (at + size (take m (leading t))) 0 (behind t m) e
@@ -116,7 +116,7 @@ unfolding choiceIn suits
 choice-past zero k s q h = refl
 choice-past (suc m) k s q h = rw (lt-leb q (length s) h) (choice-past m k s (q + 1) (omega arith))
 
--- the choice by bytes is the choice by lines
+-- THE CHOICE by bytes is the choice by lines
 module _ (log : List ℕ) (at k next : ℕ) (t : Tree) (p₀ q₀ n₀ : ℕ) (r : Reads log at 0 t (stops p₀ q₀ n₀)) (s : Printable (Stop n₀)) where
   unfoldable pub toMove : Choice → Move
   toMove plain = plainMove next

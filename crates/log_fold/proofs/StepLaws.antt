@@ -27,7 +27,7 @@ use Rattle.log_fold.proofs.AlikeLaws.{times-text}
 use Rattle.log_fold.proofs.PlaceLaws.{line-on, reads-on, size, size-none, span, reads-behind, toMove, part-of, chosen-alike}
 use lib.Seq.{take-at}
 
--- what is left to be written from a place of the log on, where there are k turns so far
+-- WHAT IS LEFT to be written from a place of the log on, where there are k turns so far
 pub data Left (log : List ℕ) (n k : ℕ) : ℕ → List ℕ → Type 0 where
   lines : {at p q : ℕ} (t : Tree) → Reads log at 0 t (stops p q n) → length log ≤ q → Left log n k at (text (folded t 0 k) ++ lineText (Stop n))
   none : {at : ℕ} → length log ≤ at → Left log n k at []
@@ -84,7 +84,7 @@ folded-act : (a : Act) (u : Tree) (k : ℕ) → folded (act a u) 0 k ≡ made a 
 unfolding folded
 folded-act a u k = refl
 
--- a loop that is made
+-- A LOOP THAT IS MADE
 module _ (log : List ℕ) (n k at : ℕ) (a : Act) (u : Tree) (next p₀ q₀ : ℕ) (r : Reads log at 0 (act a u) (stops p₀ q₀ n)) (last : length log ≤ q₀) (s : Printable (Stop n)) (p c : ℕ)
     (h : Suits k (leading (act a u)) p c) where
   abbrev B : List Act

@@ -11,6 +11,8 @@ use Rattle.text.specs.Hex.{hexText}
 use Rattle.text_print.specs.Printed.{printed, placed, digitsIn}
 use Rattle.text_print.proofs.DecimalLaws.{length-digits, digits-more}
 
+-- STORES
+
 -- a store behind a text, before or after it
 sets-set : (vs l : List ℕ) (i p v : ℕ) → i + length vs ≤ p → set (sets l i vs) p v ≡ sets (set l p v) i vs
 sets-set [] l i p v h = refl
@@ -58,7 +60,7 @@ copy-step out text at i h =
 pub copy-end : (out text : List ℕ) (at i : ℕ) → length text ≤ i → sets out (at + i) (drop i text) ≡ out
 copy-end out text at i h = rw (drop-of-length-le text h)
 
--- digits from their back
+-- DIGITS from their back
 fill-step : (out : List ℕ) (at i j n d : ℕ) → i ≡ suc j → d ≡ 48 + n % 10
     → sets (set out (at + j) d) at (digitsIn j (n / 10)) ≡ sets out at (digitsIn i n)
 fill-step out at i j n d e f =
@@ -147,6 +149,8 @@ fill-single out at i n d e f =
     let place : at + 0 ≡ at = omega arith in
     sym (fill-end (set out at d) at 0 (n / 10) refl) ∙ (rw place at (fill-step out at i 0 n d e f))
 
+-- HEX DIGITS
+
 pub length-hex : (v : ℕ) → length (hexText 2 v) ≡ 2
 unfolding hexText
 length-hex v = refl
@@ -171,7 +175,7 @@ pub length-four : (v : ℕ) → length (hexText 4 v) ≡ 4
 unfolding hexText
 length-four v = refl
 
--- what a caller with room learns
+-- ROOM: what a caller with room learns
 module _ (out : List ℕ) (at : ℕ) (text : List ℕ) (h : at + length text ≤ length out) where
   pub placed-in : placed out at text ≡ at + length text
   unfolding placed

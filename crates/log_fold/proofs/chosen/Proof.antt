@@ -1,3 +1,4 @@
+-- The loop's invariant: no p before this one suits (`Choosing`), and the marks hold. Assumes nothing.
 use Prim.Native.Nat.{_-_, _<_}
 use mathlib.Core.Path.{sym, _∙_}
 use native.Mathlib.Omega.{arith}

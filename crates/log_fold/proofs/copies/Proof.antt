@@ -1,3 +1,4 @@
+-- Straight through: the end of the run, the mark set, the copies that go into it; the laws are those of marks. Assumes nothing.
 use borrow.Author.Needs.{needs}
 use Prim.Native.Nat.{_+_, _-_}
 use denote.Ref.{now}

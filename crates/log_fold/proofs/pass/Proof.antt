@@ -1,3 +1,4 @@
+-- The loop's invariant: what is left to read makes what is left to write (`Going`), and the marks hold. Assumes nothing.
 use denote.Ref.{now}
 use lib.Seq.{length-take-le}
 use mathlib.Core.Path.{sym, _∙_}

@@ -1,3 +1,4 @@
+-- The loop's invariant: the run from the place ends where the run from x does. Assumes nothing.
 use Prim.Native.Nat.{_+_, _-_, _≤_}
 use lib.ListN.{length}
 use mathlib.Core.Path.{_≡_, refl, sym, _∙_}

@@ -1,3 +1,4 @@
+-- The loop's invariant is `Worked`; a turn is an event of noise, squares or triangle, and then the loop of squares and triangle alone. Assumes nothing.
 use Prim.Native.Nat.{ℕ, _+_, _-_, _/_, _≤_, _<_}
 use mathlib.Core.Path.{_≡_, refl, ap, _∙_}
 use native.Mathlib.Omega.{arith}

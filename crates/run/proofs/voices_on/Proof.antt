@@ -1,3 +1,4 @@
+-- The loop's invariant: squares and triangle so far, put back among all the channels (`lagsWith`), are what the stretch holds (`Worked`). Assumes nothing.
 use Prim.Native.Nat.{_+_, _-_}
 use mathlib.Core.Path.{_≡_, refl, ap, _∙_}
 use native.Mathlib.Omega.{arith}

@@ -1,3 +1,4 @@
+-- Straight through: each call by its equation, put together in `returns`. Assumes nothing.
 use native.Mathlib.Nat.{zero-add}
 use native.Mathlib.Omega.{arith}
 use Rattle.leap_square.specs.Lag.{squareKept, squareLag}
