@@ -6,16 +6,16 @@ use chip_dmc::Dmc;
 use chip_dmc::Output;
 use chip_dmc::Reader;
 use chip_dmc::Registers;
+use chip_envelope::Envelope;
 use chip_frame::Frame;
+use chip_length::Length;
+use chip_linear::Linear;
 use chip_noise::Noise;
 use chip_noise::Shifter;
 use chip_square::Square;
+use chip_sweep::Sweep;
+use chip_timer::Timer;
 use chip_triangle::Triangle;
-use chip_units::envelope::Envelope;
-use chip_units::length::Length;
-use chip_units::linear::Linear;
-use chip_units::sweep::Sweep;
-use chip_units::timer::Timer;
 
 fn square_sequencer(b: &[u8], at: usize) -> chip_square::Sequencer
     ensures { λ r. ⌜ r ≡ squareOf (now (b .entry)) at .sequencer ⌝ }

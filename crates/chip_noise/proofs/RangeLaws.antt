@@ -8,8 +8,9 @@ use borrow.Author.Tests.{leb-true, le-leb, leb-false}
 use Rattle.arith.specs.Bit.{bitSet}
 use Rattle.arith.specs.Pick.{pick, both}
 use Rattle.arith.proofs.PickLaws.{both-left, both-right, both-true, pick-both}
-use Rattle.chip_units.specs.Envelope.{volume}
-use Rattle.chip_units.proofs.RangeLaws.{EnvelopeRanged, envelope-in, envelope-back, envelope-clocked, envelope-set, envelope-begun, volume-most, LengthRanged, length-in, length-back, length-clocked, length-loaded, length-enabled}
+use Rattle.chip_envelope.specs.Envelope.{volume}
+use Rattle.chip_envelope.proofs.RangeLaws.{EnvelopeRanged, envelope-in, envelope-back, envelope-clocked, envelope-set, envelope-begun, volume-most}
+use Rattle.chip_length.proofs.RangeLaws.{LengthRanged, length-in, length-back, length-clocked, length-loaded, length-enabled}
 use Rattle.chip_noise.specs.Shifter.{shiftedOf, shifterClock, shifterIn}
 use Rattle.chip_noise.specs.Noise.{noiseTimed, noiseEnveloped, noiseLengthened, noiseEnabled, noiseAmount, noiseOutput, noiseWrite0, noiseWrite2, noiseWrite3, noiseWrite, noiseIn, noiseOn}
 use Rattle.chip_noise.specs.declared.Shifter.{Shifter}

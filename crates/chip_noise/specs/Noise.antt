@@ -4,10 +4,10 @@ use mathlib.Core.Bool.{Bool, false}
 use lib.Dec.{leb, eqb}
 use Rattle.arith.specs.Pick.{pick, both}
 use Rattle.arith.specs.Bit.{bitSet}
-use Rattle.chip_units.specs.Envelope.{envelopeClock, envelopeSet, envelopeBegun, envelopeIn, envelopeOn, volume}
-use Rattle.chip_units.specs.Length.{lengthClock, lengthLoaded, lengthEnabled, lengthIn, lengthOn}
-use Rattle.chip_units.specs.declared.envelope.Envelope.{Envelope}
-use Rattle.chip_units.specs.declared.length.Length.{Length}
+use Rattle.chip_envelope.specs.Envelope.{envelopeClock, envelopeSet, envelopeBegun, envelopeIn, envelopeOn, volume}
+use Rattle.chip_length.specs.Length.{lengthClock, lengthLoaded, lengthEnabled, lengthIn, lengthOn}
+use Rattle.chip_envelope.specs.declared.Envelope.{Envelope}
+use Rattle.chip_length.specs.declared.Length.{Length}
 use Rattle.chip_noise.specs.Shifter.{shifterClock, shifterIn}
 use Rattle.chip_noise.specs.declared.Shifter.{Shifter}
 use Rattle.chip_noise.specs.declared.Noise.{Noise}

@@ -4,8 +4,8 @@ ghost use mathlib.Core.Bool.{Bool};
 ghost use Prim.Native.Nat.{ℕ, _+_, _-_, _*_, _/_, _%_};
 ghost use Rattle.chip_noise.specs.Shifter.{tapOf, shiftedOf, shifterClock, shifterIn};
 ghost use Rattle.chip_noise.specs.Noise.{noiseTimed, noiseEnveloped, noiseLengthened, noiseEnabled, noiseAmount, noiseOutput, noiseWrite0, noiseWrite2, noiseWrite3, noiseWrite, noiseIn, noiseOn};
-use chip_units::envelope::Envelope;
-use chip_units::length::Length;
+use chip_envelope::Envelope;
+use chip_length::Length;
 
 // What the timer moves: its count and the shift register.
 pub struct Shifter {

@@ -8,9 +8,12 @@ use borrow.Author.Tests.{leb-true, le-leb}
 use Rattle.arith.specs.Pick.{pick, both}
 use Rattle.arith.proofs.PickLaws.{both-left, both-right, both-true, pick-both}
 use Rattle.divider.specs.Divider.{due}
-use Rattle.chip_units.specs.Envelope.{volume}
-use Rattle.chip_units.specs.Sweep.{lowPeriod, highTarget, sweptPeriod}
-use Rattle.chip_units.proofs.RangeLaws.{TimerRanged, timer-in, timer-back, timer-clocked, period-low-kept, period-high-kept, LengthRanged, length-in, length-back, length-clocked, length-loaded, length-enabled, EnvelopeRanged, envelope-in, envelope-back, envelope-clocked, envelope-set, envelope-begun, volume-most, SweepRanged, sweep-in, sweep-back, sweep-clocked, sweep-set, swept-most}
+use Rattle.chip_envelope.specs.Envelope.{volume}
+use Rattle.chip_sweep.specs.Sweep.{lowPeriod, highTarget, sweptPeriod}
+use Rattle.chip_timer.proofs.RangeLaws.{TimerRanged, timer-in, timer-back, timer-clocked, period-low-kept, period-high-kept}
+use Rattle.chip_length.proofs.RangeLaws.{LengthRanged, length-in, length-back, length-clocked, length-loaded, length-enabled}
+use Rattle.chip_envelope.proofs.RangeLaws.{EnvelopeRanged, envelope-in, envelope-back, envelope-clocked, envelope-set, envelope-begun, volume-most}
+use Rattle.chip_sweep.proofs.RangeLaws.{SweepRanged, sweep-in, sweep-back, sweep-clocked, sweep-set, swept-most}
 use Rattle.chip_square.specs.Sequencer.{sequencerClock, dutyBit}
 use Rattle.chip_square.specs.Square.{squareTimed, squareEnveloped, squareSwept, squareEnabled, squareAmount, squareOutput}
 use Rattle.chip_square.specs.Write.{sequencerLow, sequencerHigh, squareWrite0, squareWrite1, squareWrite2, squareWrite3, squareWrite}
@@ -54,7 +57,7 @@ square-back s h =
 
 -- POWER-ON IS IN RANGE
 pub square-on : squareIn squareOn ≡ true
-unfolding squareIn sequencerIn Rattle.chip_units.specs.Timer.timerIn Rattle.chip_units.specs.Envelope.envelopeIn Rattle.chip_units.specs.Sweep.sweepIn Rattle.chip_units.specs.Length.lengthIn
+unfolding squareIn sequencerIn Rattle.chip_timer.specs.Timer.timerIn Rattle.chip_envelope.specs.Envelope.envelopeIn Rattle.chip_sweep.specs.Sweep.sweepIn Rattle.chip_length.specs.Length.lengthIn
 square-on = refl
 
 -- CLOCKS KEEP IT

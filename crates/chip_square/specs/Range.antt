@@ -2,10 +2,10 @@
 use mathlib.Core.Bool.{Bool, false}
 use lib.Dec.{leb}
 use Rattle.arith.specs.Pick.{both}
-use Rattle.chip_units.specs.Envelope.{envelopeIn, envelopeOn}
-use Rattle.chip_units.specs.Length.{lengthIn, lengthOn}
-use Rattle.chip_units.specs.Sweep.{sweepIn}
-use Rattle.chip_units.specs.Timer.{timerIn, timerOn}
+use Rattle.chip_envelope.specs.Envelope.{envelopeIn, envelopeOn}
+use Rattle.chip_length.specs.Length.{lengthIn, lengthOn}
+use Rattle.chip_sweep.specs.Sweep.{sweepIn}
+use Rattle.chip_timer.specs.Timer.{timerIn, timerOn}
 use Rattle.chip_square.specs.declared.Sequencer.{Sequencer}
 use Rattle.chip_square.specs.declared.Square.{Square}
 

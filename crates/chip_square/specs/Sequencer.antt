@@ -6,7 +6,7 @@ use lib.ListN.{getD}
 use lib.Dec.{eqb}
 use Rattle.arith.specs.Pick.{pick, both}
 use Rattle.divider.specs.Divider.{due}
-use Rattle.chip_units.specs.Timer.{timerClock}
+use Rattle.chip_timer.specs.Timer.{timerClock}
 use Rattle.chip_square.specs.declared.Sequencer.{Sequencer}
 
 -- "Timer period+1; each output flips the half flag, and position advances when it goes from set to clear."

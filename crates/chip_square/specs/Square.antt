@@ -3,12 +3,12 @@ use Prim.Native.Nat.{ℕ}
 use mathlib.Core.Bool.{Bool}
 use lib.Dec.{eqb}
 use Rattle.arith.specs.Pick.{pick}
-use Rattle.chip_units.specs.Envelope.{envelopeClock, volume}
-use Rattle.chip_units.specs.Length.{lengthClock, lengthEnabled}
-use Rattle.chip_units.specs.Sweep.{lowPeriod, highTarget, sweptPeriod, sweepClock}
-use Rattle.chip_units.specs.declared.envelope.Envelope.{Envelope}
-use Rattle.chip_units.specs.declared.length.Length.{Length}
-use Rattle.chip_units.specs.declared.timer.Timer.{Timer}
+use Rattle.chip_envelope.specs.Envelope.{envelopeClock, volume}
+use Rattle.chip_length.specs.Length.{lengthClock, lengthEnabled}
+use Rattle.chip_sweep.specs.Sweep.{lowPeriod, highTarget, sweptPeriod, sweepClock}
+use Rattle.chip_envelope.specs.declared.Envelope.{Envelope}
+use Rattle.chip_length.specs.declared.Length.{Length}
+use Rattle.chip_timer.specs.declared.Timer.{Timer}
 use Rattle.chip_square.specs.Sequencer.{sequencerClock, dutyBit}
 use Rattle.chip_square.specs.declared.Sequencer.{Sequencer}
 use Rattle.chip_square.specs.declared.Square.{Square}

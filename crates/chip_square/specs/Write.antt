@@ -3,10 +3,10 @@ use Prim.Native.Nat.{ℕ, _/_}
 use mathlib.Core.Bool.{Bool}
 use lib.Dec.{eqb}
 use Rattle.arith.specs.Pick.{pick}
-use Rattle.chip_units.specs.Envelope.{envelopeSet, envelopeBegun}
-use Rattle.chip_units.specs.Length.{lengthLoaded}
-use Rattle.chip_units.specs.Sweep.{sweepSet}
-use Rattle.chip_units.specs.Timer.{periodLow, periodHigh}
+use Rattle.chip_envelope.specs.Envelope.{envelopeSet, envelopeBegun}
+use Rattle.chip_length.specs.Length.{lengthLoaded}
+use Rattle.chip_sweep.specs.Sweep.{sweepSet}
+use Rattle.chip_timer.specs.Timer.{periodLow, periodHigh}
 use Rattle.chip_square.specs.declared.Sequencer.{Sequencer}
 use Rattle.chip_square.specs.declared.Square.{Square}
 

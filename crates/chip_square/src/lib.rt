@@ -5,10 +5,10 @@ ghost use Rattle.chip_square.specs.Sequencer.{sequencerClock, dutyBit};
 ghost use Rattle.chip_square.specs.Square.{withPeriod, squareTimed, squareEnveloped, squareSwept, squareEnabled, squareAmount, squareOutput};
 ghost use Rattle.chip_square.specs.Write.{sequencerLow, sequencerHigh, squareWrite0, squareWrite1, squareWrite2, squareWrite3, squareWrite};
 ghost use Rattle.chip_square.specs.Range.{sequencerIn, squareIn, squareOn};
-use chip_units::envelope::Envelope;
-use chip_units::length::Length;
-use chip_units::sweep::Sweep;
-use chip_units::timer::Timer;
+use chip_envelope::Envelope;
+use chip_length::Length;
+use chip_sweep::Sweep;
+use chip_timer::Timer;
 
 // What the timer moves. `half` is document 01's half flag: position advances at every other output.
 pub struct Sequencer {
@@ -200,7 +200,7 @@ impl Square {
         let volume = self.envelope.volume_of();
         let high = self.sweep.is_high(second, period);
         let swept = arith::pick_u8(high, 0, volume);
-        let low = chip_units::sweep::is_low(period);
+        let low = chip_sweep::is_low(period);
         let heard = arith::pick_u8(low, 0, swept);
         arith::pick_u8(self.length.count == 0, 0, heard)
     }

@@ -8,7 +8,9 @@ use borrow.Author.Tests.{leb-true, le-leb, ltb-true, ltb-false}
 use Rattle.arith.specs.Pick.{pick, both}
 use Rattle.arith.proofs.PickLaws.{both-left, both-right, both-true, pick-both}
 use Rattle.divider.specs.Divider.{due}
-use Rattle.chip_units.proofs.RangeLaws.{TimerRanged, timer-in, timer-back, timer-clocked, period-low-kept, period-high-kept, LengthRanged, length-in, length-back, length-clocked, length-loaded, length-enabled, LinearRanged, linear-in, linear-back, linear-clocked, linear-set, linear-halted}
+use Rattle.chip_timer.proofs.RangeLaws.{TimerRanged, timer-in, timer-back, timer-clocked, period-low-kept, period-high-kept}
+use Rattle.chip_length.proofs.RangeLaws.{LengthRanged, length-in, length-back, length-clocked, length-loaded, length-enabled}
+use Rattle.chip_linear.proofs.RangeLaws.{LinearRanged, linear-in, linear-back, linear-clocked, linear-set, linear-halted}
 use Rattle.chip_triangle.specs.Triangle.{runs, triangleSequenced, triangleTimed, triangleLinear, triangleLengthened, triangleEnabled, triangleSequencerIn, triangleIn, triangleOn}
 use Rattle.chip_triangle.specs.Write.{triangleWrite0, triangleWrite2, triangleWrite3, triangleWrite}
 use Rattle.chip_triangle.specs.declared.Sequencer.{Sequencer}
@@ -45,7 +47,7 @@ triangle-back t h =
 
 -- power-on is in range
 pub triangle-on : triangleIn triangleOn ≡ true
-unfolding triangleIn triangleSequencerIn Rattle.chip_units.specs.Timer.timerIn Rattle.chip_units.specs.Linear.linearIn Rattle.chip_units.specs.Length.lengthIn
+unfolding triangleIn triangleSequencerIn Rattle.chip_timer.specs.Timer.timerIn Rattle.chip_linear.specs.Linear.linearIn Rattle.chip_length.specs.Length.lengthIn
 triangle-on = refl
 
 sequencer-clocked : (on : Bool) (q : Sequencer) → SequencerRanged q → SequencerRanged (triangleSequenced on q)

@@ -4,11 +4,11 @@ use mathlib.Core.Bool.{Bool, false}
 use lib.Dec.{leb, ltb}
 use Rattle.arith.specs.Pick.{pick, both}
 use Rattle.divider.specs.Divider.{due}
-use Rattle.chip_units.specs.Length.{lengthClock, lengthEnabled, lengthIn, lengthOn}
-use Rattle.chip_units.specs.Linear.{linearClock, linearIn}
-use Rattle.chip_units.specs.Timer.{timerClock, timerIn, timerOn}
-use Rattle.chip_units.specs.declared.length.Length.{Length}
-use Rattle.chip_units.specs.declared.linear.Linear.{Linear}
+use Rattle.chip_length.specs.Length.{lengthClock, lengthEnabled, lengthIn, lengthOn}
+use Rattle.chip_linear.specs.Linear.{linearClock, linearIn}
+use Rattle.chip_timer.specs.Timer.{timerClock, timerIn, timerOn}
+use Rattle.chip_length.specs.declared.Length.{Length}
+use Rattle.chip_linear.specs.declared.Linear.{Linear}
 use Rattle.chip_triangle.specs.declared.Sequencer.{Sequencer}
 use Rattle.chip_triangle.specs.declared.Triangle.{Triangle}
 

@@ -2,10 +2,10 @@
 use Prim.Native.Nat.{ℕ}
 use lib.Dec.{eqb}
 use Rattle.arith.specs.Pick.{pick}
-use Rattle.chip_units.specs.Length.{lengthLoaded}
-use Rattle.chip_units.specs.Linear.{linearSet, linearHalted}
-use Rattle.chip_units.specs.Timer.{periodLow, periodHigh}
-use Rattle.chip_units.specs.declared.timer.Timer.{Timer}
+use Rattle.chip_length.specs.Length.{lengthLoaded}
+use Rattle.chip_linear.specs.Linear.{linearSet, linearHalted}
+use Rattle.chip_timer.specs.Timer.{periodLow, periodHigh}
+use Rattle.chip_timer.specs.declared.Timer.{Timer}
 use Rattle.chip_triangle.specs.Triangle.{withSequencer, withLinear}
 use Rattle.chip_triangle.specs.declared.Sequencer.{Sequencer}
 use Rattle.chip_triangle.specs.declared.Triangle.{Triangle}

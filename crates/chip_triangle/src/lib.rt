@@ -3,9 +3,9 @@ ghost use mathlib.Core.Path.{_≡_};
 ghost use Prim.Native.Nat.{_+_, _%_};
 ghost use Rattle.chip_triangle.specs.Triangle.{runs, triangleSequenced, triangleTimed, triangleLinear, triangleLengthened, triangleEnabled, triangleAt, triangleOutput, triangleSequencerIn, triangleIn, triangleOn};
 ghost use Rattle.chip_triangle.specs.Write.{withTimer, triangleWrite0, triangleWrite2, triangleWrite3, triangleWrite};
-use chip_units::length::Length;
-use chip_units::linear::Linear;
-use chip_units::timer::Timer;
+use chip_length::Length;
+use chip_linear::Linear;
+use chip_timer::Timer;
 
 // What the timer moves.
 pub struct Sequencer {

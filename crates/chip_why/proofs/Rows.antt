@@ -9,10 +9,10 @@ use borrow.Author.Tests.{ne-eqb}
 use Rattle.arith.specs.Pick.{pick, both, either}
 use Rattle.arith.specs.Bit.{bitSet}
 use Rattle.arith.proofs.TableLaws.{at}
-use Rattle.chip_units.specs.Envelope.{volume}
-use Rattle.chip_units.specs.Sweep.{lowPeriod, highTarget, muted}
-use Rattle.chip_units.specs.declared.length.Length.{Length}
-use Rattle.chip_units.proofs.RangeLaws.{LengthRanged}
+use Rattle.chip_envelope.specs.Envelope.{volume}
+use Rattle.chip_sweep.specs.Sweep.{lowPeriod, highTarget, muted}
+use Rattle.chip_length.specs.declared.Length.{Length}
+use Rattle.chip_length.proofs.RangeLaws.{LengthRanged}
 use Rattle.chip_square.specs.Sequencer.{duties, dutyBit}
 use Rattle.chip_square.specs.Square.{squareOutput}
 use Rattle.chip_square.specs.declared.Square.{Square}

@@ -4,8 +4,8 @@ use mathlib.Core.Bool.{Bool, true, false, not}
 use lib.Dec.{eqb}
 use Rattle.arith.specs.Pick.{pick}
 use Rattle.arith.specs.Bit.{bitSet}
-use Rattle.chip_units.specs.Envelope.{volume}
-use Rattle.chip_units.specs.Sweep.{lowPeriod, highTarget}
+use Rattle.chip_envelope.specs.Envelope.{volume}
+use Rattle.chip_sweep.specs.Sweep.{lowPeriod, highTarget}
 use Rattle.chip_square.specs.Sequencer.{dutyBit}
 use Rattle.chip_square.specs.Square.{squareOutput}
 use Rattle.chip_square.specs.declared.Square.{Square}

@@ -59,7 +59,7 @@ fn square_why(s: Square, second: bool) -> Reason
     let period = s.sequencer.timer.period;
     let off = !s.length.enabled;
     let short = s.length.count == 0;
-    let low = chip_units::sweep::is_low(period);
+    let low = chip_sweep::is_low(period);
     let high = s.sweep.is_high(second, period);
     let bit = chip_square::duty_bit(s.duty, s.sequencer.position);
     let volume = s.envelope.volume_of();

@@ -1,1 +1,2 @@
 pub mod DividerLaws
+pub mod RangeLaws

@@ -13,7 +13,7 @@ use Rattle.arith.specs.Iterate.{iterate}
 use Rattle.arith.specs.Pick.{pick}
 use Rattle.divider.specs.Divider.{outputs, countAfter}
 use Rattle.divider.proofs.DividerLaws.{count-after-top}
-use Rattle.chip_units.specs.Timer.{timerPeriod}
+use Rattle.chip_timer.specs.Timer.{timerPeriod}
 use Rattle.chip_square.specs.Sequencer.{sequencerClock}
 use Rattle.chip_square.specs.Square as square
 use Rattle.leap_square.specs.Leap.{stepsOf, beatOf, withBeat, beatClock, dutyRow, beatGives, beatAdvanced}

@@ -8,8 +8,8 @@ use mathlib.Core.List.{List}
 use lib.Dec.{eqb}
 use Rattle.arith.specs.Iterate.{iterate}
 use Rattle.divider.specs.Divider.{outputs, countAfter}
-use Rattle.chip_units.specs.Timer.{timerPeriod}
-use Rattle.chip_units.specs.declared.timer.Timer.{Timer}
+use Rattle.chip_timer.specs.Timer.{timerPeriod}
+use Rattle.chip_timer.specs.declared.Timer.{Timer}
 use Rattle.chip_square.specs.declared.Sequencer as square
 use Rattle.leap_square.specs.Leap.{stepsOf}
 use Rattle.chip_triangle.specs.declared.Sequencer as triangle

@@ -14,8 +14,8 @@ use Rattle.arith.proofs.IterateLaws.{iterate-along, iterate-along-while}
 use Rattle.arith.proofs.PickLaws.{pick-each}
 use Rattle.divider.specs.Divider.{due, Driven, drive, outputs, countAfter, forever}
 use Rattle.divider.proofs.DividerLaws.{drive-closed, drive-still, drive-turned}
-use Rattle.chip_units.specs.Timer.{timerPeriod, timerClock}
-use Rattle.chip_units.proofs.RangeLaws.{tick-ranged}
+use Rattle.chip_timer.specs.Timer.{timerPeriod, timerClock}
+use Rattle.divider.proofs.RangeLaws.{tick-ranged}
 use Rattle.chip_square.specs.Sequencer.{dutyBit, sequencerClock}
 use Rattle.chip_square.specs.Square.{withSequencer, squareAmount, squareOutput}
 use Rattle.leap_square.specs.Leap.{stepsOf, beatOf, withBeat, beatClock, dutyRow, beatGives, dutyTurns, squareStill, beatAdvanced, beatTurned}

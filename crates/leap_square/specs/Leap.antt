@@ -6,7 +6,7 @@ use lib.ListN.{getD}
 use lib.Dec.{eqb}
 use Rattle.arith.specs.Pick.{pick}
 use Rattle.divider.specs.Divider.{due, tick, outputs, countAfter, forever}
-use Rattle.chip_units.specs.Timer.{timerPeriod}
+use Rattle.chip_timer.specs.Timer.{timerPeriod}
 use Rattle.chip_square.specs.Sequencer.{dutyBit}
 use Rattle.chip_square.specs.declared.Sequencer.{Sequencer}
 use Rattle.leap_square.specs.declared.Beat.{Beat}

@@ -9,8 +9,8 @@ use Rattle.arith.specs.Iterate.{iterate}
 use Rattle.arith.specs.Pick.{pick}
 use Rattle.arith.proofs.PickLaws.{pick-both}
 use Rattle.divider.specs.Divider.{forever}
-use Rattle.chip_units.specs.Sweep.{lowPeriod, highTarget}
-use Rattle.chip_units.proofs.RangeLaws.{volume-most}
+use Rattle.chip_sweep.specs.Sweep.{lowPeriod, highTarget}
+use Rattle.chip_envelope.proofs.RangeLaws.{volume-most}
 use Rattle.leap_stretch.specs.Lag.{Follows}
 use Rattle.leap_stretch.proofs.LagLaws.{lag-start, lag-wait}
 use Rattle.chip_square.specs.Sequencer.{sequencerClock}

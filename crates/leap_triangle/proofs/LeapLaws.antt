@@ -12,8 +12,8 @@ use Rattle.arith.proofs.IterateLaws.{iterate-along, iterate-along-while}
 use Rattle.arith.proofs.PickLaws.{pick-both, pick-each}
 use Rattle.divider.specs.Divider.{due, tick, Driven, drive, outputs, countAfter, forever}
 use Rattle.divider.proofs.DividerLaws.{drive-at, drive-closed, drive-still}
-use Rattle.chip_units.specs.Timer.{timerPeriod, timerClock}
-use Rattle.chip_units.proofs.RangeLaws.{tick-ranged}
+use Rattle.chip_timer.specs.Timer.{timerPeriod, timerClock}
+use Rattle.divider.proofs.RangeLaws.{tick-ranged}
 use Rattle.chip_triangle.specs.Triangle.{triangleSequenced, withSequencer, triangleAt, triangleOutput}
 use Rattle.leap_triangle.specs.Leap.{triangleBeatOf, triangleWithBeat, positionAfter, triangleBeatClock, triangleGives, triangleStill, triangleBeatAdvanced, triangleBeatTurned}
 use Rattle.chip_triangle.specs.declared.Sequencer.{Sequencer}

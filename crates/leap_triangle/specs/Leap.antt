@@ -4,7 +4,7 @@ use Prim.Native.Nat.{ℕ, _+_, _-_, _%_}
 use lib.Dec.{eqb}
 use Rattle.arith.specs.Pick.{pick}
 use Rattle.divider.specs.Divider.{due, tick, outputs, countAfter, forever}
-use Rattle.chip_units.specs.Timer.{timerPeriod}
+use Rattle.chip_timer.specs.Timer.{timerPeriod}
 use Rattle.chip_triangle.specs.Triangle.{runs, triangleAt}
 use Rattle.chip_triangle.specs.declared.Sequencer.{Sequencer}
 use Rattle.chip_triangle.specs.declared.Triangle.{Triangle}

@@ -5,7 +5,7 @@ use mathlib.Core.Bool.{Bool, true, false}
 use mathlib.Core.List.{List, [], _∷_}
 use lib.IntN.{ℤ, pos, negsuc}
 use Rattle.chip_mixer.specs.Mixer.{squaresLevel, mixed, weight, restLevel}
-use Rattle.chip_units.specs.Sweep.{target, muted, lowPeriod, highTarget, sweeps, sweptPeriod, sweepClock}
+use Rattle.chip_sweep.specs.Sweep.{target, muted, lowPeriod, highTarget, sweeps, sweptPeriod, sweepClock}
 use Rattle.chip_noise.specs.Shifter.{shiftedOf, shifterClock}
 use Rattle.chip_dmc.specs.Clock.{dmcRead, dmcOutput, dmcTimed, outputClock, outputStep, emptied, readerClock, pending, fetched, nextAddress, byteAt, sampleEnded, restarted, flagged, levelMoved}
 use Rattle.chip_dmc.specs.Range.{dmcOn}
@@ -22,12 +22,12 @@ use Rattle.chip_triangle.specs.Triangle.{triangleOutput, triangleAt, triangleTi
 use Rattle.chip_noise.specs.Noise.{noiseOutput, noiseAmount, noiseTimed, noiseEnveloped, noiseLengthened, noiseEnabled}
 use Rattle.chip_dmc.specs.Write.{dmcWrite, dmcWrite3, dmcEnabled, switched}
 use Rattle.chip_frame.specs.Frame.{frameDue, frameMoved, stepAt, clocksEnvelopes, clocksLengths, frameStepped, frameRead}
-use Rattle.chip_units.specs.Timer.{timerClock, periodHigh}
-use Rattle.chip_units.specs.Length.{lengthLoaded, lengthClock, lengthEnabled}
-use Rattle.chip_units.specs.Envelope.{envelopeClock, envelopeStarted, envelopeDivided, decayed, volume, envelopeBegun}
-use Rattle.chip_units.specs.Linear.{linearClock}
+use Rattle.chip_timer.specs.Timer.{timerClock, periodHigh}
+use Rattle.chip_length.specs.Length.{lengthLoaded, lengthClock, lengthEnabled}
+use Rattle.chip_envelope.specs.Envelope.{envelopeClock, envelopeStarted, envelopeDivided, decayed, volume, envelopeBegun}
+use Rattle.chip_linear.specs.Linear.{linearClock}
 use Rattle.chip_tables.specs.Table.{noisePeriod, dmcPeriod}
-use Rattle.chip_units.specs.declared.sweep.Sweep.{Sweep}
+use Rattle.chip_sweep.specs.declared.Sweep.{Sweep}
 use Rattle.chip_dmc.specs.declared.Dmc.{Dmc}
 use Rattle.log_judge.specs.Judge.{judged, judge, ending}
 use Rattle.log_judge.specs.Lines.{linesOf}
