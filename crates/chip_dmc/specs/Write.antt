@@ -1,22 +1,11 @@
 -- Document 01, "Register bits" and "Units": writes to the DMC's registers and its bit of $4015.
 use Prim.Native.Nat.{ℕ, _%_}
-use mathlib.Core.Bool.{Bool, true, false}
+use mathlib.Core.Bool.{Bool, false}
 use lib.Dec.{eqb}
 use Rattle.arith.specs.Pick.{pick, both}
 use Rattle.arith.specs.Bit.{bitSet}
-use Rattle.chip_dmc.specs.Clock.{restarted}
-use Rattle.chip_dmc.specs.declared.Registers.{Registers}
-use Rattle.chip_dmc.specs.declared.Output.{Output}
-use Rattle.chip_dmc.specs.declared.Reader.{Reader}
+use Rattle.chip_reader.specs.Reader.{withInterrupt, switched}
 use Rattle.chip_dmc.specs.declared.Dmc.{Dmc}
-
-abbrev pub withInterrupt : Reader → Bool → Reader
-withInterrupt r flag =
-    record { address = r .address; remaining = r .remaining; buffer = r .buffer; full = r .full; interrupt = flag }
-
-abbrev pub withRemaining : Reader → ℕ → Reader
-withRemaining r left =
-    record { address = r .address; remaining = left; buffer = r .buffer; full = r .full; interrupt = r .interrupt }
 
 -- "$4010 interrupt enable 7, loop 6, index 3-0"; "$4010 with interrupt enable clear clears the flag."
 unfoldable pub dmcWrite0 : ℕ → Dmc → Dmc
@@ -88,10 +77,6 @@ dmcWrite place value d =
     pick (eqb place 0) (dmcWrite0 value d)
     (pick (eqb place 1) (dmcWrite1 value d)
     (pick (eqb place 2) (dmcWrite2 value d) (dmcWrite3 value d)))
-
--- "bit 4 set restarts if remaining is 0, clear sets remaining 0"
-unfoldable pub switched : Bool → Registers → Reader → Reader
-switched on s r = pick on (pick (eqb (r .remaining) 0) (restarted s r) r) (withRemaining r 0)
 
 -- $4015 "clears the DMC flag"
 unfoldable pub dmcEnabled : Bool → Dmc → Dmc

@@ -25,7 +25,7 @@ use Rattle.chip_square.specs.declared.Sequencer as square1
 use Rattle.chip_triangle.specs.declared.Sequencer as triangle1
 use Rattle.chip_noise.specs.declared.Shifter.{Shifter}
 use Rattle.chip_dmc.specs.declared.Dmc.{Dmc}
-use Rattle.chip_dmc.specs.declared.Registers.{Registers}
+use Rattle.chip_reader.specs.declared.Registers.{Registers}
 use Rattle.chip_frame.specs.declared.Frame.{Frame}
 use Rattle.chip.specs.declared.State.{State}
 use Rattle.leap_chip.specs.Between.{stateWith}

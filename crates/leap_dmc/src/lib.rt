@@ -6,7 +6,7 @@ ghost use Rattle.arith.specs.Pick.{pick};
 ghost use Rattle.divider.specs.Divider.{forever};
 ghost use Rattle.leap_dmc.specs.Leap.{outputStill, dmcStill, withTape, outputAdvanced, dmcAdvanced, outputBrink, dmcBrink, dmcTurned};
 use chip_dmc::Dmc;
-use chip_dmc::Output;
+use chip_output::Output;
 
 pub mod lag;
 

@@ -7,7 +7,9 @@ use lib.IntN.{ℤ, pos, negsuc}
 use Rattle.chip_mixer.specs.Mixer.{squaresLevel, mixed, weight, restLevel}
 use Rattle.chip_sweep.specs.Sweep.{target, muted, lowPeriod, highTarget, sweeps, sweptPeriod, sweepClock}
 use Rattle.chip_noise.specs.Shifter.{shiftedOf, shifterClock}
-use Rattle.chip_dmc.specs.Clock.{dmcRead, dmcOutput, dmcTimed, outputClock, outputStep, emptied, readerClock, pending, fetched, nextAddress, byteAt, sampleEnded, restarted, flagged, levelMoved}
+use Rattle.chip_dmc.specs.Clock.{dmcRead, dmcOutput, dmcTimed}
+use Rattle.chip_output.specs.Output.{outputClock, outputStep, levelMoved}
+use Rattle.chip_reader.specs.Reader.{emptied, readerClock, pending, fetched, nextAddress, byteAt, sampleEnded, restarted, flagged, switched}
 use Rattle.chip_dmc.specs.Range.{dmcOn}
 use Rattle.chip.specs.Clock.{chipClock, timersClocked, readerClocked, envelopesClocked, lengthsClocked, stepped, framed}
 use Rattle.chip.specs.Leap.{stepDue}
@@ -20,7 +22,7 @@ use Rattle.chip_square.specs.Sequencer.{sequencerClock, dutyBit}
 use Rattle.chip_square.specs.Write.{squareWrite, squareWrite3, sequencerHigh}
 use Rattle.chip_triangle.specs.Triangle.{triangleOutput, triangleAt, triangleTimed, runs, triangleSequenced, triangleLinear, triangleLengthened, triangleEnabled}
 use Rattle.chip_noise.specs.Noise.{noiseOutput, noiseAmount, noiseTimed, noiseEnveloped, noiseLengthened, noiseEnabled}
-use Rattle.chip_dmc.specs.Write.{dmcWrite, dmcWrite3, dmcEnabled, switched}
+use Rattle.chip_dmc.specs.Write.{dmcWrite, dmcWrite3, dmcEnabled}
 use Rattle.chip_frame.specs.Frame.{frameDue, frameMoved, stepAt, clocksEnvelopes, clocksLengths, frameStepped, frameRead}
 use Rattle.chip_timer.specs.Timer.{timerClock, periodHigh}
 use Rattle.chip_length.specs.Length.{lengthLoaded, lengthClock, lengthEnabled}
