@@ -1,4 +1,3 @@
-pub mod Elsewhere
+pub mod LineLaws
 pub mod MachineLaws
 pub mod RangeLaws
-pub mod StatusLaws

@@ -1,33 +1,27 @@
--- The state's range: the test, the facts that it stands for, and that every operation keeps them. Assumes nothing.
-use Prim.Native.Nat.{ℕ, _+_, _%_, _≤_, _<_}
+-- The state's range: the test, the facts that it stands for, and that a clock and a step of the frame keep them. Assumes nothing.
+use Prim.Native.Nat.{ℕ, _%_, _≤_, _<_}
 use mathlib.Core.Path.{_≡_, refl}
 use mathlib.Core.Bool.{Bool, true, false}
 use mathlib.Core.List.{List}
 use native.Mathlib.Nat.{mod-lt}
 use native.Mathlib.Omega.{arith}
-use lib.Dec.{T, leb, eqb}
+use lib.Dec.{T, leb}
 use borrow.Author.Tests.{leb-true}
 use lib.ListN.{getD, length}
-use Rattle.arith.specs.Pick.{pick, both}
-use Rattle.arith.specs.Bit.{bitSet}
+use Rattle.arith.specs.Pick.{both}
 use Rattle.arith.proofs.PickLaws.{both-left, both-right, both-true, pick-both}
 use Rattle.arith.specs.Table.{every}
 use Rattle.arith.proofs.TableLaws.{at}
-use Rattle.chip_square.specs.Range.{squareIn}
-use Rattle.chip_square.proofs.RangeLaws.{SquareRanged, square-in, square-back, square-on, square-timed, square-enveloped, square-swept, square-enabled, square-written}
-use Rattle.chip_triangle.proofs.RangeLaws.{TriangleRanged, triangle-in, triangle-back, triangle-on, triangle-timed, triangle-linear, triangle-lengthened, triangle-enabled, triangle-written}
-use Rattle.chip_noise.proofs.RangeLaws.{NoiseRanged, noise-in, noise-back, noise-on, noise-timed-kept, noise-enveloped-kept, noise-lengthened-kept, noise-enabled-kept, noise-write-kept}
-use Rattle.chip_dmc.proofs.RangeLaws.{DmcRanged, dmc-in, dmc-back, dmc-on, dmc-timed-kept, dmc-read-kept, dmc-enabled-kept, dmc-write-kept}
+use Rattle.chip_square.proofs.RangeLaws.{SquareRanged, square-in, square-back, square-on, square-timed, square-enveloped, square-swept}
+use Rattle.chip_triangle.proofs.RangeLaws.{TriangleRanged, triangle-in, triangle-back, triangle-on, triangle-timed, triangle-linear, triangle-lengthened}
+use Rattle.chip_noise.proofs.RangeLaws.{NoiseRanged, noise-in, noise-back, noise-on, noise-timed-kept, noise-enveloped-kept, noise-lengthened-kept}
+use Rattle.chip_dmc.proofs.RangeLaws.{DmcRanged, dmc-in, dmc-back, dmc-on, dmc-timed-kept, dmc-read-kept}
 use Rattle.chip_frame.specs.Frame.{nextStep, frameDue, frameMoved, clocksEnvelopes, clocksLengths}
-use Rattle.chip_frame.proofs.RangeLaws.{FrameRanged, frame-in, frame-back, frame-on, frame-moved, frame-stepped, frame-written, frame-read}
-use Rattle.chip_frame.proofs.LeapLaws.{Rising, Gaps, before-most}
+use Rattle.chip_frame.proofs.RangeLaws.{FrameRanged, frame-in, frame-back, frame-on, frame-moved, frame-stepped}
 use Rattle.chip_mixer.proofs.LevelLaws.{mixed-most}
 use Rattle.chip_tables.specs.Table.{noiseNtsc, noisePal, dmcNtsc, dmcPal, noisePeriod, dmcPeriod, noiseTop, dmcTop, frameTimes}
 use Rattle.chip.specs.Clock.{withFrame, timersClocked, readerClocked, envelopesClocked, lengthsClocked, envelopesIf, lengthsIf, stepped, framed, chipClock}
-use Rattle.chip.specs.Write.{enablesWritten, sequencerWritten, controlWritten, channelWritten, registerWritten}
-use Rattle.chip.specs.Leap.{beforeStep}
 use Rattle.chip.proofs.MachineLaws.{clocked-machine}
-use Rattle.chip.specs.Status.{statusRead}
 use Rattle.chip.specs.Level.{stateLevel}
 use Rattle.chip.specs.Range.{inRange, powerOn, Bytes}
 use Rattle.chip.specs.declared.State.{State}
@@ -57,7 +51,7 @@ state-back s h =
     (both-true _ _ (noise-back (s .noise) (h .noise))
     (both-true _ _ (dmc-back (s .dmc) (h .dmc)) (frame-back (frameTimes (s .pal)) (s .frame) (h .frame))))))
 
--- PERIODS AND TIMES, FOR EITHER MACHINE
+-- PERIODS, FOR EITHER MACHINE
 holds : (b : Bool) → T b → b ≡ true
 holds true h = refl
 holds false h = absurd h
@@ -82,23 +76,6 @@ unfolding dmcPeriod
 dmc-period-range true index = period-in dmcPal 398 tt refl index
 dmc-period-range false index = period-in dmcNtsc 428 tt refl index
 
--- the times of the frame rise, and no gap between two of them is above 8,314 clocks
-pub times-rise : (pal : Bool) → Rising (frameTimes pal)
-times-rise true =
-    record { first = omega arith; second = omega arith; third = omega arith; fourth = omega arith; fifth = omega arith }
-times-rise false =
-    record { first = omega arith; second = omega arith; third = omega arith; fourth = omega arith; fifth = omega arith }
-
-times-gaps : (pal : Bool) → Gaps (frameTimes pal) 8314
-times-gaps true =
-    record { first = omega arith; second = omega arith; third = omega arith; fourth = omega arith; fifth = omega arith }
-times-gaps false =
-    record { first = omega arith; second = omega arith; third = omega arith; fourth = omega arith; fifth = omega arith }
-
--- a stretch between two frame steps is at most this long
-pub before-step-most : (s : State) → beforeStep s ≤ 8314
-before-step-most s = before-most (frameTimes (s .pal)) 8314 (times-gaps (s .pal)) (s .frame)
-
 -- POWER-ON IS IN RANGE
 pub power-on-in : (pal : Bool) → inRange (powerOn pal) ≡ true
 unfolding inRange powerOn
@@ -106,7 +83,9 @@ power-on-in pal =
     both-true _ _ square-on (both-true _ _ square-on (both-true _ _ triangle-on (both-true _ _ (noise-back _ (noise-on (noisePeriod pal 0) (noise-period-range pal 0 .0) (noise-period-range pal 0 .1))) (both-true _ _ (dmc-back _ (dmc-on (dmcPeriod pal 0) (dmc-period-range pal 0 .0) (dmc-period-range pal 0 .1))) (frame-on (frameTimes pal))))))
 
 -- EACH PART OF A CLOCK KEEPS THE RANGE
-frame-put : (s : State) (h : StateRanged s) {f : Rattle.chip_frame.specs.declared.Frame.Frame} → FrameRanged (frameTimes (s .pal)) f → StateRanged (withFrame s f)
+
+-- another frame in range
+pub frame-put : (s : State) (h : StateRanged s) {f : Rattle.chip_frame.specs.declared.Frame.Frame} → FrameRanged (frameTimes (s .pal)) f → StateRanged (withFrame s f)
 frame-put s h r =
     record { square1 = h .square1; square2 = h .square2; triangle = h .triangle; noise = h .noise; dmc = h .dmc; frame = r }
 
@@ -160,7 +139,7 @@ lengths-kept s h =
       frame = h .frame;
     }
 
-step-kept : (step : ℕ) (s : State) → StateRanged s → StateRanged (stepped step s)
+pub step-kept : (step : ℕ) (s : State) → StateRanged s → StateRanged (stepped step s)
 unfolding stepped
 step-kept step s h =
     let quarter : Bool = clocksEnvelopes step (s .frame) in
@@ -179,50 +158,6 @@ framed-kept s h =
 pub clock-kept : (memory : List ℕ) → Bytes memory → (s : State) → StateRanged s → StateRanged (chipClock memory s)
 unfolding chipClock
 clock-kept memory b s h = framed-kept _ (reader-kept memory b _ (timers-kept s h))
-
-module _ (value : ℕ) (byte : value ≤ 255) (s : State) (h : StateRanged s) where
-  enables-kept : StateRanged (enablesWritten value s)
-  unfolding enablesWritten
-  enables-kept =
-      record {
-        square1 = square-enabled (bitSet value 0) (s .square1) (h .square1);
-        square2 = square-enabled (bitSet value 1) (s .square2) (h .square2);
-        triangle = triangle-enabled (bitSet value 2) (s .triangle) (h .triangle);
-        noise = noise-enabled-kept (bitSet value 3) (s .noise) (h .noise);
-        dmc = dmc-enabled-kept (bitSet value 4) (s .dmc) (h .dmc);
-        frame = h .frame;
-      }
-
-  sequencer-kept : StateRanged (sequencerWritten value s)
-  unfolding sequencerWritten
-  sequencer-kept =
-      let m = frame-put s h (frame-written (frameTimes (s .pal)) value (s .frame)) in
-      pick-both StateRanged (bitSet value 7) (step-kept 1 _ m) m
-
-  channel-kept : (channel place : ℕ) → StateRanged (channelWritten channel place value s)
-  unfolding channelWritten controlWritten
-  channel-kept channel place =
-      pick-both StateRanged (eqb channel 0)
-      (record { square1 = square-written value byte (s .square1) (h .square1) place; square2 = h .square2; triangle = h .triangle; noise = h .noise; dmc = h .dmc; frame = h .frame })
-      (pick-both StateRanged (eqb channel 1)
-      (record { square1 = h .square1; square2 = square-written value byte (s .square2) (h .square2) place; triangle = h .triangle; noise = h .noise; dmc = h .dmc; frame = h .frame })
-      (pick-both StateRanged (eqb channel 2)
-      (record { square1 = h .square1; square2 = h .square2; triangle = triangle-written value byte (s .triangle) (h .triangle) place; noise = h .noise; dmc = h .dmc; frame = h .frame })
-      (pick-both StateRanged (eqb channel 3)
-      (record { square1 = h .square1; square2 = h .square2; triangle = h .triangle; noise = noise-write-kept place value (s .noise) byte (h .noise); dmc = h .dmc; frame = h .frame })
-      (pick-both StateRanged (eqb channel 4)
-      (record { square1 = h .square1; square2 = h .square2; triangle = h .triangle; noise = h .noise; dmc = dmc-write-kept place value (s .dmc) byte (h .dmc); frame = h .frame })
-      (pick-both StateRanged (eqb place 1) enables-kept sequencer-kept)))))
-
-  -- A WRITE KEEPS THE RANGE
-  pub write-kept : (register : ℕ) → StateRanged (registerWritten register value s)
-  unfolding registerWritten
-  write-kept register = channel-kept _ _
-
--- A STATUS READ KEEPS THE RANGE
-pub read-kept : (s : State) → StateRanged s → StateRanged (statusRead s)
-unfolding statusRead
-read-kept s h = frame-put s h (frame-read (frameTimes (s .pal)) (s .frame) (h .frame))
 
 -- THE LEVEL IS AT MOST 32,767
 pub level-most : (s : State) → stateLevel s ≤ 32767

@@ -92,6 +92,10 @@ unfoldable pub stepped : ℕ → State → State
 stepped step s =
     withFrame (lengthsIf (clocksLengths step (s .frame)) (envelopesIf (clocksEnvelopes step (s .frame)) s)) (frameStepped step (s .frame))
 
+-- whether the next clock brings a frame step
+abbrev pub stepDue : State → Bool
+stepDue s = frameDue (frameTimes (s .pal)) (s .frame)
+
 -- the frame's clock number (document 01's "frame divider"), "then its step if due"
 unfoldable pub framed : State → State
 framed s =

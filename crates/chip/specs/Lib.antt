@@ -1,6 +1,4 @@
 pub mod Clock
-pub mod Leap
 pub mod Level
+pub mod Line
 pub mod Range
-pub mod Status
-pub mod Write

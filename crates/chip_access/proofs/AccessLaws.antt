@@ -6,10 +6,12 @@ use Rattle.bus.specs.declared.Access.{Access}
 use Rattle.bus.specs.declared.Access.the-variants.{Write, Read}
 use Rattle.chip.specs.Level.{stateLevel}
 use Rattle.chip.specs.Range.{inRange}
-use Rattle.chip.specs.Status.{statusRead}
 use Rattle.chip.specs.declared.State.{State}
-use Rattle.chip.proofs.MachineLaws.{Alike, write-machine, read-machine}
-use Rattle.chip.proofs.RangeLaws.{state-in, state-back, write-kept, read-kept}
+use Rattle.chip.proofs.MachineLaws.{Alike}
+use Rattle.chip.proofs.RangeLaws.{state-in, state-back}
+use Rattle.chip_registers.specs.Status.{statusRead}
+use Rattle.chip_registers.proofs.MachineLaws.{write-machine, read-machine}
+use Rattle.chip_registers.proofs.RangeLaws.{write-kept, read-kept}
 use Rattle.chip_access.specs.Access.{accessState}
 
 -- a value that is written is a byte

@@ -20,16 +20,16 @@ pub fn accessed(s: State, x: Access) -> Outcome
 {
     match x {
         Access::Write(register, value) => {
-            let after = s.written(register, value);
+            let after = chip_registers::written(s, register, value);
             Outcome {
                 byte: 0,
                 state: after,
             }
         }
         Access::Read => {
-            let after = s.read();
+            let after = chip_registers::read(s);
             Outcome {
-                byte: s.status(),
+                byte: chip_registers::status(s),
                 state: after,
             }
         }

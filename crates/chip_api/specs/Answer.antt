@@ -15,7 +15,7 @@ use Rattle.chip_mixer.specs.Fraction.{fractionOf}
 use Rattle.chip.specs.Clock.{chipClock}
 use Rattle.chip.specs.Level.{stateLevel}
 use Rattle.chip.specs.Range.{inRange}
-use Rattle.chip.specs.Status.{lineAsserted}
+use Rattle.chip.specs.Line.{lineAsserted}
 use Rattle.chip.specs.declared.State.{State}
 use Rattle.chip_access.specs.Access.{accessState, accessByte}
 use Rattle.chip_api.specs.declared.Moved.{Moved}

@@ -1,2 +1,1 @@
-pub mod LeapLaws
 pub mod RangeLaws

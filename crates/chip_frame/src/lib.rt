@@ -5,8 +5,6 @@ ghost use lib.Dec.{leb};
 ghost use Rattle.arith.specs.Pick.{pick};
 ghost use Rattle.chip_frame.specs.Frame.{lastNumber, frameMoved, stepAt, nextStep, clocksEnvelopes, clocksLengths, frameStepped, frameWritten, frameRead, frameAsserts, frameIn, frameOn};
 
-mod leap;
-
 // The clock numbers at which steps come. Mode 0 has the first four, mode 1 all five; behind the last the clock number is 0 again.
 pub struct Times {
     pub first: u16,
@@ -26,7 +24,7 @@ pub struct Frame {
 
 impl Times {
     // The last clock number of a frame.
-    fn last(self, mode: bool) -> u16
+    pub fn last(self, mode: bool) -> u16
         ensures { λ r. ⌜ r ≡ lastNumber self mode ⌝ }
     {
         arith::pick_u16(mode, self.fifth, self.fourth)

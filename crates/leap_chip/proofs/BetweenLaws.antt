@@ -16,10 +16,8 @@ use Rattle.chip_noise.specs.Noise.{noiseTimed}
 use Rattle.chip_dmc.specs.Clock.{dmcTimed, dmcRead, dmcClock}
 use Rattle.chip_frame.specs.Frame.{frameDue, frameMoved}
 use Rattle.chip_frame.proofs.RangeLaws.{FrameRanged}
-use Rattle.chip_frame.proofs.LeapLaws.{passed-none, passed-due, passed-more}
+use Rattle.leap_frame.proofs.LeapLaws.{passed-none, passed-due, passed-more}
 use Rattle.chip_tables.specs.Table.{noisePeriod, dmcPeriod, frameTimes}
-use Rattle.chip.specs.Leap.{beforeStep, passedFrame}
-use Rattle.chip.proofs.RangeLaws.{times-rise}
 use Rattle.chip.specs.Clock.{timersClocked, readerClocked, framed, chipClock}
 use Rattle.chip_square.specs.declared.Sequencer as square1
 use Rattle.chip_triangle.specs.declared.Sequencer as triangle1
@@ -29,6 +27,8 @@ use Rattle.chip_reader.specs.declared.Registers.{Registers}
 use Rattle.chip_frame.specs.declared.Frame.{Frame}
 use Rattle.chip.specs.declared.State.{State}
 use Rattle.leap_chip.specs.Between.{stateWith}
+use Rattle.leap_chip.specs.Frame.{beforeStep, passedFrame}
+use Rattle.leap_chip.proofs.FrameLaws.{times-rise}
 
 -- a clock leaves the DMC's registers
 registers-kept : (memory : List ℕ) (n : ℕ) (r : Registers) (d : Dmc) → d .registers ≡ r → dmcClock memory n d .registers ≡ r

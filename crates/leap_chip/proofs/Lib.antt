@@ -1,2 +1,3 @@
 pub mod BetweenLaws
+pub mod FrameLaws
 pub mod QuietLaws

@@ -38,17 +38,18 @@ use Rattle.chip_dmc.specs.Clock.{dmcClock, dmcOutput}
 use Rattle.leap_dmc.proofs.LeapLaws.{DmcIdle, idle-closed, idle-still}
 use Rattle.chip_frame.specs.Frame.{frameDue}
 use Rattle.chip_frame.specs.declared.Frame.{Frame}
-use Rattle.chip_frame.proofs.LeapLaws.{passed-due, before-due}
-use Rattle.chip.specs.Clock.{chipClock}
-use Rattle.chip.specs.Leap.{stepDue, beforeStep, passedFrame}
+use Rattle.leap_frame.proofs.LeapLaws.{passed-due, before-due}
+use Rattle.chip.specs.Clock.{stepDue, chipClock}
 use Rattle.chip.specs.Level.{stateLevel}
 use Rattle.chip.specs.Range.{inRange}
 use Rattle.chip_tables.specs.Table.{noisePeriod, dmcPeriod, frameTimes}
 use Rattle.chip.specs.declared.State.{State}
-use Rattle.chip.proofs.RangeLaws.{StateRanged, state-in, noise-period-range, dmc-period-range, times-rise}
+use Rattle.chip.proofs.RangeLaws.{StateRanged, state-in, noise-period-range, dmc-period-range}
 use Rattle.leap_chip.specs.Between.{stateWith}
+use Rattle.leap_chip.specs.Frame.{beforeStep, passedFrame}
 use Rattle.leap_chip.specs.Quiet.{Quiet, squareAfter, triangleAfter, quietAfter, NoStep, Leapt, LeapLaw}
 use Rattle.leap_chip.proofs.BetweenLaws.{between}
+use Rattle.leap_chip.proofs.FrameLaws.{times-rise}
 
 -- A SQUARE WITH NO LENGTH
 

@@ -15,13 +15,13 @@ use Rattle.leap_square.specs.Leap.{stepsOf}
 use Rattle.chip_triangle.specs.declared.Sequencer as triangle
 use Rattle.leap_noise.specs.Leap.{shifterAdvanced}
 use Rattle.leap_dmc.specs.Leap.{dmcAdvanced}
-use Rattle.chip.specs.Clock.{chipClock}
-use Rattle.chip.specs.Leap.{stepDue, passedFrame}
+use Rattle.chip.specs.Clock.{stepDue, chipClock}
 use Rattle.chip.specs.Level.{stateLevel}
 use Rattle.chip.specs.Range.{inRange}
 use Rattle.chip_tables.specs.Table.{noisePeriod, dmcPeriod}
 use Rattle.chip.specs.declared.State.{State}
 use Rattle.leap_chip.specs.Between.{stateWith}
+use Rattle.leap_chip.specs.Frame.{passedFrame}
 
 -- "where all four lengths and remaining are 0, the buffer is empty and silence is set"
 pub record Quiet (s : State) : Type 0 where

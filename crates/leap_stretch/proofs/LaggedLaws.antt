@@ -10,8 +10,8 @@ use Rattle.arith.specs.Iterate.{iterate}
 use Rattle.divider.specs.Divider.{forever}
 use Rattle.chip_mixer.specs.Mixer.{mixed}
 use Rattle.chip_triangle.specs.Triangle.{triangleAt}
-use Rattle.chip.specs.Leap.{beforeStep}
-use Rattle.chip.proofs.RangeLaws.{before-step-most}
+use Rattle.leap_chip.specs.Frame.{beforeStep}
+use Rattle.leap_chip.proofs.FrameLaws.{before-step-most}
 use Rattle.chip.specs.Clock.{chipClock}
 use Rattle.chip.specs.Level.{stateLevel}
 use Rattle.chip.specs.Range.{Bytes}

@@ -23,8 +23,8 @@ use Rattle.chip_noise.specs.declared.Noise.{Noise}
 use Rattle.chip_noise.specs.declared.Shifter.{Shifter}
 use Rattle.leap_dmc.specs.Lag.{dmcLag, dmcAt}
 use Rattle.leap_dmc.proofs.LeapLaws.{DmcIdle, idle-forever}
-use Rattle.chip.specs.Leap.{beforeStep}
-use Rattle.chip.proofs.RangeLaws.{before-step-most}
+use Rattle.leap_chip.specs.Frame.{beforeStep}
+use Rattle.leap_chip.proofs.FrameLaws.{before-step-most}
 use Rattle.chip_tables.specs.Table.{dmcPeriod}
 use Rattle.chip.specs.declared.State.{State}
 use Rattle.chip.proofs.RangeLaws.{StateRanged}

@@ -14,7 +14,7 @@ use Rattle.chip_triangle.specs.Triangle.{triangleAt}
 use Rattle.chip_noise.specs.Noise.{noiseAmount}
 use Rattle.leap_noise.specs.Lag.{noiseLag, noiseRenewed, noiseShifterAt}
 use Rattle.leap_dmc.specs.Lag.{dmcLag, dmcRenewed, dmcAt}
-use Rattle.chip.specs.Leap.{passedFrame}
+use Rattle.leap_chip.specs.Frame.{passedFrame}
 use Rattle.chip_mixer.specs.Mixer.{mixed}
 use Rattle.chip_tables.specs.Table.{noisePeriod, dmcPeriod}
 use Rattle.leap_chip.specs.Between.{stateWith}

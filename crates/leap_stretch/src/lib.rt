@@ -316,6 +316,6 @@ pub fn state_at(s: State, l: Lags, k: u32) -> State
     let tq = leap_triangle::with_beat(s.triangle.sequencer, beat3);
     let h = l.noise.shifter_at(k);
     let d = l.dmc.dmc_at(k);
-    let f = s.passed_frame(k);
+    let f = leap_chip::passed_frame(s, k);
     state_with(q1, q2, tq, h, d, f, s)
 }

@@ -5,7 +5,7 @@ ghost use Prim.Native.Nat.{ℕ, _+_, _-_, _/_, _≤_, _<_};
 ghost use lib.Dec.{eqb};
 ghost use lib.ListN.{length};
 ghost use Rattle.arith.specs.Pick.{pick};
-ghost use Rattle.chip.specs.Leap.{beforeStep};
+ghost use Rattle.leap_chip.specs.Frame.{beforeStep};
 ghost use Rattle.chip.specs.Range.{inRange};
 ghost use Rattle.run_answer.specs.Run.{answer, answered, lent, readBy, over, flat, stored};
 ghost use Rattle.run_stretch.specs.Stretch.{Standing, Worked, stretchEnd, Stretched};
@@ -161,7 +161,7 @@ fn next_stretch(
     requires { ⌜ (records ≤ base) × (records ≤ length (now words) / 2) ⌝ }
     ensures { λ r. ⌜ Stretched (now (memory .entry)) s (stretchEnd left s) base records (now (words .entry)) (now (words .exit)) r ⌝ }
 {
-    let end = arith::least_u32(left - 1, s.before_step());
+    let end = arith::least_u32(left - 1, leap_chip::before_step(s));
     stretch_on(s, memory, end, base, words, records)
 }
 

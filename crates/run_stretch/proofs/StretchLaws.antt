@@ -12,8 +12,8 @@ use Rattle.arith.specs.Pick.{pick, both}
 use Rattle.arith.proofs.PickLaws.{both-left, both-right}
 use Rattle.arith.proofs.IterateLaws.{iterate-zero, iterate-add, iterate-more, iterate-keeps}
 use Rattle.divider.specs.Divider.{forever}
-use Rattle.chip.specs.Leap.{beforeStep}
-use Rattle.chip.proofs.RangeLaws.{before-step-most}
+use Rattle.leap_chip.specs.Frame.{beforeStep}
+use Rattle.leap_chip.proofs.FrameLaws.{before-step-most}
 use Rattle.chip.specs.Clock.{chipClock}
 use Rattle.chip.specs.Level.{stateLevel}
 use Rattle.chip.specs.Range.{inRange, Bytes}

@@ -6,7 +6,7 @@ use mathlib.Core.Bool.{true}
 use mathlib.Core.List.{List}
 use lib.ListN.{length}
 use Rattle.arith.specs.Iterate.{iterate}
-use Rattle.chip.specs.Leap.{beforeStep}
+use Rattle.leap_chip.specs.Frame.{beforeStep}
 use Rattle.chip.specs.Clock.{chipClock}
 use Rattle.chip.specs.Level.{stateLevel}
 use Rattle.chip.specs.Range.{inRange}

@@ -11,12 +11,11 @@ use Rattle.chip_dmc.specs.Clock.{dmcRead, dmcOutput, dmcTimed}
 use Rattle.chip_output.specs.Output.{outputClock, outputStep, levelMoved}
 use Rattle.chip_reader.specs.Reader.{emptied, readerClock, pending, fetched, nextAddress, byteAt, sampleEnded, restarted, flagged, switched}
 use Rattle.chip_dmc.specs.Range.{dmcOn}
-use Rattle.chip.specs.Clock.{chipClock, timersClocked, readerClocked, envelopesClocked, lengthsClocked, stepped, framed}
-use Rattle.chip.specs.Leap.{stepDue}
+use Rattle.chip.specs.Clock.{chipClock, timersClocked, readerClocked, envelopesClocked, lengthsClocked, stepped, stepDue, framed}
 use Rattle.chip.specs.Level.{stateLevel}
 use Rattle.chip.specs.Range.{powerOn}
-use Rattle.chip.specs.Status.{statusByte, statusRead}
-use Rattle.chip.specs.Write.{registerWritten, channelWritten, controlWritten, enablesWritten}
+use Rattle.chip_registers.specs.Status.{statusByte, statusRead}
+use Rattle.chip_registers.specs.Write.{registerWritten, channelWritten, controlWritten, enablesWritten}
 use Rattle.chip_square.specs.Square.{squareOutput, squareAmount, squareTimed, squareEnveloped, squareSwept, squareEnabled}
 use Rattle.chip_square.specs.Sequencer.{sequencerClock, dutyBit}
 use Rattle.chip_square.specs.Write.{squareWrite, squareWrite3, sequencerHigh}

@@ -1,4 +1,4 @@
-use Rattle.chip.specs.Status.{lineAsserted}
+use Rattle.chip.specs.Line.{lineAsserted}
 use Rattle.chip.proofs.State.asserts.Statement.{statement}
 use Rattle.chip.proofs.State.asserts.Tie as tie
 
