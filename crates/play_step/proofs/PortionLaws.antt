@@ -19,7 +19,8 @@ use Rattle.chip.proofs.RangeLaws.{level-most}
 use Rattle.play_text.specs.declared.Entry.{Entry}
 use Rattle.play_text.specs.declared.Entry.the-variants.{Level}
 use Rattle.play_text.specs.Entries.{entriesText}
-use Rattle.play_text.specs.Lines.{linesIn, linesEnd, levelEntries}
+use Rattle.play_text.specs.Lines.{linesIn, linesEnd}
+use Rattle.play_levels.specs.Levels.{levelEntries}
 use Rattle.play_text.proofs.LineLaws.{lines-in, lines-end, lines-out, lines-stay}
 use Rattle.play_text.proofs.TextLaws.{level-size, entries-none}
 use Rattle.play_model.specs.declared.Player.{Player}

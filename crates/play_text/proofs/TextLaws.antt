@@ -17,7 +17,7 @@ use Rattle.play_text.specs.declared.Entry.the-variants.{Play, Level, Rea
 use Rattle.play_text.specs.Entries.{entryText, entriesText, refusalText}
 
 -- no more digits than places
-digits-few : (k n : ℕ) → length (digitsOf k n) ≤ k
+pub digits-few : (k n : ℕ) → length (digitsOf k n) ≤ k
 unfolding digitsOf
 digits-few zero n = omega arith
 digits-few (suc k) n = by (ltb n 10) (digits-few k (n / 10))
@@ -59,6 +59,11 @@ decimal-three n h = let q : n < 10 ^ 3 = (let u : n < 1000 = omega arith in u) i
 hex-two : (v : ℕ) → length (hexText 2 v) ≡ 2
 unfolding hexText
 hex-two v = refl
+
+-- a level line has eight bytes or more
+pub level-long : (t l : ℕ) → 8 ≤ length (entryText (Level t l))
+unfolding entryText
+level-long t l = simp length-append (omega arith)
 
 -- each line has a byte, and 23 hold it
 pub level-size : (t l : ℕ) → l ≤ 65535 → length (entryText (Level t l)) ≤ 23

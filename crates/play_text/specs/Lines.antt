@@ -1,15 +1,14 @@
 -- Helper: nobody has to believe this; what the code leaves in lent bytes, by the texts of specs/Entries.
 -- Lines over lent bytes. 23 bytes hold the longest, `level=2000000000:32767` and its line feed.
-use Prim.Native.Nat.{ℕ, zero, suc, _+_, _*_, _%_, _≤_}
+use Prim.Native.Nat.{ℕ, _+_, _*_, _≤_}
 use mathlib.Core.Path.{_≡_}
-use mathlib.Core.List.{List, [], _∷_}
+use mathlib.Core.List.{List}
 use lib.Dec.{leb}
 use lib.ListN.{length}
 use lib.Seq.{sets}
 use Rattle.arith.specs.Pick.{pick}
 use Rattle.play_text.specs.Entries.{entryText}
 use Rattle.play_text.specs.declared.Entry.{Entry}
-use Rattle.play_text.specs.declared.Entry.the-variants.{Level}
 
 -- the text of n lines from `at` on, where 23 bytes are left for each; else nothing
 unfoldable pub linesIn : List ℕ → ℕ → ℕ → List ℕ → List ℕ
@@ -24,10 +23,3 @@ pub record Lined (before : List ℕ) (at : ℕ) (n : Entry) (after : List ℕ) (
   pub place : r ≡ at + length (entryText n)
   pub bytes : after ≡ sets before at (entryText n)
   pub fits : r ≤ length before
-
--- n records in words, as lines of a wait that began at time t; a level is a word's low 16 bits
-unfoldable pub levelEntries : ℕ → ℕ → List ℕ → List Entry
-levelEntries t zero words = []
-levelEntries t (suc n) [] = []
-levelEntries t (suc n) (x ∷ []) = []
-levelEntries t (suc n) (x ∷ y ∷ words) = Level (t + x) (y % 65536) ∷ levelEntries t n words

@@ -5,8 +5,8 @@ ghost use lib.Dec.{leb};
 ghost use lib.ListN.{length};
 ghost use lib.Seq.{sets};
 ghost use Rattle.text_print.specs.Printed.{printed, placed};
-ghost use Rattle.play_text.specs.Entries.{entryText, entriesText, refusalText};
-ghost use Rattle.play_text.specs.Lines.{Lined, linesIn, linesEnd, levelEntries};
+ghost use Rattle.play_text.specs.Entries.{entryText, refusalText};
+ghost use Rattle.play_text.specs.Lines.{Lined, linesIn, linesEnd};
 
 // A line of what is played: `play=1`; a level or a status byte with its time; `stop` with its time.
 pub enum Entry {
@@ -17,7 +17,7 @@ pub enum Entry {
 }
 
 // A level line.
-fn level_line(out: &mut [u8], at: usize, time: u64, level: u64) -> usize
+fn level_text(out: &mut [u8], at: usize, time: u64, level: u64) -> usize
     requires { ⌜ at + length (entryText (Entry.Level time level)) ≤ length (now out) ⌝ }
     ensures { λ r. ⌜ Lined (now (out .entry)) at (Entry.Level time level) (now (out .exit)) r ⌝ }
 {
@@ -63,7 +63,7 @@ fn level_entry(out: &mut [u8], at: usize, time: u32, level: u16) -> usize
     requires { ⌜ at + 23 ≤ length (now out) ⌝ }
     ensures { λ r. ⌜ Lined (now (out .entry)) at (Entry.Level time level) (now (out .exit)) r ⌝ }
 {
-    level_line(out, at, arith::wide_u32(time), level as u64)
+    level_text(out, at, arith::wide_u32(time), level as u64)
 }
 
 // Any line: 23 bytes hold the longest.
@@ -80,7 +80,7 @@ fn line(out: &mut [u8], at: usize, n: Entry) -> usize
 }
 
 // Whether 23 bytes are left for each of n lines.
-fn left(size: usize, at: usize, n: usize) -> bool
+pub fn left(size: usize, at: usize, n: usize) -> bool
     ensures { λ r. ⌜ r ≡ leb (at + 23 * n) size ⌝ }
 {
     if size < at {
@@ -101,33 +101,13 @@ pub fn put(out: &mut [u8], at: usize, n: Entry) -> usize
     at
 }
 
-// n records of a wait that began at a time, as lines.
-fn records(out: &mut [u8], at: usize, time: u32, words: &[u32], n: usize) -> usize
-    requires { ⌜ 2 * n ≤ length (now words) ⌝ }
-    requires { ⌜ at + length (entriesText (levelEntries time n (now words))) ≤ length (now out) ⌝ }
-    ensures { λ r. ⌜ r ≡ at + length (entriesText (levelEntries time n (now (words .entry)))) ⌝ }
-    ensures { λ r. ⌜ now (out .exit) ≡ sets (now (out .entry)) at (entriesText (levelEntries time n (now (words .entry)))) ⌝ }
+// A level line where 23 bytes are left, else nothing; and the place behind it.
+pub fn level_line(out: &mut [u8], at: usize, time: u64, level: u16) -> usize
+    ensures { λ r. ⌜ r ≡ linesEnd (now (out .entry)) at 1 (entryText (Entry.Level time level)) ⌝ }
+    ensures { λ r. ⌜ now (out .exit) ≡ linesIn (now (out .entry)) at 1 (entryText (Entry.Level time level)) ⌝ }
 {
-    let mut place = at;
-    let mut i = 0;
-    while i < n {
-        let k = 2 * i;
-        let j = k + 1;
-        let clock = arith::wide_u32(words[k]);
-        let level = arith::wide_u32(words[j]) % 65536;
-        place = level_line(out, place, arith::wide_u32(time) + clock, level);
-        i += 1;
-    }
-    place
-}
-
-// n records of a wait that began at a time, as lines where 23 bytes are left for each, else nothing; and the place behind them.
-pub fn level_lines(out: &mut [u8], at: usize, time: u32, words: &[u32], n: usize) -> usize
-    ensures { λ r. ⌜ r ≡ linesEnd (now (out .entry)) at n (entriesText (levelEntries time n (now (words .entry)))) ⌝ }
-    ensures { λ r. ⌜ now (out .exit) ≡ linesIn (now (out .entry)) at n (entriesText (levelEntries time n (now (words .entry)))) ⌝ }
-{
-    if left(out.len(), at, n) {
-        return records(out, at, time, words, arith::least_usize(n, words.len() / 2));
+    if left(out.len(), at, 1) {
+        return level_text(out, at, time, level as u64);
     }
     at
 }

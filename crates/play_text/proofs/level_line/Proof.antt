@@ -1,23 +1,34 @@
 use borrow.Author.Needs.{needs}
-use mathlib.Core.List.{_++_}
-use Rattle.text.specs.Ascii.{bytes}
-use Rattle.text.specs.Decimal.{decimalText}
+use Prim.Native.Nat.{_+_, _*_, _≤_}
+use mathlib.Core.Path.{sym, _∙_}
+use native.Mathlib.Omega.{arith}
+use lib.ListN.{length}
+use borrow.Author.Tests.{leb-true}
 use Rattle.play_text.specs.declared.Entry.the-variants.{Level}
 use Rattle.play_text.specs.Entries.{entryText}
-use Rattle.text_print.proofs.PieceLaws.{put-last, put-more}
-use Rattle.play_text.proofs.PieceLaws.{lined}
+use Rattle.play_text.proofs.TextLaws.{level-size}
+use Rattle.play_text.proofs.LineLaws.{lines-in, lines-end, lines-out, lines-stay}
 use Rattle.play_text.proofs.level_line.Statement.{statement}
 use Rattle.play_text.proofs.level_line.Tie as tie
 
+level-text-requires : tie.Need-level-text-requires
+level-text-requires c κs =
+    let a = c .before .before .before .before .args in
+    let h : a .at + 23 * 1 ≤ length (a .out .now) = leb-true _ _ (sym (c .before .before .left .ensures) ∙ c .before .if1 .taken) in
+    omega (arith, h, level-size (a .time) (a .level) (omega arith))
+
 returns : tie.Need-returns
-unfolding entryText
-returns c = let room = c .before .before .before .before .before .before .before .before .before .before .before .before .before .before .before .before .before .before .before .before .before .before .before .before .pre in
-    lined (c .before .before .before .before .before .before .before .before .before .before .before .before .before .before .before .before .before .before .before .before .before .before .before .before .args .out .now) (c .before .before .before .before .before .before .before .before .before .before .before .before .before .before .before .before .before .before .before .before .before .before .before .before .args .at) (Level (c .before .before .before .before .before .before .before .before .before .before .before .before .before .before .before .before .before .before .before .before .before .before .before .before .args .time) (c .before .before .before .before .before .before .before .before .before .before .before .before .before .before .before .before .before .before .before .before .before .before .before .before .args .level)) _ _ room
-    (put-more (c .before .before .before .before .before .before .before .before .before .before .before .before .before .before .before .before .before .before .before .before .before .before .before .before .args .out .now) (c .before .before .before .before .before .before .before .before .before .before .before .before .before .before .before .before .before .before .before .before .before .before .before .before .args .at) (bytes "level=") ((decimalText (c .before .before .before .before .before .before .before .before .before .before .before .before .before .before .before .before .before .before .before .before .before .before .before .before .args .time)) ++ ((bytes ":") ++ ((decimalText (c .before .before .before .before .before .before .before .before .before .before .before .before .before .before .before .before .before .before .before .before .before .before .before .before .args .level)) ++ ((bytes "\n"))))) (c .before .before .before .before .before .before .before .before .before .before .before .before .before .before .before .before .before .before .before .before .fixed .last .0) (c .before .before .before .before .before .before .before .before .before .before .before .before .before .before .before .before .before .before .before .before .fixed .result) (c .before .before .fixed3 .last .0) (c .before .before .fixed3 .result) room (c .before .before .before .before .before .before .before .before .before .before .before .before .before .before .before .before .before .before .before .before .fixed .ensures .0) (c .before .before .before .before .before .before .before .before .before .before .before .before .before .before .before .before .before .before .before .before .fixed .ensures .1) (λ h0.
-    (put-more (c .before .before .before .before .before .before .before .before .before .before .before .before .before .before .before .before .before .before .before .before .fixed .last .0) (c .before .before .before .before .before .before .before .before .before .before .before .before .before .before .before .before .before .before .before .before .fixed .result) (decimalText (c .before .before .before .before .before .before .before .before .before .before .before .before .before .before .before .before .before .before .before .before .before .before .before .before .args .time)) ((bytes ":") ++ ((decimalText (c .before .before .before .before .before .before .before .before .before .before .before .before .before .before .before .before .before .before .before .before .before .before .before .before .args .level)) ++ ((bytes "\n")))) (c .before .before .before .before .before .before .before .before .before .before .before .before .before .before .before .before .decimal .last .0) (c .before .before .before .before .before .before .before .before .before .before .before .before .before .before .before .before .decimal .result) (c .before .before .fixed3 .last .0) (c .before .before .fixed3 .result) h0 (c .before .before .before .before .before .before .before .before .before .before .before .before .before .before .before .before .decimal .ensures .0) (c .before .before .before .before .before .before .before .before .before .before .before .before .before .before .before .before .decimal .ensures .1) (λ h1.
-    (put-more (c .before .before .before .before .before .before .before .before .before .before .before .before .before .before .before .before .decimal .last .0) (c .before .before .before .before .before .before .before .before .before .before .before .before .before .before .before .before .decimal .result) (bytes ":") ((decimalText (c .before .before .before .before .before .before .before .before .before .before .before .before .before .before .before .before .before .before .before .before .before .before .before .before .args .level)) ++ ((bytes "\n"))) (c .before .before .before .before .before .before .before .before .before .before .before .fixed2 .last .0) (c .before .before .before .before .before .before .before .before .before .before .before .fixed2 .result) (c .before .before .fixed3 .last .0) (c .before .before .fixed3 .result) h1 (c .before .before .before .before .before .before .before .before .before .before .before .fixed2 .ensures .0) (c .before .before .before .before .before .before .before .before .before .before .before .fixed2 .ensures .1) (λ h2.
-    (put-more (c .before .before .before .before .before .before .before .before .before .before .before .fixed2 .last .0) (c .before .before .before .before .before .before .before .before .before .before .before .fixed2 .result) (decimalText (c .before .before .before .before .before .before .before .before .before .before .before .before .before .before .before .before .before .before .before .before .before .before .before .before .args .level)) ((bytes "\n")) (c .before .before .before .before .before .before .before .decimal2 .last .0) (c .before .before .before .before .before .before .before .decimal2 .result) (c .before .before .fixed3 .last .0) (c .before .before .fixed3 .result) h2 (c .before .before .before .before .before .before .before .decimal2 .ensures .0) (c .before .before .before .before .before .before .before .decimal2 .ensures .1) (λ h3.
-    put-last (c .before .before .before .before .before .before .before .decimal2 .last .0) (c .before .before .before .before .before .before .before .decimal2 .result) (bytes "\n") (c .before .before .fixed3 .last .0) (c .before .before .fixed3 .result) h3 (c .before .before .fixed3 .ensures .0) (c .before .before .fixed3 .ensures .1)))))))))
+returns c =
+    let a = c .before .before .before .before .before .before .before .args in
+    let h = leb-true _ _ (sym (c .before .before .before .before .before .left .ensures) ∙ c .before .before .before .before .if1 .taken) in
+    let e = c .before .before .level-text .ensures in
+    (e .place ∙ sym (lines-end (a .out .now) (a .at) 1 (entryText (Level (a .time) (a .level))) h), e .bytes ∙ sym (lines-in (a .out .now) (a .at) 1 (entryText (Level (a .time) (a .level))) h))
+
+returns-2 : tie.Need-returns-2
+returns-2 c =
+    let a = c .before .before .before .args in
+    let h = sym (c .before .left .ensures) ∙ c .if1 .left in
+    (sym (lines-stay (a .out .now) (a .at) 1 (entryText (Level (a .time) (a .level))) h), sym (lines-out (a .out .now) (a .at) 1 (entryText (Level (a .time) (a .level))) h))
 
 pub level-line-spec : {M : Type 1} → statement M
-level-line-spec = tie.close (tie.spec (λ c. search needs) (λ c κs. tt) (λ c κs. tt) (λ c. search needs) (λ c κs. tt) (λ c κs. tt) (λ c. search needs) (λ c κs. tt) (λ c. search needs) returns)
+level-line-spec = tie.close (tie.spec (λ c κs. tt) level-text-requires (λ c. search needs) returns returns-2)

@@ -4,17 +4,18 @@ use native.Mathlib.Omega.{arith}
 use Prim.Native.Nat.{ℕ, _+_, _*_, _≤_}
 use lib.ListN.{length}
 use borrow.Author.Tests.{leb-true}
-use Rattle.play_text.specs.Lines.{levelEntries}
-use Rattle.play_text.proofs.LineLaws.{lines-in, lines-end, lines-out, lines-stay, levels-size, levels-all}
-use Rattle.play_text.proofs.level_lines.Statement.{statement}
-use Rattle.play_text.proofs.level_lines.Tie as tie
+use Rattle.play_levels.specs.Levels.{levelEntries}
+use Rattle.play_text.proofs.LineLaws.{lines-in, lines-end, lines-out, lines-stay}
+use Rattle.play_levels.proofs.LineLaws.{levels-all}
+use Rattle.play_levels.proofs.level_lines.Statement.{statement}
+use Rattle.play_levels.proofs.level_lines.Tie as tie
 
 records-requires : tie.Need-records-requires
 records-requires c κs =
     let a = c .before .before .before .before .before .before .args in
     let h : a .at + 23 * a .n ≤ length (a .out .now) = leb-true _ _ (sym (c .before .before .before .left .ensures) ∙ c .before .before .if1 .taken) in
     let k = c .least-usize in
-    (omega (arith, k .ensures), omega (arith, h, k .ensures, levels-size (a .time) (k .result) (a .words .now)))
+    (omega (arith, k .ensures), omega (arith, h, k .ensures))
 
 returns : tie.Need-returns
 returns c =

@@ -1,0 +1,4 @@
+pub mod AheadLaws
+pub mod DigitLaws
+pub mod LineLaws
+pub mod WordLaws
