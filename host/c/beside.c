@@ -3,7 +3,8 @@
  *
  *   beside [-t TRIES] [-l LOG] [-n NSF] BUILD.so BUILD.so ..
  *
- * With -l a log is played by the runs of its waits; with -n libgme, where it is installed, plays the same tune beside it.
+ * With -l a log is played by the runs of its waits, and as text; with -n libgme, where it is installed, plays the same tune
+ * beside it.
  * host/beside makes the builds from archives. */
 #define _GNU_SOURCE
 #include <dlfcn.h>
@@ -15,14 +16,16 @@
 
 #include "perchpulley.h"
 
-enum { MOST_BUILDS = 8, MOST_ACTS = 4000000, WORDS = 32768 };
+enum { MOST_BUILDS = 8, MOST_ACTS = 4000000, WORDS = 32768, TEXT = 65536 };
 
 struct build {
     const char *name;
     uint64_t (*power_on)(uint8_t *, size_t, uint8_t);
     uint64_t (*access)(uint8_t *, size_t, uint8_t, uint16_t, uint8_t);
     uint64_t (*run)(uint8_t *, size_t, const uint8_t *, size_t, uint64_t, uint32_t *, size_t);
-    size_t size;
+    uint64_t (*begin)(uint8_t *, size_t, const uint8_t *, size_t, const uint8_t *, size_t);
+    uint64_t (*play_on)(uint8_t *, size_t, const uint8_t *, size_t, const uint8_t *, size_t, uint8_t *, size_t);
+    size_t size, player_size;
 };
 
 struct act {
@@ -44,6 +47,7 @@ struct played {
 
 static uint8_t memory[PERCH_MEMORY_SIZE];
 static uint32_t words[WORDS];
+static uint8_t text[TEXT];
 
 static double now(void)
 {
@@ -77,7 +81,10 @@ static struct build loaded(const char *name)
     *(void **)&b.power_on = found(build, "perch_power_on");
     *(void **)&b.access = found(build, "perch_access");
     *(void **)&b.run = found(build, "perch_run");
+    *(void **)&b.begin = found(build, "perch_begin");
+    *(void **)&b.play_on = found(build, "perch_play_on");
     b.size = ((size_t(*)(void))found(build, "perch_state_size"))();
+    b.player_size = ((size_t(*)(void))found(build, "perch_player_size"))();
     return b;
 }
 
@@ -154,6 +161,44 @@ static struct scene log_scene(const char *name)
     s.acts = acts;
     s.count = n;
     return s;
+}
+
+/* A log's bytes. */
+struct bytes {
+    uint8_t *bytes;
+    size_t size;
+};
+
+static struct bytes read_log(const char *name)
+{
+    struct bytes log = {malloc(TEXT), 0};
+    FILE *file = fopen(name, "rb");
+
+    if (!file || !log.bytes) {
+        perror(name);
+        exit(2);
+    }
+    log.size = fread(log.bytes, 1, TEXT, file);
+    fclose(file);
+    return log;
+}
+
+/* A log's text, piece by piece into one buffer: its bytes, and their sum where it is asked for. */
+static struct played tell(const struct build *b, const struct bytes *log, int summed)
+{
+    struct played p = {0, 0, 0};
+    uint8_t player[256];
+    uint64_t answer = b->begin(player, b->player_size, log->bytes, log->size, memory, sizeof memory), k;
+
+    while (PERCH_NUMBER(answer) == PERCH_DONE) {
+        answer = b->play_on(player, b->player_size, log->bytes, log->size, memory, sizeof memory, text, TEXT);
+        p.records += PERCH_WRITTEN(answer);
+        for (k = 0; summed && k < PERCH_WRITTEN(answer); k++)
+            p.sum = p.sum * 31 + text[k];
+        if (PERCH_OVER(answer))
+            break;
+    }
+    return p;
 }
 
 /* The same tune by libgme, in seconds of processor time; 0 where it can't be had. */
@@ -236,6 +281,41 @@ static int beside(const struct build *builds, int n, const struct scene *s, int 
     return 0;
 }
 
+/* A log's text by every build, each with its time over that of its own runs; 1 where one differs from the first. */
+static int told_beside(const struct build *builds, int n, const struct scene *s, const struct bytes *log, int tries)
+{
+    struct played first = tell(&builds[0], log, 1);
+    double told[MOST_BUILDS], ran[MOST_BUILDS], t;
+    int i, j;
+
+    for (j = 1; j < n; j++) {
+        struct played p = tell(&builds[j], log, 1);
+
+        if (p.records != first.records || p.sum != first.sum) {
+            printf("%s as text: %s gives something else than %s\n", s->name, builds[j].name, builds[0].name);
+            return 1;
+        }
+    }
+    for (i = 0; i < tries; i++)
+        for (j = 0; j < n; j++) {
+            t = now();
+            play(&builds[j], s);
+            t = now() - t;
+            if (i == 0 || t < ran[j])
+                ran[j] = t;
+            t = now();
+            tell(&builds[j], log, 0);
+            t = now() - t;
+            if (i == 0 || t < told[j])
+                told[j] = t;
+        }
+    printf("| %s as text, %llu bytes | | |", s->name, (unsigned long long)first.records);
+    for (j = 0; j < n; j++)
+        printf(" %.2f ms, %.2f, %.2f of its runs |", told[j] * 1e3, told[j] / told[0], told[j] / ran[j]);
+    printf("\n");
+    return 0;
+}
+
 int main(int argc, char **argv)
 {
     struct build builds[MOST_BUILDS];
@@ -244,20 +324,23 @@ int main(int argc, char **argv)
         {"one square, 440 Hz", one_square, COUNT(one_square), PERCH_NTSC},
         {"all channels, audible", audible, COUNT(audible), PERCH_NTSC},
         {"all channels, shortest periods", shortest, COUNT(shortest), PERCH_NTSC}};
+    struct bytes log = {NULL, 0};
     const char *nsf = NULL;
     int n = 0, count = 5, tries = 9, wrong = 0, i;
 
     for (i = 1; i < argc; i++) {
         if (!strcmp(argv[i], "-t") && i + 1 < argc)
             tries = atoi(argv[++i]);
-        else if (!strcmp(argv[i], "-l") && i + 1 < argc)
-            scenes[count++] = log_scene(argv[++i]);
+        else if (!strcmp(argv[i], "-l") && i + 1 < argc && !log.bytes) {
+            log = read_log(argv[++i]);
+            scenes[count++] = log_scene(argv[i]);
+        }
         else if (!strcmp(argv[i], "-n") && i + 1 < argc)
             nsf = argv[++i];
         else if (n < MOST_BUILDS)
             builds[n++] = loaded(argv[i]);
     }
-    if (n == 0 || tries < 1 || count > 6) {
+    if (n == 0 || tries < 1) {
         fprintf(stderr, "beside [-t TRIES] [-l LOG] [-n NSF] BUILD.so ..\n");
         return 2;
     }
@@ -266,5 +349,7 @@ int main(int argc, char **argv)
     printf("| scene | clocks | records | each build: time, of the first |\n|---|---|---|---|\n");
     for (i = 0; i < count; i++)
         wrong |= beside(builds, n, &scenes[i], tries, i == 5 ? nsf : NULL);
+    if (log.bytes)
+        wrong |= told_beside(builds, n, &scenes[5], &log, tries);
     return wrong;
 }
