@@ -24,7 +24,7 @@ fn work(s: State, memory: &[u8], n: u64) -> State
 pub extern "C" fn pace_clocks(state: &mut [u8], memory: &[u8], n: u64)
     ensures { λ r. ⌜ now (state .exit) ≡ encoded (iterate (chipClock (now (memory .entry))) n (stateOf (now (state .entry)))) (now (state .entry)) ⌝ }
 {
-    let s = c_state::decode(state);
+    let s = c_state_read::decode(state);
     let t = work(s, memory, n);
-    c_state::encode(t, state);
+    c_state_write::encode(t, state);
 }

@@ -24,7 +24,7 @@ pub fn store(number: u8, s: State, b: &mut [u8])
     ensures { λ r. ⌜ now (b .exit) ≡ pick (eqb number 0) (encoded s (now (b .entry))) (now (b .entry)) ⌝ }
 {
     if number == 0 {
-        c_state::encode(s, b);
+        c_state_write::encode(s, b);
     }
 }
 
@@ -50,7 +50,7 @@ fn bytes_in(b: &[u8]) -> bool
     ensures { λ r. ⌜ r ≡ bytesIn (now (b .entry)) ⌝ }
 {
     let right = c_state::is_state(b);
-    let s = c_state::decode(b);
+    let s = c_state_read::decode(b);
     let within = chip_api::in_range(s);
     arith::both_of(right, within)
 }
@@ -76,7 +76,7 @@ fn access_of(read: u8, register: u16, value: u8) -> Access
 fn access_from(b: &[u8], x: Access) -> Answered
     ensures { λ r. ⌜ r ≡ accessFrom x (now (b .entry)) ⌝ }
 {
-    let s = c_state::decode(b);
+    let s = c_state_read::decode(b);
     if c_state::is_state(b) {
         return chip_api::access(s, x);
     }
@@ -112,7 +112,7 @@ pub fn access(state: &mut [u8], read: u8, register: u16, value: u8) -> u64
 fn line_from(b: &[u8]) -> Asserted
     ensures { λ r. ⌜ r ≡ lineFrom (now (b .entry)) ⌝ }
 {
-    let s = c_state::decode(b);
+    let s = c_state_read::decode(b);
     if c_state::is_state(b) {
         return chip_api::interrupt_line(s);
     }
@@ -134,7 +134,7 @@ pub fn interrupt_line(state: &[u8]) -> u64
 fn level_from(b: &[u8]) -> Mixed
     ensures { λ r. ⌜ r ≡ levelFrom (now (b .entry)) ⌝ }
 {
-    let s = c_state::decode(b);
+    let s = c_state_read::decode(b);
     if c_state::is_state(b) {
         return chip_api::level(s);
     }
@@ -162,7 +162,7 @@ pub fn no_state(memory: &[u8]) -> u8
 fn clock_from(b: &[u8], memory: &[u8]) -> Moved
     ensures { λ r. ⌜ r ≡ clockFrom (now (memory .entry)) (now (b .entry)) ⌝ }
 {
-    let s = c_state::decode(b);
+    let s = c_state_read::decode(b);
     if c_state::is_state(b) {
         return chip_api::clock(s, memory);
     }

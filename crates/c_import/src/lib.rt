@@ -2,10 +2,10 @@
 ghost use mathlib.Core.Path.{_≡_};
 ghost use Prim.Native.Nat.{_/_, _%_, _^_, _≤_, _<_};
 ghost use lib.ListN.{length, take};
-ghost use Rattle.log_import.specs.Import.{bufferOf};
+ghost use Rattle.log_measure.specs.Import.{bufferOf};
 ghost use Rattle.log_import.specs.Stamps.{Stands};
 ghost use Rattle.c_import.specs.Packed.{importValue, importPacked};
-use log_import::Imported;
+use log_measure::Imported;
 
 // The length of the log, or the place of a refusal.
 fn value_of(a: Imported) -> u64

@@ -40,7 +40,7 @@ pub fn decode(b: &[u8]) -> Player
     let time = number::u32_at(b, 5);
     let last = number::u16_at(b, 9);
     let cursor = c_cursor::decode(reader::cursor_part(b));
-    let state = c_state::decode(reader::state_part(b));
+    let state = c_state_read::decode(reader::state_part(b));
     Player {
         phase: phase,
         wait: wait,

@@ -37,5 +37,5 @@ pub(crate) fn put_state(s: State, b: &mut [u8])
     requires { ⌜ length (now b) ≡ playerSize ⌝ }
     ensures { λ r. ⌜ now (b .exit) ≡ sets (now (b .entry)) statePlace (stateBytes s) ⌝ }
 {
-    c_state::encode(s, &mut b[STATE..]);
+    c_state_write::encode(s, &mut b[STATE..]);
 }

@@ -16,7 +16,7 @@ fn leaping_from(b: &[u8], memory: &[u8], count: u64, words: &mut [u32]) -> Ran
     ensures { λ r. ⌜ r ≡ runFrom (now (memory .entry)) (now (b .entry)) count (now (words .entry)) ⌝ }
     ensures { λ r. ⌜ now (words .exit) ≡ wordsFrom (now (memory .entry)) (now (b .entry)) count (now (words .entry)) ⌝ }
 {
-    let s = c_state::decode(b);
+    let s = c_state_read::decode(b);
     if c_state::is_state(b) {
         return run::run(s, memory, count, words);
     }
@@ -41,7 +41,7 @@ fn plain_from(b: &[u8], memory: &[u8], count: u64, words: &mut [u32]) -> Ran
     ensures { λ r. ⌜ r ≡ runFrom (now (memory .entry)) (now (b .entry)) count (now (words .entry)) ⌝ }
     ensures { λ r. ⌜ now (words .exit) ≡ wordsFrom (now (memory .entry)) (now (b .entry)) count (now (words .entry)) ⌝ }
 {
-    let s = c_state::decode(b);
+    let s = c_state_read::decode(b);
     if c_state::is_state(b) {
         return run_plain::run_plain(s, memory, count, words);
     }

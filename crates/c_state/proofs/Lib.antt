@@ -1,4 +1,3 @@
 pub mod BackLaws
 pub mod CodeLaws
 pub mod FlagLaws
-pub mod PlaceLaws

@@ -1,14 +1,9 @@
-// A state as 91 bytes, for callers in other languages: the fields in document 01's order, low byte first, a flag as 0 or 1.
+// A state as 91 bytes, for callers in other languages: the fields in document 01's order, low byte first, a flag as 0 or 1. How many they are, and
+// whether bytes are a state's; `c_state_read` reads a state from them and `c_state_write` writes it.
 ghost use mathlib.Core.Path.{_≡_};
 ghost use lib.ListN.{getD};
-ghost use Rattle.c_state.specs.Bytes.{stateSize, flagPlaces, flagsRight, isState, stateOf};
-ghost use Rattle.c_state.specs.Encoded.{encoded};
-
-mod reader;
-mod writer;
-
+ghost use Rattle.c_state.specs.Bytes.{stateSize, flagPlaces, flagsRight, isState};
 use c_bytes::field;
-use chip::State;
 
 // How many bytes a state is.
 pub const SIZE: usize = 91;
@@ -83,40 +78,4 @@ pub fn is_state(b: &[u8]) -> bool
 {
     let right = flags_right(b);
     arith::both_of(b.len() == SIZE, right)
-}
-
-// The state that bytes stand for.
-pub fn decode(b: &[u8]) -> State
-    ensures { λ r. ⌜ r ≡ stateOf (now (b .entry)) ⌝ }
-{
-    let square1 = reader::square_at(b, 0);
-    let square2 = reader::square_at(b, 21);
-    let triangle = reader::triangle_at(b, 42);
-    let noise = reader::noise_at(b, 53);
-    let dmc = reader::dmc_at(b, 67);
-    let frame = reader::frame_at(b, 85);
-    let pal = field::flag_at(b, 90);
-    State {
-        square1: square1,
-        square2: square2,
-        triangle: triangle,
-        noise: noise,
-        dmc: dmc,
-        frame: frame,
-        pal: pal,
-    }
-}
-
-// Writes a state to bytes. Other than so many bytes stay as they are.
-pub fn encode(s: State, b: &mut [u8])
-    ensures { λ r. ⌜ now (b .exit) ≡ encoded s (now (b .entry)) ⌝ }
-{
-    if b.len() == SIZE {
-        writer::put_square(s.square1, b, 0);
-        writer::put_square(s.square2, b, 21);
-        writer::put_triangle(s.triangle, b, 42);
-        writer::put_noise(s.noise, b, 53);
-        writer::put_dmc(s.dmc, b, 67);
-        writer::put_frame(s.frame, s.pal, b, 85);
-    }
 }

@@ -7,7 +7,7 @@ use chip_why::Reason;
 fn why_from(b: &[u8], channel: u64) -> Reason
     ensures { λ r. ⌜ r ≡ whyFrom channel (now (b .entry)) ⌝ }
 {
-    let s = c_state::decode(b);
+    let s = c_state_read::decode(b);
     if c_state::is_state(b) {
         return chip_why::why(s, channel);
     }

@@ -16,9 +16,9 @@ use Rattle.log_judge.specs.Whole.{treeOf, checkOf}
 use Rattle.log_passing.proofs.Passing.{clear, passes}
 use Rattle.log_fold.specs.declared.Folded.{Folded}
 use Rattle.log_fold.specs.Answer.{foldRefusal, foldDone, foldOf, writtenOver, foldLent}
-use Rattle.log_fold.specs.Promise.{Folds}
-use Rattle.log_fold.proofs.Passes.{folds}
-use Rattle.log_fold.specs.Folding.{foldedLog}
+use Rattle.log_folding.specs.Promise.{Folds}
+use Rattle.log_folding.proofs.Passes.{folds}
+use Rattle.log_folding.specs.Folding.{foldedLog}
 use Rattle.log_fold.proofs.PassLaws.{over-is}
 
 module _ (log out : List ℕ) (k : Checked) (e : k ≡ checkOf log) where

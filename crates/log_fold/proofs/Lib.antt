@@ -1,7 +1,3 @@
-pub mod AheadLaws
-pub mod KeptLaws
-pub mod LeastLaws
-pub mod Passes
 pub mod AlikeLaws
 pub mod MarkLaws
 pub mod MoveLaws
@@ -9,4 +5,3 @@ pub mod PlaceLaws
 pub mod StepLaws
 pub mod PassLaws
 pub mod AnswerLaws
-pub mod Samples

@@ -18,9 +18,9 @@ use Rattle.log_judge.proofs.Derived.{Reads, stops}
 use Rattle.log_passing.proofs.Passing.{clear, passing, stands}
 use Rattle.log_fold.specs.declared.Move.{Move}
 use Rattle.log_fold.specs.Answer.{writtenOver}
-use Rattle.log_fold.specs.Folding.{folded, foldedTree, foldedLog}
+use Rattle.log_folding.specs.Folding.{folded, foldedTree, foldedLog}
 use Rattle.log_fold.specs.Moves.{moveOf, moveText}
-use Rattle.log_fold.proofs.Passes.{folds}
+use Rattle.log_folding.proofs.Passes.{folds}
 use Rattle.log_fold.proofs.PlaceLaws.{reads-on}
 use Rattle.log_fold.proofs.StepLaws.{Left, lines, none, Moved, moved}
 

@@ -21,10 +21,10 @@ use Rattle.log_judge.proofs.PlaceLaws.{had-at, had-text, next-pos, next-le, byt
 use Rattle.log_judge.proofs.Derived.{Ending, closes, stops, Reads, an-act, a-loop, a-done, a-stop}
 use Rattle.log_passing.proofs.Passing.{tailOf, text-of, within-of}
 use Rattle.log_fold.specs.declared.Move.{Move}
-use Rattle.log_fold.specs.Ahead.{leading, inFront, copiesThere}
-use Rattle.log_fold.specs.Folding.{suits, Choice, plain, fold, choiceIn, choice}
+use Rattle.log_folding.specs.Ahead.{leading, inFront, copiesThere}
+use Rattle.log_folding.specs.Folding.{suits, Choice, plain, fold, choiceIn, choice}
 use Rattle.log_fold.specs.Moves.{plainMove, loopMove, actEnd, copiesAt, suitsOf, chosenIn}
-use Rattle.log_fold.proofs.AheadLaws.{behind, ahead, every-leading, every-take}
+use Rattle.log_folding.proofs.AheadLaws.{behind, ahead, every-leading, every-take}
 use Rattle.log_fold.proofs.AlikeLaws.{text-run, copies-alike, suits-alike}
 
 -- PLACES

@@ -16,12 +16,12 @@ use Rattle.log_judge.proofs.Derived.{closes, stops, Reads, an-act, a-loop, a-st
 use Rattle.log_passing.proofs.TextLaws.{act-text, loop-text}
 use Rattle.log_passing.proofs.Passing.{had-split, text-of, within-of}
 use Rattle.log_fold.specs.declared.Move.{Move}
-use Rattle.log_fold.specs.Ahead.{leading, inFront, copiesThere}
-use Rattle.log_fold.specs.Folding.{Choice, plain, fold, choice, made, folded}
+use Rattle.log_folding.specs.Ahead.{leading, inFront, copiesThere}
+use Rattle.log_folding.specs.Folding.{Choice, plain, fold, choice, made, folded}
 use Rattle.log_fold.specs.Moves.{plainMove, loopMove, chosenIn, moveOf, loopText, moveText}
-use Rattle.log_fold.proofs.AheadLaws.{behind}
-use Rattle.log_fold.proofs.KeptLaws.{Suits, choice-is, whole, times-are, enough, product}
-use Rattle.log_fold.proofs.LeastLaws.{goes-on}
+use Rattle.log_folding.proofs.AheadLaws.{behind}
+use Rattle.log_folding.proofs.KeptLaws.{Suits, choice-is, whole, times-are, enough, product}
+use Rattle.log_folding.proofs.LeastLaws.{goes-on}
 use Rattle.log_fold.proofs.MoveLaws.{move-plain, move-looped}
 use Rattle.log_fold.proofs.AlikeLaws.{times-text}
 use Rattle.log_fold.proofs.PlaceLaws.{line-on, reads-on, size, size-none, span, reads-behind, toMove, part-of, chosen-alike}

@@ -6,7 +6,7 @@ use lib.Dec.{eqb, ltb}
 use Rattle.arith.specs.Pick.{pick}
 use Rattle.log_judge.specs.Whole.{checkOf}
 use Rattle.log_fold.specs.declared.Folded.{Folded}
-use Rattle.log_fold.specs.Folding.{foldedLog}
+use Rattle.log_folding.specs.Folding.{foldedLog}
 
 abbrev pub foldRefusal : ℕ → ℕ → Folded
 foldRefusal k p = record { number = k; place = p; length = 0 }

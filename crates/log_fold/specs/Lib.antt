@@ -1,5 +1,2 @@
-pub mod Ahead
-pub mod Folding
-pub mod Promise
 pub mod Answer
 pub mod Moves

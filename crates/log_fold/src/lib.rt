@@ -16,8 +16,8 @@ ghost use Rattle.text_print.specs.Printed.{Put};
 ghost use Rattle.log_judge.specs.Head.{startOf};
 ghost use Rattle.log_judge.specs.Tree.{turns};
 ghost use Rattle.log_judge.specs.Whole.{treeOf, checkOf};
-ghost use Rattle.log_fold.specs.Folding.{foldedLog};
-ghost use Rattle.log_fold.specs.Promise.{Folds};
+ghost use Rattle.log_folding.specs.Folding.{foldedLog};
+ghost use Rattle.log_folding.specs.Promise.{Folds};
 ghost use Rattle.log_fold.specs.Answer.{foldRefusal, foldOf, foldLent};
 ghost use Rattle.log_fold.specs.Moves.{plainMove, loopMove, actLine, actEnd, runEnd, Mark, Marked, copiesIn, copiesAt, suitsOf, chosenIn, blockEnd, lineMove, moveOf, loopText, moveText};
 

@@ -18,10 +18,11 @@ use Rattle.text.specs.Hex.{hexText, hexByte}
 use Rattle.log_line.specs.declared.Act.the-variants.{Wait as Waited}
 use Rattle.log_line.specs.Printed.{lineText, actText, ended as fed}
 use Rattle.log_judge.specs.Tree.{Tree, act, text, logText}
-use Rattle.log_import.specs.declared.Said.{Said}
-use Rattle.log_import.specs.Stream.{Stream, ended, more, after, streamFrom, byteStep, commandOf, registerOf, streamOf}
-use Rattle.log_import.specs.Import.{stood, rest, gap, actsFrom, samplesIn, importRefusal, importWeighed, importAnswer, clocksFor, treeFor, textFor, textOf, importOf, bufferOf}
-use Rattle.log_import.proofs.AnswerLaws.{imports, ready}
+use Rattle.log_stream.specs.declared.Said.{Said}
+use Rattle.log_stream.specs.Stream.{Stream, ended, more, after, streamFrom, byteStep, commandOf, registerOf, streamOf}
+use Rattle.log_measure.specs.Import.{stood, rest, gap, actsFrom, samplesIn, importRefusal, importWeighed, importAnswer, clocksFor, treeFor, textFor, textOf, importOf, bufferOf}
+use Rattle.log_measure.proofs.AnswerLaws.{imports}
+use Rattle.log_import.proofs.ReadyLaws.{ready}
 
 -- number 0: the log over the front, as long as the answer says; the bytes behind it stay
 

@@ -12,16 +12,16 @@ use Rattle.arith.proofs.PickLaws.{pick-both, pick-each}
 use Rattle.bus.specs.Register.{isRegister}
 use Rattle.log_judge.specs.Tree.{Tree, acts, clocks, turns, logText, Within}
 use Rattle.log_passing.proofs.Passing.{printed}
-use Rattle.log_import.specs.declared.Await.{Await}
-use Rattle.log_import.specs.declared.Await.the-variants.{Command, Register, Value, Low, High}
-use Rattle.log_import.specs.declared.Said.{Said}
-use Rattle.log_import.specs.declared.Said.the-variants.{Wait, Write}
-use Rattle.log_import.specs.declared.Step.{Step}
-use Rattle.log_import.specs.declared.Step.the-variants.{End, Fault, Next, Says}
-use Rattle.log_import.specs.Stream.{Stream, ended, refused, more, after, streamFrom, byteStep, commandOf, registerOf, streamOf}
-use Rattle.log_import.specs.Import.{stood, samplesIn, actsFrom, treeFor, clocksFor, textFor, textOf, importOf, bufferOf}
+use Rattle.log_stream.specs.declared.Await.{Await}
+use Rattle.log_stream.specs.declared.Await.the-variants.{Command, Register, Value, Low, High}
+use Rattle.log_stream.specs.declared.Said.{Said}
+use Rattle.log_stream.specs.declared.Said.the-variants.{Wait, Write}
+use Rattle.log_stream.specs.declared.Step.{Step}
+use Rattle.log_stream.specs.declared.Step.the-variants.{End, Fault, Next, Says}
+use Rattle.log_stream.specs.Stream.{Stream, ended, refused, more, after, streamFrom, byteStep, commandOf, registerOf, streamOf}
+use Rattle.log_measure.specs.Import.{stood, samplesIn, actsFrom, treeFor, clocksFor, textFor, textOf, importOf, bufferOf}
 use Rattle.log_import.specs.Stamps.{stamped, writesFrom, Stands}
-use Rattle.log_import.proofs.AnswerLaws.{imports}
+use Rattle.log_measure.proofs.AnswerLaws.{imports}
 use Rattle.log_import.proofs.StandLaws.{Sound, within-from, clocks-from, stamped-from}
 
 -- numbers that are bytes

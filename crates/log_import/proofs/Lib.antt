@@ -1,11 +1,7 @@
-pub mod AnswerLaws
-pub mod BoundLaws
 pub mod BufferLaws
-pub mod CountLaws
-pub mod FaultLaws
-pub mod GapLaws
 pub mod ImportLaws
 pub mod PenLaws
 pub mod Promised
+pub mod ReadyLaws
 pub mod StandLaws
 pub mod WriteLaws

@@ -10,7 +10,7 @@ use Rattle.log_line.specs.declared.Line.the-variants.{One}
 use Rattle.log_line.specs.Printed.{lineText}
 use Rattle.text_print.specs.Printed.{placed, printed, Put}
 use Rattle.text_print.proofs.StoreLaws.{sets-append, placed-in, printed-in}
-use Rattle.log_import.specs.Measure.{millions}
+use Rattle.log_measure.specs.Measure.{millions}
 
 -- what is left makes the whole: the front of it written
 pub front : (out : List ℕ) (place : ℕ) (a rest : List ℕ) (whole : ℕ) (all : List ℕ) → place + length (a ++ rest) ≡ whole → sets out place (a ++ rest) ≡ all

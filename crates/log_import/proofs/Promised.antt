@@ -3,8 +3,8 @@ use Prim.Native.Nat.{ℕ, suc, _≤_}
 use mathlib.Core.Path.{_≡_, sym, ap, _∙_}
 use mathlib.Core.List.{List, [], _∷_}
 use lib.ListN.{length, getD, take}
-use Rattle.log_import.specs.declared.Imported.{Imported}
-use Rattle.log_import.specs.Import.{importOf, bufferOf}
+use Rattle.log_measure.specs.declared.Imported.{Imported}
+use Rattle.log_measure.specs.Import.{importOf, bufferOf}
 use Rattle.log_import.specs.Stamps.{Stands}
 use Rattle.log_import.proofs.ImportLaws.{Bytes, imported-stands}
 use Rattle.log_import.proofs.BufferLaws.{front-is}

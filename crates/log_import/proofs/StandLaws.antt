@@ -13,11 +13,11 @@ use Rattle.bus.specs.Register.{isRegister}
 use Rattle.bus.specs.declared.Access.the-variants.{Write as Written}
 use Rattle.log_line.specs.declared.Act.the-variants.{Wait as Waited, Access}
 use Rattle.log_judge.specs.Tree.{Tree, end, act, acts, actClocks, clocks, Within}
-use Rattle.log_import.specs.declared.Said.{Said}
-use Rattle.log_import.specs.declared.Said.the-variants.{Wait, Write}
-use Rattle.log_import.specs.Import.{stood, rest, gap, actsFrom, samplesIn}
+use Rattle.log_stream.specs.declared.Said.{Said}
+use Rattle.log_stream.specs.declared.Said.the-variants.{Wait, Write}
+use Rattle.log_measure.specs.Import.{stood, rest, gap, actsFrom, samplesIn}
 use Rattle.log_import.specs.Stamps.{Stamped, at, stamped, writesFrom}
-use Rattle.log_import.proofs.BoundLaws.{stood-more}
+use Rattle.log_measure.proofs.BoundLaws.{stood-more}
 
 abbrev million : Tree → Tree
 million = act (Waited 1000000)

@@ -15,20 +15,22 @@ use Rattle.log_judge.specs.Tree.{end, act, text, logText}
 use Rattle.text_print.specs.Printed.{placed, printed, Put}
 use Rattle.text_print.proofs.StoreLaws.{sets-append, printed-in}
 use Rattle.text_print.proofs.PieceLaws.{put-last, put-two, put-size}
-use Rattle.log_import.specs.declared.Await.{Await}
-use Rattle.log_import.specs.declared.Await.the-variants.{Command}
-use Rattle.log_import.specs.declared.Said.{Said}
-use Rattle.log_import.specs.declared.Said.the-variants.{Wait, Write}
-use Rattle.log_import.specs.declared.Step.{Step}
-use Rattle.log_import.specs.declared.Step.the-variants.{End, Fault, Next, Says}
+use Rattle.log_stream.specs.declared.Await.{Await}
+use Rattle.log_stream.specs.declared.Await.the-variants.{Command}
+use Rattle.log_stream.specs.declared.Said.{Said}
+use Rattle.log_stream.specs.declared.Said.the-variants.{Wait, Write}
+use Rattle.log_stream.specs.declared.Step.{Step}
+use Rattle.log_stream.specs.declared.Step.the-variants.{End, Fault, Next, Says}
 use Rattle.log_import.specs.declared.Pen.{Pen}
-use Rattle.log_import.specs.Stream.{Stream, ended, refused, more, after, streamFrom, byteStep, streamOf}
-use Rattle.log_import.specs.Import.{stood, actsFrom, samplesIn, clocksFor, treeFor, textFor, textOf}
-use Rattle.log_import.specs.Measure.{gapText, stopsAt, awaited, tailFrom, stepText, stepSamples, stepClock, Penned, Penning, Ending, Ready, Headed, Writing, tailOf}
-use Rattle.log_import.proofs.BoundLaws.{stood-more, stood-few}
-use Rattle.log_import.proofs.GapLaws.{text-gap, text-act}
+use Rattle.log_stream.specs.Stream.{Stream, ended, refused, more, after, streamFrom, byteStep, streamOf}
+use Rattle.log_measure.specs.Import.{stood, actsFrom, samplesIn, clocksFor, treeFor, textFor, textOf}
+use Rattle.log_stream.specs.Steps.{stopsAt, awaited}
+use Rattle.log_measure.specs.Measure.{gapText}
+use Rattle.log_import.specs.Write.{tailFrom, stepText, stepSamples, stepClock, Penned, Penning, Ending, Ready, Headed, Writing, tailOf}
+use Rattle.log_measure.proofs.BoundLaws.{stood-more, stood-few}
+use Rattle.log_measure.proofs.GapLaws.{text-gap, text-act}
 use Rattle.log_import.proofs.PenLaws.{front}
-use Rattle.log_import.proofs.CountLaws.{from-byte, from-end}
+use Rattle.log_stream.proofs.StreamLaws.{from-byte, from-end}
 
 -- THE END AND A WRITE, IN BYTES
 

@@ -1,4 +1,2 @@
-pub mod Import
-pub mod Measure
 pub mod Stamps
-pub mod Stream
+pub mod Write

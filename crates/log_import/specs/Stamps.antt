@@ -7,13 +7,13 @@ use Rattle.bus.specs.declared.Access.{Access as Accessed}
 use Rattle.bus.specs.declared.Access.the-variants.{Write as Written}
 use Rattle.log_line.specs.declared.Act.{Act}
 use Rattle.log_line.specs.declared.Act.the-variants.{Wait as Waited, Access}
-use Rattle.log_import.specs.declared.Said.{Said}
-use Rattle.log_import.specs.declared.Said.the-variants.{Wait, Write}
+use Rattle.log_stream.specs.declared.Said.{Said}
+use Rattle.log_stream.specs.declared.Said.the-variants.{Wait, Write}
 use Rattle.log_judge.specs.Head.{machineOf}
 use Rattle.log_judge.specs.Tree.{acts, clocks}
 use Rattle.log_judge.specs.Whole.{treeOf, checkOf}
-use Rattle.log_import.specs.Stream.{ended, streamOf}
-use Rattle.log_import.specs.Import.{stood, samplesIn}
+use Rattle.log_stream.specs.Stream.{ended, streamOf}
+use Rattle.log_measure.specs.Import.{stood, samplesIn}
 
 -- an access at a clock
 pub data Stamped : Type 0 where

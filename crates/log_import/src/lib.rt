@@ -1,57 +1,23 @@
 // The command part of a VGM file, brought in as a log. Two passes over the stream: one measures the log and finds every refusal, so that a
-// refused call writes nothing; the other writes it.
+// refused call writes nothing (`log_measure`); the other writes it.
 ghost use mathlib.Core.Path.{_≡_};
 ghost use mathlib.Core.List.{[]};
 ghost use Prim.Native.Nat.{_+_, _-_, _*_, _/_, _%_, _≤_, _<_};
 ghost use lib.ListN.{length, take};
 ghost use lib.Seq.{sets};
 ghost use Rattle.text_print.specs.Printed.{Put};
-ghost use Rattle.log_import.specs.Stream.{Stream, commandOf, registerOf, byteStep, streamOf};
-ghost use Rattle.log_import.specs.Import.{stood, importWeighed, importOf, bufferOf, textOf};
+ghost use Rattle.log_stream.specs.Stream.{streamOf};
+ghost use Rattle.log_measure.specs.Import.{stood, importOf, bufferOf, textOf};
+ghost use Rattle.log_measure.specs.Measure.{gapText, millions, restText};
 ghost use Rattle.log_import.specs.Stamps.{Stands};
-ghost use Rattle.log_import.specs.Measure.{gapText, gapTurns, millions, restText, stopsAt, stoppedAt, awaited, heavyAt, countWrite, countSaid, countStep, Counted, Light, answerFrom, Penned, Penning, Ending, Ready, Headed, tailFrom, tailOf};
+ghost use Rattle.log_import.specs.Write.{Penned, Penning, Ending, Ready, Headed, tailFrom, tailOf};
 use bus::Access;
 use log_line::Act;
 use log_line::Line;
-
-// What the next byte of a stream is: a command; behind $B4 the register, and then the value for it; behind $61 the low byte of a wait, and then
-// the high byte for it.
-pub enum Await {
-    Command,
-    Register,
-    Value(u8),
-    Low,
-    High(u8),
-}
-
-// What a command says: a wait of so many samples, or a write of a value to a register.
-pub enum Said {
-    Wait(u16),
-    Write(u16, u8),
-}
-
-// What a byte brings: the end of the stream; a fault, by its number; what is awaited next; or the last byte of a command, and what that says.
-pub enum Step {
-    End,
-    Fault(u8),
-    Next(Await),
-    Says(Said),
-}
-
-// The answer: number and place of a refusal, or the length of the log that was written.
-pub struct Imported {
-    pub number: u8,
-    pub place: usize,
-    pub length: usize,
-}
-
-// How far the measuring has come: the samples so far, the clock of the last access, and the turns and the bytes of the log so far.
-pub struct Count {
-    pub samples: usize,
-    pub clock: usize,
-    pub turns: usize,
-    pub length: usize,
-}
+use log_measure::Imported;
+use log_stream::Await;
+use log_stream::Said;
+use log_stream::Step;
 
 // How far the writing has come: the samples so far, the clock of the last access, and the place of the next line.
 pub struct Pen {
@@ -60,260 +26,12 @@ pub struct Pen {
     pub place: usize,
 }
 
-// The samples of $70 to $7F.
-fn short(b: u8) -> u16
-    ensures { λ r. ⌜ r ≡ b - 0x6f ⌝ }
-{
-    if b < 0x6f { 0 } else { (b - 0x6f) as u16 }
-}
-
-fn command_of(b: u8) -> Step
-    ensures { λ r. ⌜ r ≡ commandOf b ⌝ }
-{
-    if b == 0xb4 {
-        return Step::Next(Await::Register);
-    }
-    if b == 0x61 {
-        return Step::Next(Await::Low);
-    }
-    if b == 0x62 {
-        return Step::Says(Said::Wait(735));
-    }
-    if b == 0x63 {
-        return Step::Says(Said::Wait(882));
-    }
-    if arith::both_of(0x70 <= b, b <= 0x7f) {
-        return Step::Says(Said::Wait(short(b)));
-    }
-    if b == 0x66 {
-        return Step::End;
-    }
-    Step::Fault(25)
-}
-
-fn register_of(b: u8) -> Step
-    ensures { λ r. ⌜ r ≡ registerOf b ⌝ }
-{
-    if bus::is_register(0x4000 + (b as u16)) {
-        Step::Next(Await::Value(b))
-    } else {
-        Step::Fault(26)
-    }
-}
-
-fn step_of(w: Await, b: u8) -> Step
-    ensures { λ r. ⌜ r ≡ byteStep w b ⌝ }
-{
-    match w {
-        Await::Command => command_of(b),
-        Await::Register => register_of(b),
-        Await::Value(r) => Step::Says(Said::Write(0x4000 + (r as u16), b)),
-        Await::Low => Step::Next(Await::High(b)),
-        Await::High(n) => Step::Says(Said::Wait((n as u16) + 256 * (b as u16))),
-    }
-}
-
-// Whether a byte ends the reading: by the end, or by a fault.
-fn stops(s: Step) -> bool
-    ensures { λ r. ⌜ r ≡ stopsAt s ⌝ }
-{
-    match s {
-        Step::End => true,
-        Step::Fault(_) => true,
-        Step::Next(_) => false,
-        Step::Says(_) => false,
-    }
-}
-
-// What is awaited behind a byte.
-fn awaits(s: Step) -> Await
-    ensures { λ r. ⌜ r ≡ awaited s ⌝ }
-{
-    match s {
-        Step::End => Await::Command,
-        Step::Fault(_) => Await::Command,
-        Step::Next(w) => w,
-        Step::Says(_) => Await::Command,
-    }
-}
-
 // The clock at which the log stands after so many samples.
 fn clocks_of(s: usize) -> usize
     requires { ⌜ s ≤ 49500000 ⌝ }
     ensures { λ r. ⌜ r ≡ stood s ⌝ }
 {
     s * 1789773 / 44100
-}
-
-// How many lines a gap is.
-fn gap_turns(g: usize) -> usize
-    requires { ⌜ g ≤ 3000000000 ⌝ }
-    ensures { λ r. ⌜ (r ≡ gapTurns g) × (r ≤ 3001) ⌝ }
-{
-    if g % 1000000 == 0 {
-        g / 1000000
-    } else {
-        g / 1000000 + 1
-    }
-}
-
-// How many bytes they are.
-fn gap_length(g: usize) -> usize
-    requires { ⌜ g ≤ 3000000000 ⌝ }
-    ensures { λ r. ⌜ (r ≡ length (gapText g)) × (r ≤ 16 * gapTurns g) ⌝ }
-{
-    let left = g % 1000000;
-    let m = 13 * (g / 1000000);
-    if left == 0 {
-        m
-    } else {
-        m + log_writer::line_length(Line::One(Act::Wait(left as u32)))
-    }
-}
-
-// Whether a count is over the totals of refusal 9 already.
-fn heavy_at(k: Count) -> bool
-    requires { ⌜ Counted k ⌝ }
-    ensures { λ r. ⌜ r ≡ heavyAt k ⌝ }
-{
-    let c = clocks_of(k.samples);
-    arith::either_of(2000000000 < c, 1000000 < k.turns)
-}
-
-// The gap before a write, and the write.
-fn count_write(k: Count) -> Count
-    requires { ⌜ Counted k × Light k ⌝ }
-    ensures { λ r. ⌜ (r ≡ countWrite k) × Counted r ⌝ }
-{
-    let c = clocks_of(k.samples);
-    let g = c - k.clock;
-    let t = gap_turns(g);
-    let n = gap_length(g);
-    Count {
-        samples: k.samples,
-        clock: c,
-        turns: k.turns + t + 1,
-        length: k.length + n + 14,
-    }
-}
-
-fn count_said(k: Count, s: Said) -> Count
-    requires { ⌜ Counted k × Light k ⌝ }
-    ensures { λ r. ⌜ (r ≡ countSaid k s) × Counted r ⌝ }
-{
-    match s {
-        Said::Wait(n) => Count {
-            samples: k.samples + (n as usize),
-            clock: k.clock,
-            turns: k.turns,
-            length: k.length,
-        },
-        Said::Write(_, _) => count_write(k),
-    }
-}
-
-fn count_light(k: Count, s: Said) -> Count
-    requires { ⌜ Counted k ⌝ }
-    ensures { λ r. ⌜ (r ≡ countStep k (Step.Says s)) × Counted r ⌝ }
-{
-    if heavy_at(k) { k } else { count_said(k, s) }
-}
-
-// A count behind a step. One that is over the totals stays as it is, so that nothing wraps and a fault further on is still found.
-fn count_step(k: Count, s: Step) -> Count
-    requires { ⌜ Counted k ⌝ }
-    ensures { λ r. ⌜ (r ≡ countStep k s) × Counted r ⌝ }
-{
-    match s {
-        Step::End => k,
-        Step::Fault(_) => k,
-        Step::Next(_) => k,
-        Step::Says(x) => count_light(k, x),
-    }
-}
-
-// A log of c clocks, t turns and n bytes, for a buffer of so many.
-fn weigh(room: usize, c: usize, t: usize, n: usize) -> Imported
-    ensures { λ r. ⌜ r ≡ importWeighed room c t n ⌝ }
-{
-    if arith::either_of(2000000000 < c, 1000000 < t) {
-        return Imported {
-            number: 9,
-            place: 0,
-            length: 0,
-        };
-    }
-    if arith::either_of(room < n, 60000 < n) {
-        return Imported {
-            number: 28,
-            place: 0,
-            length: 0,
-        };
-    }
-    Imported {
-        number: 0,
-        place: 0,
-        length: n,
-    }
-}
-
-// The answer at the end of a stream.
-fn closed(k: Count, room: usize) -> Imported
-    requires { ⌜ Counted k ⌝ }
-    ensures { λ r. ⌜ r ≡ answerFrom room k (Stream.ended []) ⌝ }
-{
-    let c = clocks_of(k.samples);
-    let g = c - k.clock;
-    let t = gap_turns(g);
-    let n = gap_length(g);
-    let e = log_writer::line_length(Line::Stop(c as u32));
-    weigh(room, c, k.turns + t, k.length + n + e)
-}
-
-// The answer where a byte ends the reading.
-fn stopped(s: Step, at: usize, k: Count, room: usize) -> Imported
-    requires { ⌜ Counted k ⌝ }
-    ensures { λ r. ⌜ r ≡ answerFrom room k (stoppedAt s at) ⌝ }
-{
-    match s {
-        Step::End => closed(k, room),
-        Step::Fault(q) => Imported {
-            number: q,
-            place: at,
-            length: 0,
-        },
-        Step::Next(_) => closed(k, room),
-        Step::Says(_) => closed(k, room),
-    }
-}
-
-// The answer for a stream, and a buffer of so many bytes.
-fn measure(stream: &[u8], room: usize) -> Imported
-    ensures { λ r. ⌜ r ≡ importOf (now (stream .entry)) room ⌝ }
-{
-    let n = stream.len();
-    let mut i = 0;
-    let mut w = Await::Command;
-    let mut k = Count {
-        samples: 0,
-        clock: 0,
-        turns: 0,
-        length: 6,
-    };
-    while i < n {
-        let s = step_of(w, stream[i]);
-        if stops(s) {
-            return stopped(s, i, k, room);
-        }
-        w = awaits(s);
-        k = count_step(k, s);
-        i += 1;
-    }
-    Imported {
-        number: 27,
-        place: n,
-        length: 0,
-    }
 }
 
 // So many waits of 1,000,000.
@@ -420,13 +138,13 @@ fn write_rest(stream: &[u8], out: &mut [u8], first: usize)
         place: first,
     };
     while i < n {
-        let s = step_of(w, stream[i]);
-        if stops(s) {
+        let s = log_stream::step_of(w, stream[i]);
+        if log_stream::stops(s) {
             pen_end(out, p);
             return;
         }
         p = pen_step(out, p, s);
-        w = awaits(s);
+        w = log_stream::awaits(s);
         i += 1;
     }
 }
@@ -447,7 +165,7 @@ pub fn import(stream: &[u8], out: &mut [u8]) -> Imported
     ensures { λ r. ⌜ now (out .exit) ≡ bufferOf (now (stream .entry)) (now (out .entry)) ⌝ }
     ensures { λ r. ⌜ (r .number ≡ 0 → Stands (now (stream .entry)) (take (r .length) (now (out .exit)))) ⌝ }
 {
-    let r = measure(stream, out.len());
+    let r = log_measure::measure(stream, out.len());
     let number = r.number;
     if number == 0 {
         write_log(stream, out);

@@ -11,9 +11,9 @@ use Rattle.log_line.specs.declared.Line.the-variants.{Header, Machine}
 use Rattle.log_line.specs.Printed.{ended, lineText}
 use Rattle.log_spot.specs.declared.Stand.the-variants.{First, Among}
 use Rattle.log_spot.specs.declared.Found.the-variants.{Right}
-use Rattle.log_spot.specs.Begins.{keysOf}
+use Rattle.log_spot.specs.Allowed.{keysOf}
 use Rattle.log_spot.specs.Fault.{spotOf}
-use Rattle.log_spot.specs.Fronts.{allowed}
+use Rattle.log_front.specs.Fronts.{allowed}
 use Rattle.log_spot.proofs.FaultLaws.{right-line, line-right}
 use Rattle.log_judge.specs.declared.Reading.the-variants.{Item}
 use Rattle.log_judge.specs.Lines.{lineLen, bytesAt, nextLine}

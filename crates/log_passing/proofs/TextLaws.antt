@@ -19,8 +19,8 @@ use Rattle.log_spot.specs.declared.Stand.the-variants.{First, Among}
 use Rattle.log_spot.specs.declared.Found.{Found}
 use Rattle.log_spot.specs.declared.Found.the-variants.{Right, Wrong}
 use Rattle.log_spot.specs.Fault.{spotOf}
-use Rattle.log_spot.specs.Fronts.{allowed}
-use Rattle.log_spot.specs.Begins.{keysOf}
+use Rattle.log_front.specs.Fronts.{allowed}
+use Rattle.log_spot.specs.Allowed.{keysOf}
 use Rattle.log_spot.proofs.FaultLaws.{line-right}
 use Rattle.log_spot.proofs.Standing.{Goes, act as acts-on, opens as opened-on, closes as closes-on, ends as ends-on, goes-may}
 use Rattle.log_judge.specs.Lines.{onto, linesOf}

@@ -5,12 +5,14 @@ use Prim.Native.Nat.{ℕ}
 use Rattle.log_line.specs.declared.Line.{Line}
 use Rattle.log_line.specs.Said.{lineOf}
 use Rattle.log_spot.specs.declared.Stand.{Stand}
-use Rattle.log_spot.specs.declared.Keys.{Keys}
+use Rattle.log_front.specs.declared.Keys.{Keys}
 use Rattle.log_spot.specs.declared.Whole.{Whole}
 use Rattle.log_spot.specs.declared.Whole.the-variants.{Fine, Start, Other}
 use Rattle.log_spot.specs.declared.Found.{Found}
 use Rattle.log_spot.specs.declared.Found.the-variants.{Right, Wrong}
-use Rattle.log_spot.specs.Begins.{keysOf, begins, reach}
+use Rattle.log_form.specs.Forms.{reach}
+use Rattle.log_front.specs.Begins.{begins}
+use Rattle.log_spot.specs.Allowed.{keysOf}
 use Rattle.log_spot.specs.Fault.{wholeOf, faultAt, spotted, spotOf}
 
 module _ (st : Stand) (s : List ℕ) (k : Keys) (l : Line) (w : Whole) (a : k ≡ keysOf st) (b : l ≡ lineOf s) (e : w ≡ wholeOf k l) where

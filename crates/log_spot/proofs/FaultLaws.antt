@@ -19,18 +19,21 @@ use Rattle.log_line.proofs.BodyLaws.{line-other}
 use Rattle.log_line.proofs.LineLaws.{read-printed, printed-read}
 use Rattle.log_spot.specs.declared.Stand.{Stand}
 use Rattle.log_spot.specs.declared.Stand.the-variants.{First, Among, Alone}
-use Rattle.log_spot.specs.declared.Keys.{Keys}
+use Rattle.log_front.specs.declared.Keys.{Keys}
 use Rattle.log_spot.specs.declared.Whole.{Whole}
 use Rattle.log_spot.specs.declared.Whole.the-variants.{Fine, Start, Other}
 use Rattle.log_spot.specs.declared.Found.{Found}
 use Rattle.log_spot.specs.declared.Found.the-variants.{Right, Wrong}
-use Rattle.log_spot.specs.Begins.{keysOf, along, anyTrue, begins, reach}
-use Rattle.log_spot.specs.Fault.{wholeOf, keyed, counts, faultAt, spotted, spotOf}
-use Rattle.log_spot.specs.Fronts.{allowed, RightForm, Fronts}
-use Rattle.log_spot.proofs.Beginnings.{begins-sound, begins-complete}
-use Rattle.log_spot.proofs.Furthest.{begins-closed}
-use Rattle.log_spot.proofs.ReachLaws.{reach-length, reach-before, reach-at, reach-all}
-use Rattle.log_spot.proofs.WholeLaws.{Reads, itself, four, reads, whole-text, OfForm}
+use Rattle.log_form.specs.Forms.{along, reach}
+use Rattle.log_front.specs.Begins.{anyTrue, begins}
+use Rattle.log_spot.specs.Allowed.{keysOf}
+use Rattle.log_front.specs.Counts.{keyed, counts}
+use Rattle.log_spot.specs.Fault.{wholeOf, faultAt, spotted, spotOf}
+use Rattle.log_front.specs.Fronts.{allowed, RightForm, Fronts}
+use Rattle.log_front.proofs.Beginnings.{begins-sound, begins-complete}
+use Rattle.log_front.proofs.Furthest.{begins-closed}
+use Rattle.log_form.proofs.ReachLaws.{reach-length, reach-before, reach-at, reach-all}
+use Rattle.log_front.proofs.WholeLaws.{Reads, itself, four, reads, whole-text, OfForm}
 
 pub zero-one : {A : Type 0} → _≡_ {A = ℕ} 0 1 → A
 zero-one e = absurd (omega arith)

@@ -1,12 +1,4 @@
 pub mod AnswerLaws
-pub mod Beginnings
-pub mod DecimalLaws
-pub mod FormLaws
-pub mod Furthest
 pub mod FaultLaws
 pub mod RangeLaws
-pub mod ReachLaws
-pub mod ScanLaws
 pub mod Standing
-pub mod WholeLaws
-pub mod WriteLaws

@@ -23,15 +23,18 @@ use Rattle.log_line.specs.declared.Line.the-variants.{Header, Machine, One, Loo
 use Rattle.log_line.specs.Said.{lineOf}
 use Rattle.log_line.specs.Printed.{actText, ended, lineText}
 use Rattle.log_spot.specs.declared.Stand.{Stand}
-use Rattle.log_spot.specs.declared.Keys.{Keys}
+use Rattle.log_front.specs.declared.Keys.{Keys}
 use Rattle.log_spot.specs.declared.Found.the-variants.{Right, Wrong}
-use Rattle.log_spot.specs.Begins.{keysOf, begins, reach}
-use Rattle.log_spot.specs.Fault.{keyed, unfed, said, counts, spotOf}
-use Rattle.log_spot.specs.Fronts.{allowed, RightForm, Fronts}
-use Rattle.log_spot.proofs.Beginnings.{begins-complete}
-use Rattle.log_spot.proofs.Furthest.{begins-closed}
-use Rattle.log_spot.proofs.ReachLaws.{reach-all}
-use Rattle.log_spot.proofs.WholeLaws.{feed-split}
+use Rattle.log_form.specs.Forms.{reach}
+use Rattle.log_front.specs.Begins.{begins}
+use Rattle.log_spot.specs.Allowed.{keysOf}
+use Rattle.log_front.specs.Counts.{keyed, unfed, said, counts}
+use Rattle.log_spot.specs.Fault.{spotOf}
+use Rattle.log_front.specs.Fronts.{allowed, RightForm, Fronts}
+use Rattle.log_front.proofs.Beginnings.{begins-complete}
+use Rattle.log_front.proofs.Furthest.{begins-closed}
+use Rattle.log_form.proofs.ReachLaws.{reach-all}
+use Rattle.log_front.proofs.WholeLaws.{feed-split}
 use Rattle.log_spot.proofs.FaultLaws.{zero-one, Came, fine, start, feed, key, range, shape, came, starts-small, FirstByte, first-byte}
 
 -- THE `=` OF A KEY STANDS BEHIND ALL OF ITS LETTERS

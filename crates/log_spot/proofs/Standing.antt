@@ -14,10 +14,13 @@ use Rattle.log_spot.specs.declared.Stand.{Stand}
 use Rattle.log_spot.specs.declared.Stand.the-variants.{First, Among, Alone}
 use Rattle.log_spot.specs.declared.Whole.the-variants.{Start}
 use Rattle.log_spot.specs.declared.Found.the-variants.{Right, Wrong}
-use Rattle.log_spot.specs.Begins.{keysOf, begins, reach}
-use Rattle.log_spot.specs.Fault.{keyed, wholeOf, spotted, spotOf}
-use Rattle.log_spot.specs.Fronts.{allowed}
-use Rattle.log_spot.proofs.ReachLaws.{reach-length}
+use Rattle.log_form.specs.Forms.{reach}
+use Rattle.log_front.specs.Begins.{begins}
+use Rattle.log_spot.specs.Allowed.{keysOf}
+use Rattle.log_front.specs.Counts.{keyed}
+use Rattle.log_spot.specs.Fault.{wholeOf, spotted, spotOf}
+use Rattle.log_front.specs.Fronts.{allowed}
+use Rattle.log_form.proofs.ReachLaws.{reach-length}
 use Rattle.log_spot.proofs.RangeLaws.{far-enough}
 use Rattle.log_spot.proofs.FaultLaws.{zero-one, Came, fine, start, feed, key, range, shape, came, Fair, fair, may-fine, Starts, starts, by-four, by-seven, by-done, by-stop}
 

@@ -1,25 +1,23 @@
 -- The fault of one line, by number and byte.
-use Prim.Native.Nat.{ℕ, suc, _-_}
-use mathlib.Core.List.{List, [], _∷_, _++_}
-use mathlib.Core.Bool.{Bool, true, false, not}
-use lib.ListN.{length, getD, take, drop}
+use Prim.Native.Nat.{ℕ}
+use mathlib.Core.List.{List}
+use mathlib.Core.Bool.{Bool, not}
+use lib.ListN.{length, take}
 use lib.Dec.{eqb}
-use Rattle.arith.specs.Pick.{pick, both, either}
-use Rattle.text.specs.Ascii.{bytes}
-use Rattle.text.specs.Key.{startsWith}
-use Rattle.text.specs.Decimal.{decimal}
-use Rattle.text.specs.declared.Number.{Number}
-use Rattle.text.specs.declared.Number.the-variants.{Is, None}
+use Rattle.arith.specs.Pick.{pick, both}
 use Rattle.log_line.specs.declared.Line.{Line}
 use Rattle.log_line.specs.declared.Line.the-variants.{Header, Machine, One, Loop, Done, Stop, Bad}
 use Rattle.log_line.specs.Said.{lineOf}
+use Rattle.log_form.specs.Forms.{reach}
+use Rattle.log_front.specs.declared.Keys.{Keys}
+use Rattle.log_front.specs.Begins.{begins}
+use Rattle.log_front.specs.Counts.{keyed, counts}
 use Rattle.log_spot.specs.declared.Stand.{Stand}
-use Rattle.log_spot.specs.declared.Keys.{Keys}
 use Rattle.log_spot.specs.declared.Whole.{Whole}
 use Rattle.log_spot.specs.declared.Whole.the-variants.{Fine, Start, Other}
 use Rattle.log_spot.specs.declared.Found.{Found}
 use Rattle.log_spot.specs.declared.Found.the-variants.{Right, Wrong}
-use Rattle.log_spot.specs.Begins.{keysOf, begins, reach}
+use Rattle.log_spot.specs.Allowed.{keysOf}
 
 -- a whole line of right form: right where it is allowed, or 4; "past the first line" one that is not allowed is 7 or 8
 unfoldable pub wholeOf : Keys → Line → Whole
@@ -30,26 +28,6 @@ wholeOf k (Loop n) = pick (k .loops) Fine (pick (not (k .log)) (Start 7) Other)
 wholeOf k Done = pick (k .done) Fine (pick (not (k .log)) (Start 8) Other)
 wholeOf k (Stop n) = pick (k .stop) Fine (pick (not (k .log)) (Start 8) Other)
 wholeOf k (Bad n) = pick (both (eqb n 4) (k .acts)) (Start 4) Other
-
--- `=` (61) stands in s
-unfoldable pub keyed : List ℕ → Bool
-keyed [] = false
-keyed (c ∷ s) = either (eqb c 61) (keyed s)
-
--- s up to its last byte, if that is a line feed
-unfoldable pub unfed : List ℕ → List ℕ
-unfed s = pick (eqb (getD s (length s - 1) 0) 10) (take (length s - 1) s) s
-
--- "a decimal of right shape"
-unfoldable pub said : Number → Bool
-said (Is n) = true
-said None = false
-
--- all behind a key that takes a decimal is one: from its first digit, at 5, to the line feed or the log's end
-unfoldable pub counts : List ℕ → Bool
-counts s =
-    both (either (startsWith (bytes "wait=") s) (either (startsWith (bytes "loop=") s) (startsWith (bytes "stop=") s)))
-    (said (decimal (unfed (drop 5 s))))
 
 -- i is the first byte with which no allowed right line begins. 17: "line feed missing", the log ends where what stands could still begin such a line;
 -- 14: "unknown key", "a fault up to the `=` is the key's"; 16: "value outside its range", at "the value's first digit"; 15: "value not of its shape"

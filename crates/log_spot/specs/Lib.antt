@@ -1,5 +1,3 @@
-pub mod Begins
+pub mod Allowed
 pub mod Fault
-pub mod Fronts
-pub mod Matching
 pub mod Settled

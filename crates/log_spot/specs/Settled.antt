@@ -18,8 +18,11 @@ use Rattle.log_spot.specs.declared.Stand.{Stand}
 use Rattle.log_spot.specs.declared.Stand.the-variants.{First, Among, Alone}
 use Rattle.log_spot.specs.declared.Found.{Found}
 use Rattle.log_spot.specs.declared.Found.the-variants.{Right, Wrong}
-use Rattle.log_spot.specs.Begins.{keysOf, suits, along, nothing, goesOn, beginsNumber, anyTrue, begins, reach}
-use Rattle.log_spot.specs.Fault.{wholeOf, keyed, unfed, said, counts, faultAt, spotted, spotOf}
+use Rattle.log_form.specs.Forms.{suits, along, nothing, goesOn, beginsNumber, reach}
+use Rattle.log_front.specs.Begins.{anyTrue, begins}
+use Rattle.log_spot.specs.Allowed.{keysOf}
+use Rattle.log_front.specs.Counts.{keyed, unfed, said, counts}
+use Rattle.log_spot.specs.Fault.{wholeOf, faultAt, spotted, spotOf}
 
 -- a line with its line feed, or at the log's end without one
 pub data LineRow : Type 0 where

@@ -4,9 +4,9 @@ ghost use mathlib.Core.Path.{_≡_};
 ghost use Prim.Native.Nat.{_+_, _≤_, _<_};
 ghost use lib.ListN.{length, getD, drop};
 ghost use Rattle.text_print.specs.Printed.{printed, placed, Put};
-ghost use Rattle.log_import.specs.Import.{importOf, bufferOf};
+ghost use Rattle.log_measure.specs.Import.{importOf, bufferOf};
 ghost use Rattle.perch_import.specs.File.{word, dataStart, commandsAt, placeFrom, broughtFrom, broughtOf, leftIn, refusedText};
-use log_import::Imported;
+use log_measure::Imported;
 
 // The command part of a file: from where on it stands, or why there is none: it is no VGM file, its header is cut short, or its header points out of the file.
 pub enum Part {

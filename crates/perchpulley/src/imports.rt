@@ -2,7 +2,7 @@
 ghost use mathlib.Core.Path.{_≡_};
 ghost use Prim.Native.Nat.{_/_, _%_, _^_};
 ghost use lib.ListN.{length, take};
-ghost use Rattle.log_import.specs.Import.{bufferOf};
+ghost use Rattle.log_measure.specs.Import.{bufferOf};
 ghost use Rattle.log_import.specs.Stamps.{Stands};
 ghost use Rattle.c_import.specs.Packed.{importPacked};
 

@@ -1,6 +1,6 @@
 use borrow.Author.Needs.{needs}
 use mathlib.Core.Path.{refl}
-use Rattle.log_import.specs.Import.{stood}
+use Rattle.log_measure.specs.Import.{stood}
 use Rattle.log_import.proofs.clocks_of.Statement.{statement}
 use Rattle.log_import.proofs.clocks_of.Tie as tie
 

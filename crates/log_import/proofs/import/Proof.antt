@@ -1,7 +1,7 @@
 use borrow.Author.Needs.{needs}
 use mathlib.Core.Path.{sym, ap, _∙_}
-use Rattle.log_import.specs.declared.Imported.{Imported}
-use Rattle.log_import.proofs.AnswerLaws.{ready, buffer-written, buffer-kept}
+use Rattle.log_measure.specs.declared.Imported.{Imported}
+use Rattle.log_import.proofs.ReadyLaws.{ready, buffer-written, buffer-kept}
 use Rattle.log_import.proofs.ImportLaws.{Bytes}
 use Rattle.log_import.proofs.Promised.{bytes-of, promised}
 use native.Mathlib.Omega.{arith}

@@ -2,7 +2,7 @@ use borrow.Author.Needs.{needs}
 use mathlib.Core.Path.{refl, sym}
 use native.Mathlib.Nat.{add-zero}
 use native.Mathlib.Omega.{arith}
-use Rattle.log_import.specs.Measure.{stepText, stepSamples, stepClock}
+use Rattle.log_import.specs.Write.{stepText, stepSamples, stepClock}
 use Rattle.log_import.proofs.pen_said.Statement.{statement}
 use Rattle.log_import.proofs.pen_said.Tie as tie
 

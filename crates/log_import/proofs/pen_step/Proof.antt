@@ -1,7 +1,7 @@
 use borrow.Author.Needs.{needs}
 use mathlib.Core.Path.{refl, sym}
 use native.Mathlib.Nat.{add-zero}
-use Rattle.log_import.specs.Measure.{stepText, stepSamples, stepClock}
+use Rattle.log_import.specs.Write.{stepText, stepSamples, stepClock}
 use Rattle.log_import.proofs.pen_step.Statement.{statement}
 use Rattle.log_import.proofs.pen_step.Tie as tie
 

@@ -1,6 +1,6 @@
 use borrow.Author.Needs.{needs}
 use native.Mathlib.Omega.{arith}
-use Rattle.log_import.specs.Measure.{stepSamples}
+use Rattle.log_import.specs.Write.{stepSamples}
 use Rattle.log_import.proofs.WriteLaws.{write-gap, write-penned}
 use Rattle.log_import.proofs.pen_write.Statement.{statement}
 use Rattle.log_import.proofs.pen_write.Tie as tie

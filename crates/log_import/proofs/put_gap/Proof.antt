@@ -2,8 +2,8 @@ use borrow.Author.Needs.{needs}
 use Prim.Native.Nat.{_/_, _%_}
 use native.Mathlib.Omega.{arith}
 use Rattle.text_print.proofs.PieceLaws.{put-two, put-size}
-use Rattle.log_import.specs.Measure.{gapText, millions, restText}
-use Rattle.log_import.proofs.GapLaws.{gap-long, millions-long}
+use Rattle.log_measure.specs.Measure.{gapText, millions, restText}
+use Rattle.log_measure.proofs.GapLaws.{gap-long, millions-long}
 use Rattle.log_import.proofs.put_gap.Statement.{statement}
 use Rattle.log_import.proofs.put_gap.Tie as tie
 

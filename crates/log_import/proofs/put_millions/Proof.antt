@@ -3,7 +3,7 @@ use Prim.Native.Nat.{_+_, _-_, _≤_}
 use native.Mathlib.Omega.{arith}
 use lib.ListN.{length}
 use lib.Seq.{sets}
-use Rattle.log_import.specs.Measure.{millions}
+use Rattle.log_measure.specs.Measure.{millions}
 use Rattle.log_import.proofs.PenLaws.{million-all, million-step, millions-done}
 use Rattle.log_import.proofs.put_millions.Statement.{statement}
 use Rattle.log_import.proofs.put_millions.Tie as tie

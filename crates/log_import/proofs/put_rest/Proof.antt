@@ -3,7 +3,7 @@ use borrow.Author.Tests.{eq-eqb, ne-eqb}
 use mathlib.Core.Path.{refl, sym}
 use native.Mathlib.Nat.{add-zero}
 use Rattle.text_print.proofs.PieceLaws.{put-last}
-use Rattle.log_import.specs.Measure.{restText}
+use Rattle.log_measure.specs.Measure.{restText}
 use Rattle.log_import.proofs.put_rest.Statement.{statement}
 use Rattle.log_import.proofs.put_rest.Tie as tie
 

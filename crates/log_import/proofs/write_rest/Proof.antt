@@ -4,8 +4,8 @@ use Prim.Native.Nat.{_+_, _-_, _≤_}
 use native.Mathlib.Omega.{arith}
 use lib.ListN.{length, drop}
 use lib.Seq.{sets}
-use Rattle.log_import.specs.Stream.{streamFrom, streamOf}
-use Rattle.log_import.specs.Measure.{Writing, tailOf}
+use Rattle.log_stream.specs.Stream.{streamFrom, streamOf}
+use Rattle.log_import.specs.Write.{Writing, tailOf}
 use Rattle.log_import.proofs.WriteLaws.{write-starts, write-penning, write-goes, write-ending, write-ends, never-out}
 use Rattle.log_import.proofs.write_rest.Statement.{statement}
 use Rattle.log_import.proofs.write_rest.Tie as tie

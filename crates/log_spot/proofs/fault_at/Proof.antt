@@ -1,7 +1,8 @@
 use mathlib.Core.Path.{sym, ap, _∙_}
 use borrow.Author.Needs.{needs}
 use borrow.Author.Tests.{eq-eqb, ne-eqb}
-use Rattle.log_spot.specs.Fault.{keyed, faultAt}
+use Rattle.log_front.specs.Counts.{keyed}
+use Rattle.log_spot.specs.Fault.{faultAt}
 use Rattle.log_spot.proofs.fault_at.Statement.{statement}
 use Rattle.log_spot.proofs.fault_at.Tie as tie
 

@@ -1,6 +1,6 @@
 use borrow.Author.Needs.{needs}
 use mathlib.Core.Path.{refl}
-use Rattle.log_spot.specs.Begins.{keysOf}
+use Rattle.log_spot.specs.Allowed.{keysOf}
 use Rattle.log_spot.proofs.keys_of.Statement.{statement}
 use Rattle.log_spot.proofs.keys_of.Tie as tie
 

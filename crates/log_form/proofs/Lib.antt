@@ -1,0 +1,4 @@
+pub mod DecimalLaws
+pub mod FormLaws
+pub mod ReachLaws
+pub mod ScanLaws

@@ -1,0 +1,5 @@
+pub mod Beginnings
+pub mod Furthest
+pub mod ValueLaws
+pub mod WholeLaws
+pub mod WriteLaws

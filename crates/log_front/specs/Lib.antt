@@ -1,0 +1,4 @@
+pub mod Begins
+pub mod Counts
+pub mod Digits
+pub mod Fronts
