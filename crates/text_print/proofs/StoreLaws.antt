@@ -11,8 +11,6 @@ use Rattle.text.specs.Hex.{hexText}
 use Rattle.text_print.specs.Printed.{printed, placed, digitsIn}
 use Rattle.text_print.proofs.DecimalLaws.{length-digits, digits-more}
 
--- STORES
-
 -- a store behind a text, before or after it
 sets-set : (vs l : List ℕ) (i p v : ℕ) → i + length vs ≤ p → set (sets l i vs) p v ≡ sets (set l p v) i vs
 sets-set [] l i p v h = refl
@@ -60,7 +58,7 @@ copy-step out text at i h =
 pub copy-end : (out text : List ℕ) (at i : ℕ) → length text ≤ i → sets out (at + i) (drop i text) ≡ out
 copy-end out text at i h = rw (drop-of-length-le text h)
 
--- DIGITS from their back
+-- digits from their back
 fill-step : (out : List ℕ) (at i j n d : ℕ) → i ≡ suc j → d ≡ 48 + n % 10
     → sets (set out (at + j) d) at (digitsIn j (n / 10)) ≡ sets out at (digitsIn i n)
 fill-step out at i j n d e f =
@@ -85,71 +83,10 @@ fill-pair out at i j n e =
     (fill-step (set out (at + suc j) (48 + n % 10)) at (suc j) j (n / 10) (48 + n / 10 % 10) refl refl
     ∙ fill-step out at i (suc j) n (48 + n % 10) e refl)
 
-hundreds-twice : (n : ℕ) → n / 10000 ≡ n / 100 / 100
-hundreds-twice n = omega arith
-
--- two digits in one word
-pub word-ones : (m : ℕ) → m ≤ 99 → (48 + m / 10 + 256 * (48 + m % 10)) / 256 ≡ 48 + m % 10
-word-ones m h = omega arith
-
-pub word-tens : (m : ℕ) → m ≤ 99 → (48 + m / 10 + 256 * (48 + m % 10)) % 256 ≡ 48 + m / 10
-word-tens m h = omega arith
-
-pub low-ones : (n : ℕ) → n % 100 % 10 ≡ n % 10
-low-ones n = omega arith
-
-pub low-tens : (n : ℕ) → n % 100 / 10 ≡ n / 10 % 10
-low-tens n =
-    let tens : n / 10 ≡ n / 100 * 10 + n % 100 / 10 = omega arith in
-    let few : n % 100 / 10 % 10 ≡ n % 100 / 10 = omega arith in
-    sym few ∙ sym (ap (λ (k : ℕ). k % 10) tens ∙ mul-add-mod-self-right (n / 100) 10 (n % 100 / 10))
-
-pub below-hundred : (n : ℕ) → n % 100 ≤ 99
-below-hundred n = omega arith
-
-pub few-hundreds : (n : ℕ) → n ≤ 9999 → n / 100 ≤ 99
-few-hundreds n h = omega arith
-
-pub thousands-twice : (n : ℕ) → n / 100 / 10 ≡ n / 1000
-thousands-twice n = omega arith
-
-one-digit : (n : ℕ) → n ≤ 9999 → n / 1000 % 10 ≡ n / 1000
-one-digit n h = omega arith
-
--- four digits at once
-pub fill-four : (out : List ℕ) (at i j n r : ℕ) → i ≡ 4 + j → r ≡ n % 10000
-    → sets (set (set (set (set out (at + j + 3) (48 + r % 10)) (at + j + 2) (48 + r / 10 % 10)) (at + j + 1) (48 + r / 100 % 10)) (at + j) (48 + r / 1000)) at (digitsIn j (n / 10000))
-    ≡ sets out at (digitsIn i n)
-fill-four out at i j n r e f =
-    let b = set (set out (at + suc (suc j) + 1) (48 + n % 100 % 10)) (at + suc (suc j)) (48 + n % 100 / 10 % 10) in
-    let small : r ≤ 9999 = omega arith in
-    let low : n % 100 ≡ r % 100 =
-    ap (λ (k : ℕ). k % 100) (omega arith) ∙ mul-add-mod-self-right (n / 10000 * 100) 100 r
-    in
-    let high : n / 100 % 100 ≡ r / 100 =
-    ap (λ (k : ℕ). k % 100) (omega arith) ∙ mul-add-mod-self-right (n / 10000) 100 (r / 100) ∙ omega arith
-    in
-    let both : r / 10 ≡ r / 100 * 10 + r % 100 / 10 = omega arith in
-    let last : r % 10 ≡ r % 100 % 10 = omega arith in
-    let ones : r % 10 ≡ n % 100 % 10 = last ∙ ap (λ (k : ℕ). k % 10) (sym low) in
-    let tens : r / 10 % 10 ≡ n % 100 / 10 % 10 =
-    ap (λ (k : ℕ). k % 10) both ∙ mul-add-mod-self-right (r / 100) 10 (r % 100 / 10) ∙ ap (λ (k : ℕ). k / 10 % 10) (sym low)
-    in
-    let hundreds : r / 100 % 10 ≡ n / 100 % 100 % 10 = ap (λ (k : ℕ). k % 10) (sym high) in
-    let first = sym (ap (λ (k : ℕ). k % 10) (thousands-twice r) ∙ one-digit r small) in
-    let thousands : r / 1000 ≡ n / 100 % 100 / 10 % 10 = first ∙ ap (λ (k : ℕ). k / 10 % 10) (sym high) in
-    let rest = hundreds-twice n in
-    let third : at + j + 3 ≡ at + suc (suc j) + 1 = omega arith in
-    let second : at + j + 2 ≡ at + suc (suc j) = omega arith in
-    rw (ones, tens, hundreds, thousands, rest, third, second)
-    (fill-pair b at (suc (suc j)) j (n / 100) refl ∙ fill-pair out at i (suc (suc j)) n (omega arith))
-
 pub fill-single : (out : List ℕ) (at i n d : ℕ) → i ≡ 1 → d ≡ 48 + n % 10 → set out at d ≡ sets out at (digitsIn i n)
 fill-single out at i n d e f =
     let place : at + 0 ≡ at = omega arith in
     sym (fill-end (set out at d) at 0 (n / 10) refl) ∙ (rw place at (fill-step out at i 0 n d e f))
-
--- HEX DIGITS
 
 pub length-hex : (v : ℕ) → length (hexText 2 v) ≡ 2
 unfolding hexText
@@ -175,7 +112,7 @@ pub length-four : (v : ℕ) → length (hexText 4 v) ≡ 4
 unfolding hexText
 length-four v = refl
 
--- ROOM: what a caller with room learns
+-- what a caller with room learns
 module _ (out : List ℕ) (at : ℕ) (text : List ℕ) (h : at + length text ≤ length out) where
   pub placed-in : placed out at text ≡ at + length text
   unfolding placed

@@ -1,6 +1,6 @@
 // Text in bytes, written over lent bytes: a fixed text, decimals, two or four hex digits.
 ghost use mathlib.Core.Path.{_≡_};
-ghost use Prim.Native.Nat.{_+_, _*_, _/_, _%_, _≤_, _<_};
+ghost use Prim.Native.Nat.{_+_, _/_, _%_, _≤_, _<_};
 ghost use lib.ListN.{length, set};
 ghost use lib.Seq.{sets};
 ghost use Rattle.text.specs.Decimal.{decimalText};
@@ -115,30 +115,8 @@ fn single(out: &mut [u8], at: usize, k: usize, n: u64)
     }
 }
 
-// Two digits of a number below 100 as a word of two bytes, the tens in the low one.
-fn pair_word(n: u32) -> u32
-    requires { ⌜ n ≤ 99 ⌝ }
-    ensures { λ r. ⌜ r ≡ 48 + n / 10 + 256 * (48 + n % 10) ⌝ }
-{
-    let tens = n * 103 / 1024;
-    12336 + 256 * n - 2559 * tens
-}
-
-// The four digits of a number below 10,000 from a place on, the last one first; each two of them are one store.
-fn group(out: &mut [u8], at: usize, n: u32)
-    requires { ⌜ (at + 4 ≤ length (now out)) × (n ≤ 9999) ⌝ }
-    ensures { λ r. ⌜ now (out .exit) ≡ set (set (set (set (now (out .entry)) (at + 3) (48 + n % 10)) (at + 2) (48 + n / 10 % 10)) (at + 1) (48 + n / 100 % 10)) at (48 + n / 1000) ⌝ }
-{
-    let high = pair_word(n / 100);
-    let low = pair_word(n % 100);
-    out[at + 3] = (low / 256) as u8;
-    out[at + 2] = (low % 256) as u8;
-    out[at + 1] = (high / 256) as u8;
-    out[at] = (high % 256) as u8;
-}
-
 // The last k digits of a number from a place on, the last two first.
-fn few_digits(out: &mut [u8], at: usize, k: usize, n: u64)
+fn digits(out: &mut [u8], at: usize, k: usize, n: u64)
     requires { ⌜ at + k ≤ length (now out) ⌝ }
     ensures { λ r. ⌜ now (out .exit) ≡ sets (now (out .entry)) at (digitsIn k n) ⌝ }
 {
@@ -150,21 +128,6 @@ fn few_digits(out: &mut [u8], at: usize, k: usize, n: u64)
         left = left / 100;
     }
     single(out, at, i, left);
-}
-
-// The same, the last four first.
-fn digits(out: &mut [u8], at: usize, k: usize, n: u64)
-    requires { ⌜ at + k ≤ length (now out) ⌝ }
-    ensures { λ r. ⌜ now (out .exit) ≡ sets (now (out .entry)) at (digitsIn k n) ⌝ }
-{
-    let mut i = k;
-    let mut left = n;
-    while 3 < i {
-        i -= 4;
-        group(out, at + i, (left % 10000) as u32);
-        left = left / 10000;
-    }
-    few_digits(out, at, i, left);
 }
 
 // A number below 10,000,000,000 in decimal where it fits, and the place behind it.
