@@ -44,7 +44,7 @@ fn put_word(out: &mut [u8], at: usize, w: u64)
     out[at + 7] = (eighth % 256) as u8;
 }
 
-// A number below 10,000 as two numbers below 100, 16 bits each, the hundreds in the low ones.
+// A number below 10,000 as two numbers below 100, 16 bits each, the hundreds in the low ones; 5243 / 524288 is near enough to 1 / 100.
 fn pairs(n: u64) -> u64
     requires { ⌜ n ≤ 9999 ⌝ }
     ensures { λ r. ⌜ r ≡ n / 100 + 65536 * (n % 100) ⌝ }
@@ -53,7 +53,7 @@ fn pairs(n: u64) -> u64
     hundreds + 65536 * (n - 100 * hundreds)
 }
 
-// The tens of four numbers below 100, 16 bits each.
+// The tens of four numbers below 100, 16 bits each, by one product: 103 / 1024 is near enough to 1 / 10, and each stays within its bits.
 fn tens(p: u64) -> u64
     requires { ⌜ Hundreds 4 p ⌝ }
     ensures { λ r. ⌜ r ≡ tensOf 4 p ⌝ }
@@ -65,7 +65,8 @@ fn tens(p: u64) -> u64
     first % 64 + 65536 * (second % 64 + 65536 * (third % 64 + 65536 * fourth))
 }
 
-// The four digits of one number below 10,000 and the four of another, as a word.
+// The four digits of one number below 10,000 and the four of another, as a word: 48 in each byte, and each number below 100 in the second of its two;
+// 2559, that is 10 * 256 - 1, times its tens takes them off there and puts them into the first.
 fn eight_digits(a: u64, b: u64) -> u64
     requires { ⌜ (a ≤ 9999) × (b ≤ 9999) ⌝ }
     ensures { λ r. ⌜ r ≡ wordOf (digitsIn 4 a ++ digitsIn 4 b) ⌝ }
@@ -84,7 +85,7 @@ fn digits_word(n: u64, size: usize) -> u64
     all >> 8 * (8 - size)
 }
 
-// These of a time.
+// That of a time.
 fn high_of(time: u64) -> High
     requires { ⌜ time ≤ 9999999999 ⌝ }
     ensures { λ r. ⌜ r ≡ highOf time ⌝ }
@@ -99,7 +100,7 @@ fn high_of(time: u64) -> High
     }
 }
 
-// The same for a time that may be near the last one.
+// The same, where it may be that of an earlier time already.
 fn high_at(h: High, time: u64) -> High
     requires { ⌜ ((t : ℕ) × (h ≡ highOf t)) × (time ≤ 9999999999) ⌝ }
     ensures { λ r. ⌜ r ≡ highOf time ⌝ }
@@ -135,7 +136,9 @@ fn level_word(level: u32, four: u64, dropped: u32) -> u64
     ensures { λ r. ⌜ r ≡ wordOf (58 ∷ (decimalText level ++ (10 ∷ []))) ⌝ }
 {
     let first = (level / 10000) as u64;
+    // 10 in the sixth byte, the line feed
     let five = 48 + first + 256 * four + 10995116277760;
+    // 58, the colon
     (five >> 8 * dropped) * 256 + 58
 }
 
@@ -148,6 +151,7 @@ fn line_ahead(out: &mut [u8], at: usize, h: High, time: u64, level: u32) -> usiz
     let both = eight_digits(time - h.base, (level % 10000) as u64);
     let dropped = missing(level);
     let colon = at + 6 + h.size + 4;
+    // `level=`
     put_word(out, at, 67535768020332);
     put_word(out, at + 6, h.word);
     put_word(out, at + 6 + h.size, both);
