@@ -4,31 +4,24 @@ use mathlib.Core.Path.{_≡_, refl, sym, ap, _∙_}
 use mathlib.Core.List.{List, [], _∷_, _++_, append-assoc, append-nil}
 use native.Mathlib.Omega.{arith}
 use lib.ListN.{length, set, length-append}
-use lib.Seq.{sets, length-sets, set-set, set-comm}
+use lib.Seq.{sets, length-sets, set-set}
 use Rattle.text.specs.Ascii.{bytes}
 use Rattle.text.specs.Decimal.{decimalText}
 use Rattle.text_print.specs.Printed.{digitsIn}
 use Rattle.text_print.proofs.DecimalLaws.{length-digits}
-use Rattle.text_print.proofs.StoreLaws.{sets-append}
+use Rattle.text_print.proofs.StoreLaws.{sets-set, sets-append}
 use Rattle.play_text.specs.declared.Entry.the-variants.{Level}
 use Rattle.play_text.specs.Entries.{entryText}
 use Rattle.play_levels.specs.Words.{wordOf, wordBytes, Ahead}
 use Rattle.play_levels.proofs.WordLaws.{Bytes, bytes-append, word-bytes, length-bytes}
 use Rattle.play_levels.proofs.DigitLaws.{digit-bytes, decimal-bytes, high-size, decimal-split}
 
--- a store before a text, before or after it
-set-before : (vs l : List ℕ) (p i v : ℕ) → p < i → set (sets l i vs) p v ≡ sets (set l p v) i vs
-set-before [] l p i v h = refl
-set-before (w ∷ vs) l p i v h =
-    let apart : i ≡ p → ⊥ = λ e. omega arith in
-    set-before vs (set l i w) p (suc i) v (omega arith) ∙ ap (λ (m : List ℕ). sets m (suc i) vs) (set-comm l i p w v apart)
-
 -- a text over another that is no longer
 covered : (junk u l : List ℕ) (i : ℕ) → length junk ≤ length u → sets (sets l i junk) i u ≡ sets l i u
 covered [] u l i h = refl
 covered (j ∷ js) [] l i h = absurd (omega arith)
 covered (j ∷ js) (v ∷ vs) l i h =
-    ap (λ (m : List ℕ). sets m (suc i) vs) (set-before js (set l i j) i (suc i) v (omega arith) ∙ ap (λ (m : List ℕ). sets m (suc i) js) (set-set l i j v))
+    ap (λ (m : List ℕ). sets m (suc i) vs) (sets-set js (set l i j) (suc i) i v (λ k m e. omega (arith, e)) ∙ ap (λ (m : List ℕ). sets m (suc i) js) (set-set l i j v))
     ∙ covered js vs (set l i v) (suc i) (omega arith)
 
 -- a text stored with something behind it

@@ -11,12 +11,12 @@ use Rattle.text.specs.Hex.{hexText}
 use Rattle.text_print.specs.Printed.{printed, placed, digitsIn}
 use Rattle.text_print.proofs.DecimalLaws.{length-digits, digits-more}
 
--- a store behind a text, before or after it
-sets-set : (vs l : List ℕ) (i p v : ℕ) → i + length vs ≤ p → set (sets l i vs) p v ≡ sets (set l p v) i vs
+-- a store on no byte of a text, before or after it
+pub sets-set : (vs l : List ℕ) (i p v : ℕ) → ((k : ℕ) → k < length vs → i + k ≡ p → ⊥) → set (sets l i vs) p v ≡ sets (set l p v) i vs
 sets-set [] l i p v h = refl
 sets-set (w ∷ vs) l i p v h =
-    let apart : i ≡ p → ⊥ = λ e. omega arith in
-    sets-set vs (set l i w) (suc i) p v (omega arith) ∙ ap (λ (m : List ℕ). sets m (suc i) vs) (set-comm l i p w v apart)
+    let apart : i ≡ p → ⊥ = λ e. h 0 (omega arith) (omega (arith, e)) in
+    sets-set vs (set l i w) (suc i) p v (λ k m e. h (suc k) (omega (arith, m)) (omega (arith, e))) ∙ ap (λ (m : List ℕ). sets m (suc i) vs) (set-comm l i p w v apart)
 
 -- a text, and another one behind it
 pub sets-append : (u v l : List ℕ) (i : ℕ) → sets (sets l i u) (i + length u) v ≡ sets l i (u ++ v)
@@ -30,7 +30,7 @@ sets-last : (u l : List ℕ) (i k v : ℕ) → length u ≡ k → sets l i (u ++
 sets-last u l i k v e =
     sym (sets-append u (v ∷ []) l i)
     ∙ ap (λ (n : ℕ). set (sets l i u) (i + n) v) e
-    ∙ sets-set u l i (i + k) v (omega arith)
+    ∙ sets-set u l i (i + k) v (λ j m f. omega (arith, m, f, e))
 
 module _ (out : List ℕ) (at : ℕ) (text : List ℕ) (k : ℕ) (long : length text ≡ k) where
   -- a text that fits is written
