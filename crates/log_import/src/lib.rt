@@ -7,7 +7,7 @@ ghost use lib.ListN.{length, take};
 ghost use lib.Seq.{sets};
 ghost use Rattle.text_print.specs.Printed.{Put};
 ghost use Rattle.log_stream.specs.Stream.{streamOf};
-ghost use Rattle.log_measure.specs.Import.{stood, importOf, bufferOf, textOf};
+ghost use Rattle.log_measure.specs.Import.{importOf, bufferOf, textOf};
 ghost use Rattle.log_measure.specs.Measure.{gapText, millions, restText};
 ghost use Rattle.log_import.specs.Stamps.{Stands};
 ghost use Rattle.log_import.specs.Write.{Penned, Penning, Ending, Ready, Headed, tailFrom, tailOf};
@@ -24,14 +24,6 @@ pub struct Pen {
     pub samples: usize,
     pub clock: usize,
     pub place: usize,
-}
-
-// The clock at which the log stands after so many samples.
-fn clocks_of(s: usize) -> usize
-    requires { ⌜ s ≤ 49500000 ⌝ }
-    ensures { λ r. ⌜ r ≡ stood s ⌝ }
-{
-    s * 1789773 / 44100
 }
 
 // So many waits of 1,000,000.
@@ -73,7 +65,7 @@ fn pen_write(out: &mut [u8], p: Pen, register: u16, value: u8) -> Pen
     requires { ⌜ Penning p (Step.Says (Said.Write register value)) (now out) ⌝ }
     ensures { λ r. ⌜ Penned (now (out .entry)) p (Step.Says (Said.Write register value)) (now (out .exit)) r ⌝ }
 {
-    let stands = clocks_of(p.samples);
+    let stands = log_measure::clocks_of(p.samples as u32);
     let a = put_gap(out, p.place, stands - p.clock);
     let b = log_writer::put_line(
         out,
@@ -119,7 +111,7 @@ fn pen_end(out: &mut [u8], p: Pen)
     requires { ⌜ Ending p (now out) ⌝ }
     ensures { λ r. ⌜ now (out .exit) ≡ sets (now (out .entry)) (p .place) (tailFrom (p .samples) (p .clock) []) ⌝ }
 {
-    let c = clocks_of(p.samples);
+    let c = log_measure::clocks_of(p.samples as u32);
     let a = put_gap(out, p.place, c - p.clock);
     log_writer::put_line(out, a, Line::Stop(c as u32));
 }

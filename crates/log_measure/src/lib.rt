@@ -29,11 +29,10 @@ pub struct Count {
 }
 
 // The clock at which the log stands after so many samples.
-fn clocks_of(s: usize) -> usize
-    requires { ⌜ s ≤ 49500000 ⌝ }
+pub fn clocks_of(s: u32) -> usize
     ensures { λ r. ⌜ r ≡ stood s ⌝ }
 {
-    s * 1789773 / 44100
+    s as usize * 1789773 / 44100
 }
 
 // How many lines a gap is.
@@ -67,7 +66,7 @@ fn heavy_at(k: Count) -> bool
     requires { ⌜ Counted k ⌝ }
     ensures { λ r. ⌜ r ≡ heavyAt k ⌝ }
 {
-    let c = clocks_of(k.samples);
+    let c = clocks_of(k.samples as u32);
     arith::either_of(2000000000 < c, 1000000 < k.turns)
 }
 
@@ -76,7 +75,7 @@ fn count_write(k: Count) -> Count
     requires { ⌜ Counted k × Light k ⌝ }
     ensures { λ r. ⌜ (r ≡ countWrite k) × Counted r ⌝ }
 {
-    let c = clocks_of(k.samples);
+    let c = clocks_of(k.samples as u32);
     let g = c - k.clock;
     let t = gap_turns(g);
     let n = gap_length(g);
@@ -153,7 +152,7 @@ fn closed(k: Count, room: usize) -> Imported
     requires { ⌜ Counted k ⌝ }
     ensures { λ r. ⌜ r ≡ answerFrom room k (Stream.ended []) ⌝ }
 {
-    let c = clocks_of(k.samples);
+    let c = clocks_of(k.samples as u32);
     let g = c - k.clock;
     let t = gap_turns(g);
     let n = gap_length(g);

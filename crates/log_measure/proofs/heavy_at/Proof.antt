@@ -8,4 +8,4 @@ unfolding heavyAt
 returns c = rw (c .either-of .ensures, c .before .before .clocks-of .ensures)
 
 pub heavy-at-spec : {M : Type 1} → statement M
-heavy-at-spec = tie.close (tie.spec (λ c κs. search needs) (λ c κs. tt) returns)
+heavy-at-spec = tie.close (tie.spec (λ c. search needs) (λ c κs. search needs) (λ c κs. tt) returns)
