@@ -16,26 +16,9 @@ use Rattle.play_text.proofs.TextLaws.{decimal-ten}
 use Rattle.log_judge.specs.declared.Checked.{Checked}
 use Rattle.log_judge.specs.Whole.{checkOf}
 use Rattle.perch_place.specs.Place.{lineNumber, column}
-use Rattle.perch_check.specs.Reasons.{reasonText}
 use Rattle.perch_check.specs.Report.{numberLine, machineLine, passedText, refusedLine, reasonLine, refusedText, outcomeText, checkText}
+use Rattle.perch_reasons.proofs.Sizes.{reason-size}
 use Rattle.perch_place.proofs.Sizes.{UpTo, line-size, mark-size, text-taken}
-
-reason-size : (n : ℕ) → UpTo 60 (reasonText n)
-unfolding reasonText
-reason-size n =
-    pick-both (UpTo 60) (eqb n 4) (omega arith)
-    (pick-both (UpTo 60) (eqb n 5) (omega arith)
-    (pick-both (UpTo 60) (eqb n 7) (omega arith)
-    (pick-both (UpTo 60) (eqb n 8) (omega arith)
-    (pick-both (UpTo 60) (eqb n 9) (omega arith)
-    (pick-both (UpTo 60) (eqb n 10) (omega arith)
-    (pick-both (UpTo 60) (eqb n 14) (omega arith)
-    (pick-both (UpTo 60) (eqb n 15) (omega arith)
-    (pick-both (UpTo 60) (eqb n 16) (omega arith)
-    (pick-both (UpTo 60) (eqb n 17) (omega arith)
-    (pick-both (UpTo 60) (eqb n 18) (omega arith)
-    (pick-both (UpTo 60) (eqb n 19) (omega arith)
-    (omega arith))))))))))))
 
 machine-size : (pal : Bool) → UpTo 12 (machineLine pal)
 unfolding machineLine

@@ -9,7 +9,7 @@ use Rattle.text.specs.Decimal.{decimalText}
 use Rattle.log_judge.specs.declared.Checked.{Checked}
 use Rattle.log_judge.specs.Whole.{checkOf}
 use Rattle.perch_place.specs.Place.{lineNumber, column}
-use Rattle.perch_check.specs.Reasons.{reasonText}
+use Rattle.perch_reasons.specs.Reasons.{reasonText}
 use Rattle.perch_place.specs.Shown.{shownLine, markLine}
 
 -- a key and a number

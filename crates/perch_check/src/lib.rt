@@ -1,6 +1,4 @@
 // What `perch check` writes about a log.
-mod reasons;
-
 ghost use mathlib.Core.Path.{_≡_};
 ghost use Prim.Native.Nat.{_+_, _≤_};
 ghost use lib.ListN.{length};
@@ -11,7 +9,7 @@ use perch_place::column;
 use perch_place::line_number;
 use perch_place::mark_line;
 use perch_place::shown_line;
-use reasons::reason;
+use perch_reasons::reason;
 
 // A key and a number.
 fn number_line(out: &mut [u8], at: usize, key: &[u8], n: u64) -> usize

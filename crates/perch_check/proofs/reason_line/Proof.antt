@@ -4,7 +4,7 @@ use mathlib.Core.List.{_++_}
 use Rattle.text.specs.Ascii.{bytes}
 use Rattle.text_print.proofs.PieceLaws.{put-last, put-more}
 use Rattle.text.specs.Decimal.{decimalText}
-use Rattle.perch_check.specs.Reasons.{reasonText}
+use Rattle.perch_reasons.specs.Reasons.{reasonText}
 use Rattle.perch_check.specs.Report.{reasonLine}
 use Rattle.perch_check.proofs.reason_line.Statement.{statement}
 use Rattle.perch_check.proofs.reason_line.Tie as tie
