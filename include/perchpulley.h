@@ -40,7 +40,7 @@
 extern "C" {
 #endif
 
-#define PERCH_VERSION 6            /* of this header; perch_version() is the library's */
+#define PERCH_VERSION 7            /* of this header; perch_version() is the library's */
 #define PERCH_STATE_SIZE 91        /* bytes of a state; perch_state_size() at run time */
 #define PERCH_MEMORY_SIZE 32768    /* bytes of sample memory, $8000 to $FFFF */
 #define PERCH_MOST_CLOCKS 1000000  /* clocks that one run may be asked for */
@@ -82,6 +82,8 @@ extern "C" {
 #define PERCH_REFUSED_STREAM_END 27 /* a VGM stream ends before its $66 */
 #define PERCH_REFUSED_ROOM 28     /* the log is longer than the buffer lent for it, or than 60,000 bytes */
 #define PERCH_REFUSED_LEVEL 29    /* a level above 32,767 */
+#define PERCH_REFUSED_REPAIRED 30 /* the repaired log is longer than the buffer lent for it, or than 60,000 bytes */
+#define PERCH_REFUSED_LIST 31     /* the list of what was done to repair a log has no room */
 #define PERCH_REFUSED_FOLD_ROOM 32 /* the buffer is shorter than the log to be folded */
 
 /* The number of an answer, and its value. */
@@ -242,6 +244,20 @@ uint64_t perch_cursor_next(uint8_t *cursor, size_t c, const uint8_t *log, size_t
  * All else is copied. The folded log passes perch_check with the same answer, stands for the same items and isn't longer.
  * The value is its length; bytes behind it stay. Refused: as the log, then t is less than n (32, at 0). */
 uint64_t perch_fold(const uint8_t *log, size_t n, uint8_t *text, size_t t);
+
+/* Repairs a damaged log, any n bytes, over the front of the text. `log=1` is added in front where it isn't the first line;
+ * each line is judged against those kept before it, and the right ones are kept; a ninth loop line goes with its `done`, its
+ * body stays; a `stop` stays only as the last line, with no loop open and a right number; at the end a `done` is added for
+ * each open loop and, if none stayed, a right `stop`. Over the front of the list's w words, two an entry, goes what was done,
+ * in its order: a line dropped, where it began in the log and why (4, 7, 8, 10, 14 to 17, 19); a line added, its place in the
+ * text and 0. The repaired log passes perch_check; a log that passes comes back byte for byte with no entry. The value is
+ * PERCH_REPAIRED_LENGTH and PERCH_REPAIRED_ENTRIES; bytes and words behind them stay. Refused, at 0: n is above 60,000 (5);
+ * the repaired log is over the totals (9), longer than the text or 60,000 bytes (30); the list has no room (31).
+ * So `log=1`, `loop=2`, `wait=09`, `wait=9`, each with its line feed, become `log=1`, `loop=2`, `wait=9`, `done=loop`, `stop=18`,
+ * and the list is 13, 15 (the third line went by 15), 20, 0 and 30, 0 (the last two were added): PERCH_REPAIRED_ENTRIES is 3. */
+uint64_t perch_salvage(const uint8_t *log, size_t n, uint8_t *text, size_t t, uint32_t *list, size_t w);
+#define PERCH_REPAIRED_LENGTH(answer) ((unsigned)((answer) >> 32 & 0xffff))
+#define PERCH_REPAIRED_ENTRIES(answer) ((unsigned)((answer) >> 48))
 
 /* WHAT OTHER PLAYERS WROTE. Brings a VGM stream, the n bytes behind a VGM file's header, in as a log over the front of the
  * text. Commands: $B4 register value; the waits $61, $62, $63 and $70..$7F, in samples at 44,100 a second; $66 the end,

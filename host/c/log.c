@@ -1,5 +1,5 @@
-/* The whole header from C, every macro and every refusal of it: what is asked of a log, its items by a cursor, the player, a VGM
- * stream brought in, the chip, why a channel is silent, a sample's sheet, a meter. Exit status 0 where every answer is as
+/* The whole header from C, every macro and every refusal of it: what is asked of a log, its items by a cursor, the player, a
+ * log folded, one repaired, a VGM stream brought in, the chip, why a channel is silent, a sample's sheet, a meter. Exit status 0 where every answer is as
  * expected. */
 #include <stdio.h>
 #include <string.h>
@@ -183,6 +183,26 @@ static void folds(void)
     expect("a log at fault", PERCH_NUMBER(perch_fold((const uint8_t *)log, 5, text, 0)), PERCH_REFUSED_FEED);
 }
 
+static void salvages(void)
+{
+    const char *log = "log=1\nloop=2\nwait=09\nwait=9\n";
+    const char *repaired = "log=1\nloop=2\nwait=9\ndone=loop\nstop=18\n";
+    const uint32_t done[] = {13, PERCH_REFUSED_SHAPE, 20, 0, 30, 0};
+    uint8_t text[60];
+    uint32_t list[8];
+    uint64_t answer = perch_salvage((const uint8_t *)log, strlen(log), text, sizeof text, list, 8);
+
+    expect("a damaged log", PERCH_NUMBER(answer), PERCH_DONE);
+    expect("the repaired log's length", PERCH_REPAIRED_LENGTH(answer), strlen(repaired));
+    expect("what was done", PERCH_REPAIRED_ENTRIES(answer), 3);
+    expect("the repaired log", (uint64_t)memcmp(text, repaired, strlen(repaired)), 0);
+    expect("its list", (uint64_t)memcmp(list, done, sizeof done), 0);
+    expect("a text one short", perch_salvage((const uint8_t *)log, strlen(log), text, strlen(repaired) - 1, list, 8),
+           PERCH_REFUSED_REPAIRED);
+    expect("a list one short", perch_salvage((const uint8_t *)log, strlen(log), text, sizeof text, list, 5),
+           PERCH_REFUSED_LIST);
+}
+
 static void streams(void)
 {
     const uint8_t stream[] = {0xb4, 0x11, 0x40, 0x62, 0x66};
@@ -267,6 +287,7 @@ int main(void)
     sizes();
     logs();
     folds();
+    salvages();
     cursors();
     players();
     chips();

@@ -83,7 +83,7 @@ pub record Clear (log : List ℕ) : Type 0 where
   pub in-turns : turns (treeOf log) ≤ 1000000
   pub number : stoppingOf log .number ≡ clocks (treeOf log)
 
-heavy-not : (t : Tree) → heavy t ≡ false → (clocks t ≤ 2000000000) × (turns t ≤ 1000000)
+pub heavy-not : (t : Tree) → heavy t ≡ false → (clocks t ≤ 2000000000) × (turns t ≤ 1000000)
 unfolding heavy
 heavy-not t h = go (ltb 2000000000 (clocks t)) refl (ltb 1000000 (turns t)) refl h
   where
@@ -114,7 +114,7 @@ clear log h = long (ltb 60000 (length log)) refl h
     long true e h = absurd (omega arith)
     long false e h = sound (ltb-false 60000 (length log) e) (judged log) refl (numbered log) h
 
-not-heavy : (t : Tree) → clocks t ≤ 2000000000 → turns t ≤ 1000000 → heavy t ≡ false
+pub not-heavy : (t : Tree) → clocks t ≤ 2000000000 → turns t ≤ 1000000 → heavy t ≡ false
 unfolding heavy
 not-heavy t h k = rw (le-ltb 2000000000 (clocks t) h, le-ltb 1000000 (turns t) k)
 

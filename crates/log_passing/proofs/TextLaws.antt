@@ -38,27 +38,27 @@ lines-clear (c ∷ s) rest (byte h n) = rw (ne-eqb c 10 h) (ap (onto c) (lines-c
 
 module _ (l : Line) (rest : List ℕ) (p : Printable l) where
   -- the lines of a line's text and what is behind it
-  lines-text : linesOf (lineText l ++ rest) ≡ lineText l ∷ linesOf rest
+  pub lines-text : linesOf (lineText l ++ rest) ≡ lineText l ∷ linesOf rest
   lines-text = let o = one-line l p in rw (o .is) (lines-clear (o .body) rest (o .clear))
 
-  blocks-line : blocks (linesOf (lineText l ++ rest)) ≡ grow l (blocks (linesOf rest))
+  pub blocks-line : blocks (linesOf (lineText l ++ rest)) ≡ grow l (blocks (linesOf rest))
   unfolding blocks
   blocks-line = rw (lines-text, printed-read l p)
 
-  stop-line : (at : ℕ) → stopFrom at (linesOf (lineText l ++ rest)) ≡ stopHere at l (stopFrom (at + length (lineText l)) (linesOf rest))
+  pub stop-line : (at : ℕ) → stopFrom at (linesOf (lineText l ++ rest)) ≡ stopHere at l (stopFrom (at + length (lineText l)) (linesOf rest))
   unfolding stopFrom
   stop-line at = rw (lines-text, printed-read l p)
 
-  judge-line : (at d : ℕ) → Goes d l → judge (among d) at (linesOf (lineText l ++ rest)) ≡ judge (leaves d l) (at + length (lineText l)) (linesOf rest)
+  pub judge-line : (at d : ℕ) → Goes d l → judge (among d) at (linesOf (lineText l ++ rest)) ≡ judge (leaves d l) (at + length (lineText l)) (linesOf rest)
   unfolding judge verdict behind foundAt unless
   judge-line at d g = rw (lines-text, line-right (Among false d) l (goes-may false g) p, printed-read l p)
 
   -- as the second line it leaves what it leaves further down
-  judge-second : (at : ℕ) → allowed (keysOf (Among true 0)) l ≡ true → judge second at (linesOf (lineText l ++ rest)) ≡ judge (leaves 0 l) (at + length (lineText l)) (linesOf rest)
+  pub judge-second : (at : ℕ) → allowed (keysOf (Among true 0)) l ≡ true → judge second at (linesOf (lineText l ++ rest)) ≡ judge (leaves 0 l) (at + length (lineText l)) (linesOf rest)
   unfolding judge verdict behind foundAt unless
   judge-second at a = rw (lines-text, line-right (Among true 0) l a p, printed-read l p)
 
-judge-head : (rest : List ℕ) (at : ℕ) → judge first at (linesOf (lineText Header ++ rest)) ≡ judge second (at + length (lineText Header)) (linesOf rest)
+pub judge-head : (rest : List ℕ) (at : ℕ) → judge first at (linesOf (lineText Header ++ rest)) ≡ judge second (at + length (lineText Header)) (linesOf rest)
 unfolding judge verdict behind foundAt unless allowed keysOf
 judge-head rest at = rw (lines-text Header rest tt, line-right First Header refl tt)
 

@@ -3,9 +3,7 @@ use log_judge::Reading;
 use log_spot::Found;
 use log_spot::Stand;
 ghost use mathlib.Core.Path.{_≡_};
-ghost use Prim.Native.Nat.{_+_, _≤_};
-ghost use lib.ListN.{length, drop};
-ghost use Rattle.log_judge.specs.Lines.{lineLen};
+ghost use Rattle.log_judge.specs.Lines.{nextLine};
 ghost use Rattle.log_judge.specs.Head.{machineOf, startOf};
 ghost use Rattle.log_judge.specs.Reading.{readingNumber, readingPlace, taken, Reaches, standing, readIn, readAt};
 
@@ -30,9 +28,8 @@ pub fn place(r: Reading) -> usize
 }
 
 // Where the line that begins at a place ends: behind its line feed, or at the log's end.
-fn line_end(log: &[u8], at: usize) -> usize
-    requires { ⌜ at ≤ length (now log) ⌝ }
-    ensures { λ r. ⌜ (r ≡ at + lineLen (drop at (now (log .entry)))) × (r ≤ length (now (log .entry))) ⌝ }
+pub fn line_end(log: &[u8], at: usize) -> usize
+    ensures { λ r. ⌜ r ≡ nextLine (now (log .entry)) at ⌝ }
 {
     let mut i = at;
     while i < log.len() {

@@ -4,6 +4,7 @@ mod fold;
 mod import;
 mod meter;
 mod refused;
+mod salvage;
 mod sheet;
 mod why;
 
@@ -17,6 +18,9 @@ fn usage() {
         b"  fold        a log on standard input: the same log with its repeats as loops\n",
     );
     perch_io::say(b"  import      a VGM file on standard input: the log that it comes to\n");
+    perch_io::say(
+        b"  salvage     a damaged log on standard input: the log repaired, and what was dropped and added\n",
+    );
     perch_io::say(
         b"  why CLOCK   a log on standard input: why the squares and the noise are silent there\n",
     );
@@ -41,6 +45,10 @@ fn run(verb: &[u8], words: usize) {
     }
     if arith::both_of(words == 2, text::exact(verb, b"import")) {
         import::import();
+        return;
+    }
+    if arith::both_of(words == 2, text::exact(verb, b"salvage")) {
+        salvage::salvage();
         return;
     }
     if arith::both_of(words == 3, text::exact(verb, b"why")) {

@@ -3,6 +3,7 @@ mod place;
 mod shown;
 
 pub use place::column;
+pub use place::line_at;
 pub use place::line_number;
 pub use shown::mark_line;
 pub use shown::shown_line;

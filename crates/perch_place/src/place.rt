@@ -65,7 +65,7 @@ pub(crate) fn front_at(log: &[u8], place: usize) -> &[u8]
 }
 
 // The place's line, without its line feed.
-pub(crate) fn line_at(log: &[u8], place: usize) -> &[u8]
+pub fn line_at(log: &[u8], place: usize) -> &[u8]
     ensures { λ r. ⌜ now r ≡ lineAt (now (log .entry)) place ⌝ }
 {
     let s = first(log, place);

@@ -14,13 +14,14 @@ pub mod logs;
 pub mod meters;
 pub mod pieces;
 pub mod runs;
+pub mod salvages;
 
 // Which boundary this is: a caller that knows another one is told so.
 #[no_mangle]
 pub extern "C" fn perch_version() -> u32
     ensures { λ r. ⌜ r ≡ version ⌝ }
 {
-    6
+    7
 }
 
 // How many bytes a state is.

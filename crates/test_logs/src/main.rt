@@ -145,16 +145,29 @@ fn walk(log: &[u8], most: u64) {
     walked(items, steps, log_cursor::Found::Moved);
 }
 
-// A number with one more byte.
-fn with_byte(sum: u32, byte: u8) -> u32 {
-    ((31 * sum as u64 + byte as u64) % 0x100000000) as u32
+// A number with one more behind it.
+fn with(sum: u32, more: u64) -> u32 {
+    ((31 * sum as u64 + more % 0x100000000) % 0x100000000) as u32
 }
 
 // One number for the bytes of a text and their order.
 fn ordered(part: &[u8]) -> u32 {
     let mut s: u32 = 0;
     for i in 0..part.len() {
-        s = with_byte(s, part[i]);
+        s = with(s, wide(part[i]));
+    }
+    s
+}
+
+fn wide_word(x: u32) -> u64 {
+    x as u64
+}
+
+// One number for words and their order.
+fn ordered_words(words: &[u32]) -> u32 {
+    let mut s: u32 = 0;
+    for i in 0..words.len() {
+        s = with(s, wide_word(words[i]));
     }
     s
 }
@@ -176,6 +189,33 @@ fn folded(log: &[u8]) {
     fold_into(log, &mut out);
     let mut short = [0u8; 9];
     fold_into(log, &mut short);
+}
+
+// The answer to a repair into a buffer and a list, and what stands in both afterwards.
+fn salvage_into(log: &[u8], out: &mut [u8], list: &mut [u32]) {
+    let a = log_salvage::salvage(log, out, list);
+    place(b"salvage=", a.number, a.place);
+    text(b" length=");
+    number(a.length as u64);
+    text(b" entries=");
+    number(a.entries as u64);
+    text(b" sum=");
+    number(ordered(out) as u64);
+    text(b" words=");
+    number(ordered_words(list) as u64);
+    text(b"\n");
+}
+
+// Repaired into a buffer and a list that hold what comes of most logs; into a list of one word, and into a buffer of 12 bytes.
+fn salvaged(log: &[u8]) {
+    let mut out = [0u8; 60000];
+    let mut list = [0u32; 20000];
+    salvage_into(log, &mut out, &mut list);
+    let mut none = [0u32; 1];
+    let mut whole = [0u8; 60000];
+    salvage_into(log, &mut whole, &mut none);
+    let mut short = [0u8; 12];
+    salvage_into(log, &mut short, &mut none);
 }
 
 // Items and bodies of a log that passes with so many items.
@@ -218,6 +258,7 @@ fn judged(log: &[u8]) {
         walk(log, 5000);
     }
     folded(log);
+    salvaged(log);
 }
 
 // One log, by its number; whether it is there.

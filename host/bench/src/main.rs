@@ -211,6 +211,30 @@ fn fold(quick: bool) {
     println!("| {:<34} | {bytes:>11} | {length:>10} | {slowest:>8.6} |", "the slowest of drawn logs");
 }
 
+/// Measures the repair of damaged logs of 60,000 bytes, and prints a row for each kind of damage.
+fn salvage(quick: bool) {
+    println!("\n| {:<34} | {:>11} | {:>10} | {:>8} | {:>8} |", "salvage", "log", "repaired", "entries", "seconds");
+    println!("|{}|{}", "-".repeat(36), "-:|".repeat(4));
+    for (name, line) in
+        [("right waits", "wait=10\n"), ("bad writes", "write=4014:00\n"), ("stops", "stop=0\n"), ("empty lines", "\n")]
+    {
+        let mut log = b"log=1\n".to_vec();
+        while log.len() + line.len() <= perch::LOG - 20 {
+            log.extend(line.as_bytes());
+        }
+        let (mut text, mut list) = (vec![0; perch::LOG], vec![0; 2 * (perch::LOG + 10)]);
+        let (mut best, mut answer) = (f64::INFINITY, 0);
+        for _ in 0..if quick { 3 } else { 20 } {
+            let begun = now();
+            answer = raw::salvage(&log, &mut text, &mut list);
+            best = best.min(now() - begun);
+        }
+        assert_eq!(answer as u8, 0);
+        let (bytes, length, entries) = (log.len(), answer >> 32 & 0xffff, answer >> 48);
+        println!("| {name:<34} | {bytes:>11} | {length:>10} | {entries:>8} | {best:>8.6} |");
+    }
+}
+
 /// Measures the meter over more levels than the caches hold, and prints the row.
 fn meter(quick: bool) -> Result<(), Refusal> {
     let words = (if quick { 64 } else { 512 }) << 18;
@@ -348,6 +372,7 @@ fn table(log: Option<String>, gme: Option<String>, quick: bool) -> Result<(), Bo
     }
     import(quick);
     fold(quick);
+    salvage(quick);
     meter(quick)?;
     #[cfg(pace)]
     {

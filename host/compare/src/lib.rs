@@ -17,5 +17,6 @@ pub mod meters;
 pub mod players;
 pub mod random;
 pub mod reasons;
+pub mod salvages;
 pub mod sheets;
 pub mod stored;

@@ -4,8 +4,8 @@ use compare::case::{self, Case, Outcome};
 use compare::judge::{self, Tally, judge};
 use compare::random::Random;
 use compare::{
-    accesses, cursors, draw, every, folds, free, imports, lines, logs, machines, meters, players, reasons, sheets,
-    stored,
+    accesses, cursors, draw, every, folds, free, imports, lines, logs, machines, meters, players, reasons, salvages,
+    sheets, stored,
 };
 use reading::{Chip, MEMORY};
 use std::process::ExitCode;
@@ -177,6 +177,7 @@ fn compare(asked: &Asked) -> bool {
     part("cursors", &mut || cursors::compare(seed, asked.each / 2));
     part("players", &mut || players::compare(seed, asked.each / 2, &memory));
     part("folds", &mut || folds::compare(seed, asked.logs, &memory));
+    part("salvages", &mut || salvages::compare(seed, asked.logs));
     part("imports", &mut || imports::compare(seed, asked.each / 2));
     good
 }

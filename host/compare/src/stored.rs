@@ -2,7 +2,7 @@
 
 use perch::raw;
 use reading::log::{self, Fault, Item, Line};
-use reading::{MEMORY, fold, number, play};
+use reading::{MEMORY, fold, number, play, salvage};
 use std::path::{Path, PathBuf};
 
 /// The most steps that a cursor takes in a log that is refused.
@@ -83,9 +83,11 @@ pub fn text(log: &str, sample: &str) -> Result<String, String> {
     Ok(play::text(&read(log)?, &read(sample)?))
 }
 
-/// What `crates/test_logs/stdout` holds: of each log the check, some items, some bodies, a cursor's way, and the log folded.
+/// What `crates/test_logs/stdout` holds: of each log the check, some items, some bodies, a cursor's way, the log folded, and the
+/// log repaired.
 pub fn judged(folder: &str) -> Result<String, String> {
-    Ok(logs(folder)?.iter().map(|(name, log)| format!("log={name}\n{}{}", judged_log(log), fold_lines(log))).collect())
+    let lines = |log: &[u8]| judged_log(log) + &fold_lines(log) + &salvage_lines(log);
+    Ok(logs(folder)?.iter().map(|(name, log)| format!("log={name}\n{}", lines(log))).collect())
 }
 
 fn judged_log(log: &[u8]) -> String {
@@ -114,10 +116,29 @@ fn fold_lines(log: &[u8]) -> String {
     let line = |room: usize| {
         let mut text = vec![0; room];
         let answer = fold::fold(log, &mut text);
-        let sum = text.iter().fold(0u32, |sum, &byte| sum.wrapping_mul(31).wrapping_add(byte.into()));
+        let sum = ordered(text.into_iter().map(u32::from));
         format!("fold={}:{} length={} sum={sum}\n", answer as u8, answer >> 8 & 0xff_ffff, answer >> 32)
     };
     line(log::MOST_BYTES) + &line(9)
+}
+
+/// One number for numbers and their order.
+fn ordered(numbers: impl Iterator<Item = u32>) -> u32 {
+    numbers.fold(0, |sum, number| sum.wrapping_mul(31).wrapping_add(number))
+}
+
+/// A log repaired into a buffer and a list that hold what comes of most, into a list of one word, and into a buffer of 12 bytes: the
+/// answer, and sums of both.
+fn salvage_lines(log: &[u8]) -> String {
+    let line = |room: usize, words: usize| {
+        let (mut text, mut list) = (vec![0; room], vec![0; words]);
+        let answer = salvage::salvage(log, &mut text, &mut list);
+        let (length, entries) = (answer >> 32 & 0xffff, answer >> 48);
+        let (sum, words) = (ordered(text.into_iter().map(u32::from)), ordered(list.into_iter()));
+        let (number, place) = (answer as u8, answer >> 8 & 0xff_ffff);
+        format!("salvage={number}:{place} length={length} entries={entries} sum={sum} words={words}\n")
+    };
+    line(log::MOST_BYTES, 20_000) + &line(log::MOST_BYTES, 1) + &line(12, 1)
 }
 
 fn item_line(k: u64, item: Result<Item, Fault>) -> String {

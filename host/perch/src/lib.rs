@@ -57,6 +57,14 @@
 //! ```
 //!
 //! ```
+//! use perch::Repair::{Added, Dropped};
+//! let (log, repairs) = perch::salvage(b"log=1\nloop=2\nwait=09\nwait=9\n")?;
+//! assert_eq!(log, b"log=1\nloop=2\nwait=9\ndone=loop\nstop=18\n");
+//! assert_eq!(repairs, [Dropped { start: 13, number: 15 }, Added { place: 20 }, Added { place: 30 }]);
+//! # Ok::<(), perch::Fault>(())
+//! ```
+//!
+//! ```
 //! # use perch::Access::Write;
 //! let mut chip = perch::Chip::power_on(perch::Machine::Pal);
 //! assert_eq!(chip.why(perch::Channel::Square1)?.to_string(), "not enabled");
@@ -93,7 +101,9 @@ mod why;
 
 pub use access::{Access, Accessed};
 pub use cursor::{CURSOR, Cursor, Found, all_items};
-pub use log::{Checked, Fault, Item, LOG, Player, body, check, fold, import, item, items, refusal_text, turns};
+pub use log::{
+    Checked, Fault, Item, LOG, Player, Repair, body, check, fold, import, item, items, refusal_text, salvage, turns,
+};
 pub use meter::{Meter, meter, meter_records};
 pub use sheet::sheet;
 pub use why::{Channel, Why};
@@ -107,7 +117,7 @@ pub const MEMORY: usize = 32_768;
 pub const STATE: usize = 91;
 
 /// The version of the header that this wraps; the library's is `version()`.
-pub const VERSION: u32 = 6;
+pub const VERSION: u32 = 7;
 
 /// The version of the library linked. One of another version has other sizes, layouts or functions.
 pub fn version() -> u32 {
@@ -154,6 +164,8 @@ impl fmt::Display for Refusal {
             27 => "the stream ends before $66",
             28 => "the log is longer than the buffer or 60,000 bytes",
             29 => "a level above 32,767",
+            30 => "the repaired log is longer than the buffer or 60,000 bytes",
+            31 => "the list of what was done has no room",
             32 => "the buffer is shorter than the log to be folded",
             number => return write!(f, "refusal {number}"),
         })

@@ -116,6 +116,38 @@ pub fn fold(log: &[u8]) -> Result<Vec<u8>, Fault> {
     Ok(text)
 }
 
+/// What was done to repair a log.
+#[derive(Clone, Copy, Debug, PartialEq, Eq)]
+pub enum Repair {
+    /// A line dropped: where it began in the damaged log, and the number by which it went.
+    Dropped {
+        /// Its place in the damaged log.
+        start: u32,
+        /// The number.
+        number: u8,
+    },
+    /// A line added.
+    Added {
+        /// Its place in the repaired log.
+        place: u32,
+    },
+}
+
+/// A damaged log repaired, with what was done, in its order. What comes out passes; a log that passes comes back as it was.
+pub fn salvage(log: &[u8]) -> Result<(Vec<u8>, Vec<Repair>), Fault> {
+    // An entry a line at most, one for `log=1`, eight for loops and one for the `stop`.
+    let (mut text, mut list) = (vec![0; LOG], vec![0; 2 * (log.len().min(LOG) + 10)]);
+    let lengths = value(raw::salvage(log, &mut text, &mut list))?;
+    text.truncate(lengths as usize & 0xffff);
+    list.truncate(2 * (lengths as usize >> 16));
+    let repair = |entry: &[u32]| match *entry {
+        [place, 0] => Repair::Added { place },
+        [start, number] => Repair::Dropped { start, number: number as u8 },
+        _ => unreachable!("an entry is two words"),
+    };
+    Ok((text, list.chunks_exact(2).map(repair).collect()))
+}
+
 /// The text that the player writes for a fault.
 pub fn refusal_text(fault: Fault) -> Vec<u8> {
     let mut text = vec![0; 40];

@@ -9,8 +9,8 @@
 use standin::{
     perch_access, perch_begin, perch_body, perch_check, perch_clock, perch_fold, perch_import, perch_in_range,
     perch_interrupt_line, perch_item, perch_level, perch_level_fraction, perch_meter, perch_meter_records,
-    perch_play_on, perch_player_size, perch_power_on, perch_refusal_text, perch_run, perch_run_plain, perch_sheet,
-    perch_state_size, perch_why,
+    perch_play_on, perch_player_size, perch_power_on, perch_refusal_text, perch_run, perch_run_plain, perch_salvage,
+    perch_sheet, perch_state_size, perch_why,
 };
 #[cfg(not(archive))]
 use standin::{perch_cursor_next, perch_cursor_size, perch_cursor_start, perch_items, perch_turns, perch_version};
@@ -62,6 +62,7 @@ unsafe extern "C" {
     fn perch_refusal_text(number: u8, place: u64, text: *mut u8, t: usize) -> u64;
     fn perch_import(stream: *const u8, n: usize, text: *mut u8, t: usize) -> u64;
     fn perch_fold(log: *const u8, n: usize, text: *mut u8, t: usize) -> u64;
+    fn perch_salvage(log: *const u8, n: usize, text: *mut u8, t: usize, list: *mut u32, w: usize) -> u64;
     fn perch_why(state: *const u8, n: usize, channel: u64) -> u64;
     fn perch_meter(levels: *const u32, n: usize) -> u64;
     fn perch_meter_records(words: *const u32, w: usize, start: u64, count: u64, before: u64) -> u64;
@@ -199,6 +200,11 @@ pub fn import(stream: &[u8], text: &mut [u8]) -> u64 {
 /// Writes a log folded; the value is its length.
 pub fn fold(log: &[u8], text: &mut [u8]) -> u64 {
     unsafe { perch_fold(log.as_ptr(), log.len(), text.as_mut_ptr(), text.len()) }
+}
+
+/// Writes a damaged log repaired, and the list of what was done; the value is its length + 2^16 x the list's entries.
+pub fn salvage(log: &[u8], text: &mut [u8], list: &mut [u32]) -> u64 {
+    unsafe { perch_salvage(log.as_ptr(), log.len(), text.as_mut_ptr(), text.len(), list.as_mut_ptr(), list.len()) }
 }
 
 /// Why a channel is silent: the reason's number, or 16 + the channel's number where it sounds.

@@ -19,6 +19,7 @@ pub mod mixer;
 pub mod plain;
 pub mod play;
 pub mod player;
+pub mod salvage;
 pub mod sheet;
 pub mod vgm;
 pub mod why;
@@ -91,6 +92,10 @@ pub mod number {
     pub const ROOM: u8 = 28;
     /// A level above 32,767.
     pub const LEVEL: u8 = 29;
+    /// A repaired log is longer than the buffer or 60,000 bytes.
+    pub const REPAIRED: u8 = 30;
+    /// The list of what was done to repair a log has no room.
+    pub const LIST: u8 = 31;
     /// A buffer shorter than the log to be folded.
     pub const FOLD_ROOM: u8 = 32;
 }

@@ -201,6 +201,11 @@ pub fn line_at(log: &[u8], at: usize, open: usize) -> Result<Placed, Fault> {
     if at >= log.len() {
         return Err(Fault { number: number::NO_STOP, place: log.len() });
     }
+    judged(log, at, open)
+}
+
+/// The line at a place of a log of any length, with so many loops open; a line begins there.
+pub(crate) fn judged(log: &[u8], at: usize, open: usize) -> Result<Placed, Fault> {
     let feed = log[at..].iter().position(|byte| *byte == b'\n').map(|length| at + length);
     let end = feed.map_or(log.len(), |feed| feed + 1);
     let text = &log[at..end];
@@ -244,8 +249,13 @@ fn lines(log: &[u8]) -> Result<Vec<Placed>, Fault> {
     }
 }
 
+/// What a whole line says, wherever it stands: its bytes with their line feed.
+pub(crate) fn said(text: &[u8]) -> Option<Line> {
+    text.strip_suffix(b"\n").and_then(line)
+}
+
 /// The totals of lines whose loops are closed.
-fn totals(lines: &[Placed]) -> Totals {
+pub(crate) fn totals(lines: &[Placed]) -> Totals {
     // The last is the innermost open loop; the first is the log itself.
     let mut open = vec![(1, Totals::default())];
     for (line, _) in lines {

@@ -8,7 +8,9 @@
 //! two of them overlap.
 #![allow(clippy::missing_safety_doc, missing_docs)]
 
-use reading::{access, boundary, cursor as cursors, fold, layout, meter, mixer, player as pieces, sheet, vgm, why};
+use reading::{
+    access, boundary, cursor as cursors, fold, layout, meter, mixer, player as pieces, salvage, sheet, vgm, why,
+};
 use std::slice::{from_raw_parts, from_raw_parts_mut};
 
 #[cfg_attr(feature = "export", unsafe(no_mangle))]
@@ -136,6 +138,18 @@ pub unsafe extern "C" fn perch_import(stream: *const u8, n: usize, text: *mut u8
 #[cfg_attr(feature = "export", unsafe(no_mangle))]
 pub unsafe extern "C" fn perch_fold(log: *const u8, n: usize, text: *mut u8, t: usize) -> u64 {
     unsafe { fold::fold(from_raw_parts(log, n), from_raw_parts_mut(text, t)) }
+}
+
+#[cfg_attr(feature = "export", unsafe(no_mangle))]
+pub unsafe extern "C" fn perch_salvage(
+    log: *const u8,
+    n: usize,
+    text: *mut u8,
+    t: usize,
+    list: *mut u32,
+    w: usize,
+) -> u64 {
+    unsafe { salvage::salvage(from_raw_parts(log, n), from_raw_parts_mut(text, t), from_raw_parts_mut(list, w)) }
 }
 
 #[cfg_attr(feature = "export", unsafe(no_mangle))]

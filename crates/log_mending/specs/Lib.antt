@@ -1,0 +1,4 @@
+pub mod Entries
+pub mod Mending
+pub mod Promise
+pub mod Settled

@@ -1,0 +1,9 @@
+pub mod WriteLaws
+pub mod TallyLaws
+pub mod StepLaws
+pub mod CutLaws
+pub mod SiftsLaws
+pub mod BoundLaws
+pub mod LoopLaws
+pub mod EndLaws
+pub mod AnswerLaws
