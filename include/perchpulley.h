@@ -40,7 +40,7 @@
 extern "C" {
 #endif
 
-#define PERCH_VERSION 7            /* of this header; perch_version() is the library's */
+#define PERCH_VERSION 8            /* of this header; perch_version() is the library's */
 #define PERCH_STATE_SIZE 91        /* bytes of a state; perch_state_size() at run time */
 #define PERCH_MEMORY_SIZE 32768    /* bytes of sample memory, $8000 to $FFFF */
 #define PERCH_MOST_CLOCKS 1000000  /* clocks that one run may be asked for */
@@ -66,6 +66,7 @@ extern "C" {
 #define PERCH_REFUSED_STOP 10     /* `stop` differs from the clocks in all */
 #define PERCH_REFUSED_ITEM 11     /* item k asked for and the log has k or fewer */
 #define PERCH_REFUSED_LOOP 12     /* no loop line begins at the offset asked for */
+#define PERCH_REFUSED_COUNTS 13   /* of a run: a count above PERCH_MOST_COUNT, or counts that are not PERCH_COUNTS */
 #define PERCH_REFUSED_KEY 14      /* a line's key is unknown, or not allowed where it stands */
 #define PERCH_REFUSED_SHAPE 15    /* a line's value is not of its shape */
 #define PERCH_REFUSED_RANGE 16    /* a line's value is outside its range */
@@ -144,14 +145,18 @@ uint64_t perch_sheet(const uint8_t *memory, size_t m, uint64_t level, uint64_t a
                      uint8_t *buffer, size_t b);
 
 /* Works count clocks, leaping where nothing changes. For each clock whose level differs from that before it writes a
- * record of two words: the clock's number in the run, from 1, and the level. It ends early exactly before a clock that
- * needs a record where w / 2 records stand; words behind the last record stay. Refused: 1, 2, 3. */
+ * record of two words: the clock's number in the run, from 1, and the level. After each clock done it adds one to the count
+ * at the DMC level's place, of c counts, which are PERCH_COUNTS. It ends early exactly before a clock that needs a record
+ * where w / 2 records stand, and before one whose count would pass PERCH_MOST_COUNT; words behind the last record stay.
+ * Refused: 1, 2, 3, 13. */
+#define PERCH_COUNTS 128            /* as many counts as the DMC level has values */
+#define PERCH_MOST_COUNT 4000000000 /* the most that a count may be */
 uint64_t perch_run(uint8_t *state, size_t n, const uint8_t *memory, size_t m, uint64_t count, uint32_t *words,
-                   size_t w);
+                   size_t w, uint32_t *counts, size_t c);
 
 /* The same, clock by clock. */
 uint64_t perch_run_plain(uint8_t *state, size_t n, const uint8_t *memory, size_t m, uint64_t count, uint32_t *words,
-                         size_t w);
+                         size_t w, uint32_t *counts, size_t c);
 
 /* METERS. What a stretch of levels is: no levels; silent, all are 0; steady, all are equal and not 0; moving, anything
  * else. The answer is number + 2^8 x case + 2^16 x lowest + 2^32 x highest; of a refusal and of no levels all but the

@@ -22,7 +22,7 @@ struct build {
     const char *name;
     uint64_t (*power_on)(uint8_t *, size_t, uint8_t);
     uint64_t (*access)(uint8_t *, size_t, uint8_t, uint16_t, uint8_t);
-    uint64_t (*run)(uint8_t *, size_t, const uint8_t *, size_t, uint64_t, uint32_t *, size_t);
+    uint64_t (*run)(uint8_t *, size_t, const uint8_t *, size_t, uint64_t, uint32_t *, size_t, uint32_t *, size_t);
     uint64_t (*begin)(uint8_t *, size_t, const uint8_t *, size_t, const uint8_t *, size_t);
     uint64_t (*play_on)(uint8_t *, size_t, const uint8_t *, size_t, const uint8_t *, size_t, uint8_t *, size_t);
     size_t size, player_size;
@@ -46,7 +46,7 @@ struct played {
 };
 
 static uint8_t memory[PERCH_MEMORY_SIZE];
-static uint32_t words[WORDS];
+static uint32_t words[WORDS], counts[PERCH_COUNTS];
 static uint8_t text[TEXT];
 
 static double now(void)
@@ -91,7 +91,7 @@ static struct build loaded(const char *name)
 static void wait(const struct build *b, uint8_t *state, uint64_t left, struct played *p)
 {
     while (left) {
-        uint64_t answer = b->run(state, b->size, memory, sizeof memory, left, words, WORDS);
+        uint64_t answer = b->run(state, b->size, memory, sizeof memory, left, words, WORDS, counts, PERCH_COUNTS);
         uint64_t done = PERCH_CLOCKS(answer), records = PERCH_RECORDS(answer), k;
 
         for (k = 0; k < records; k++)
@@ -108,6 +108,7 @@ static struct played play(const struct build *b, const struct scene *s)
     uint8_t state[256];
     size_t i;
 
+    memset(counts, 0, sizeof counts);
     b->power_on(state, b->size, s->machine);
     for (i = 0; i < s->count; i++) {
         uint32_t held = s->acts[i].held;

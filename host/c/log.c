@@ -155,14 +155,14 @@ static void chips(void)
 {
     static uint8_t memory[PERCH_MEMORY_SIZE];
     uint8_t state[PERCH_STATE_SIZE];
-    uint32_t words[2];
+    uint32_t words[2], counts[PERCH_COUNTS] = {0};
     const size_t n = sizeof state, m = sizeof memory;
     uint64_t answer;
 
     perch_power_on(state, n, PERCH_NTSC);
     expect("no such register", perch_access(state, n, 0, 0x4014, 0), PERCH_REFUSED_REGISTER);
-    expect("a run too long", perch_run(state, n, memory, m, PERCH_MOST_CLOCKS + 1, words, 2), PERCH_REFUSED_CLOCKS);
-    answer = perch_run(state, n, memory, m, PERCH_MOST_CLOCKS, words, 2);
+    expect("a run too long", perch_run(state, n, memory, m, PERCH_MOST_CLOCKS + 1, words, 2, counts, PERCH_COUNTS), PERCH_REFUSED_CLOCKS);
+    answer = perch_run(state, n, memory, m, PERCH_MOST_CLOCKS, words, 2, counts, PERCH_COUNTS);
     expect("the longest run", PERCH_CLOCKS(answer), PERCH_MOST_CLOCKS);
     expect("no records", PERCH_RECORDS(answer), 0);
     expect("the level as a float", (uint64_t)(PERCH_LEVEL_FRACTION(perch_level(state, n)) * 32768.0f), 8074);

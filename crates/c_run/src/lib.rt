@@ -1,7 +1,8 @@
-// The two runs on a state that is bytes. Bytes that are no state in range are refused, and stay.
+// The two runs on a state that is bytes, with a dwell table that is lent words. Bytes that are no state in range are refused, and stay.
 ghost use mathlib.Core.Path.{_≡_};
 ghost use Prim.Native.Nat.{_≤_};
-ghost use Rattle.c_run.specs.Runs.{ranPacked, runFrom, runPacked, runBytes, wordsFrom};
+ghost use Rattle.c_run.specs.Runs.{ranPacked, noTable, tableAnswer, tableLent, runFrom, runPacked, runBytes, wordsFrom, countsFrom};
+use chip::State;
 use run_answer::Ran;
 
 // A run's answer in one number.
@@ -12,50 +13,111 @@ fn pack_run(r: Ran) -> u64
     r.number as u64 + 256 * r.done as u64 + 4294967296 * r.records as u64
 }
 
-fn leaping_from(b: &[u8], memory: &[u8], count: u64, words: &mut [u32]) -> Ran
-    ensures { λ r. ⌜ r ≡ runFrom (now (memory .entry)) (now (b .entry)) count (now (words .entry)) ⌝ }
-    ensures { λ r. ⌜ now (words .exit) ≡ wordsFrom (now (memory .entry)) (now (b .entry)) count (now (words .entry)) ⌝ }
+// The number where the lent counts are no table.
+fn no_table(s: State, memory: &[u8], count: u64) -> u8
+    ensures { λ r. ⌜ r ≡ noTable (now (memory .entry)) s count ⌝ }
+{
+    let number = run_answer::number_of(s, memory, count);
+    if number != 0 {
+        return number;
+    }
+    13
+}
+
+fn leaping_on(s: State, memory: &[u8], count: u64, words: &mut [u32], counts: &mut [u32]) -> Ran
+    ensures { λ r. ⌜ r ≡ tableAnswer (now (memory .entry)) s (now (counts .entry)) count (now (words .entry)) .ran ⌝ }
+    ensures { λ r. ⌜ now (words .exit) ≡ tableLent (now (memory .entry)) s (now (counts .entry)) count (now (words .entry)) ⌝ }
+    ensures { λ r. ⌜ now (counts .exit) ≡ tableAnswer (now (memory .entry)) s (now (counts .entry)) count (now (words .entry)) .counts ⌝ }
+{
+    if counts.len() == 128 {
+        let table = c_counts::decode(counts);
+        let r = run::run(s, memory, table, count, words);
+        let after = r.counts;
+        c_counts::store(after, counts);
+        let ran = r.ran;
+        return ran;
+    }
+    let number = no_table(s, memory, count);
+    run_answer::refuse(number, s)
+}
+
+fn leaping_from(b: &[u8], memory: &[u8], count: u64, words: &mut [u32], counts: &mut [u32]) -> Ran
+    ensures { λ r. ⌜ r ≡ runFrom (now (memory .entry)) (now (b .entry)) count (now (words .entry)) (now (counts .entry)) .ran ⌝ }
+    ensures { λ r. ⌜ now (words .exit) ≡ wordsFrom (now (memory .entry)) (now (b .entry)) count (now (words .entry)) (now (counts .entry)) ⌝ }
+    ensures { λ r. ⌜ now (counts .exit) ≡ countsFrom (now (memory .entry)) (now (b .entry)) count (now (words .entry)) (now (counts .entry)) ⌝ }
 {
     let s = c_state_read::decode(b);
     if c_state::is_state(b) {
-        return run::run(s, memory, count, words);
+        return leaping_on(s, memory, count, words, counts);
     }
     let number = c_chip::no_state(memory);
     run_answer::refuse(number, s)
 }
 
-// Works `count` clocks, leaping where nothing changes, and writes a record of two words for each clock whose level differs from
-// that before it. Refused: 1, 2, 3.
-pub fn run(state: &mut [u8], memory: &[u8], count: u64, words: &mut [u32]) -> u64
-    ensures { λ r. ⌜ r ≡ runPacked (now (memory .entry)) (now (state .entry)) count (now (words .entry)) ⌝ }
-    ensures { λ r. ⌜ now (state .exit) ≡ runBytes (now (memory .entry)) (now (state .entry)) count (now (words .entry)) ⌝ }
-    ensures { λ r. ⌜ now (words .exit) ≡ wordsFrom (now (memory .entry)) (now (state .entry)) count (now (words .entry)) ⌝ }
+// Works `count` clocks, leaping where nothing changes, writes a record of two words for each clock whose level differs from that before it, and adds
+// one to the count at the DMC level after each clock done. Refused: 1, 2, 3, 13.
+pub fn run(
+    state: &mut [u8],
+    memory: &[u8],
+    count: u64,
+    words: &mut [u32],
+    counts: &mut [u32],
+) -> u64
+    ensures { λ r. ⌜ r ≡ runPacked (now (memory .entry)) (now (state .entry)) count (now (words .entry)) (now (counts .entry)) ⌝ }
+    ensures { λ r. ⌜ now (state .exit) ≡ runBytes (now (memory .entry)) (now (state .entry)) count (now (words .entry)) (now (counts .entry)) ⌝ }
+    ensures { λ r. ⌜ now (words .exit) ≡ wordsFrom (now (memory .entry)) (now (state .entry)) count (now (words .entry)) (now (counts .entry)) ⌝ }
+    ensures { λ r. ⌜ now (counts .exit) ≡ countsFrom (now (memory .entry)) (now (state .entry)) count (now (words .entry)) (now (counts .entry)) ⌝ }
 {
-    let r = leaping_from(state, memory, count, words);
+    let r = leaping_from(state, memory, count, words, counts);
     let s = r.state;
     c_chip::store(r.number, s, state);
     pack_run(r)
 }
 
-fn plain_from(b: &[u8], memory: &[u8], count: u64, words: &mut [u32]) -> Ran
-    ensures { λ r. ⌜ r ≡ runFrom (now (memory .entry)) (now (b .entry)) count (now (words .entry)) ⌝ }
-    ensures { λ r. ⌜ now (words .exit) ≡ wordsFrom (now (memory .entry)) (now (b .entry)) count (now (words .entry)) ⌝ }
+fn plain_on(s: State, memory: &[u8], count: u64, words: &mut [u32], counts: &mut [u32]) -> Ran
+    ensures { λ r. ⌜ r ≡ tableAnswer (now (memory .entry)) s (now (counts .entry)) count (now (words .entry)) .ran ⌝ }
+    ensures { λ r. ⌜ now (words .exit) ≡ tableLent (now (memory .entry)) s (now (counts .entry)) count (now (words .entry)) ⌝ }
+    ensures { λ r. ⌜ now (counts .exit) ≡ tableAnswer (now (memory .entry)) s (now (counts .entry)) count (now (words .entry)) .counts ⌝ }
+{
+    if counts.len() == 128 {
+        let table = c_counts::decode(counts);
+        let r = run_plain::run_plain(s, memory, table, count, words);
+        let after = r.counts;
+        c_counts::store(after, counts);
+        let ran = r.ran;
+        return ran;
+    }
+    let number = no_table(s, memory, count);
+    run_answer::refuse(number, s)
+}
+
+fn plain_from(b: &[u8], memory: &[u8], count: u64, words: &mut [u32], counts: &mut [u32]) -> Ran
+    ensures { λ r. ⌜ r ≡ runFrom (now (memory .entry)) (now (b .entry)) count (now (words .entry)) (now (counts .entry)) .ran ⌝ }
+    ensures { λ r. ⌜ now (words .exit) ≡ wordsFrom (now (memory .entry)) (now (b .entry)) count (now (words .entry)) (now (counts .entry)) ⌝ }
+    ensures { λ r. ⌜ now (counts .exit) ≡ countsFrom (now (memory .entry)) (now (b .entry)) count (now (words .entry)) (now (counts .entry)) ⌝ }
 {
     let s = c_state_read::decode(b);
     if c_state::is_state(b) {
-        return run_plain::run_plain(s, memory, count, words);
+        return plain_on(s, memory, count, words, counts);
     }
     let number = c_chip::no_state(memory);
     run_answer::refuse(number, s)
 }
 
 // The same, clock by clock.
-pub fn run_plain(state: &mut [u8], memory: &[u8], count: u64, words: &mut [u32]) -> u64
-    ensures { λ r. ⌜ r ≡ runPacked (now (memory .entry)) (now (state .entry)) count (now (words .entry)) ⌝ }
-    ensures { λ r. ⌜ now (state .exit) ≡ runBytes (now (memory .entry)) (now (state .entry)) count (now (words .entry)) ⌝ }
-    ensures { λ r. ⌜ now (words .exit) ≡ wordsFrom (now (memory .entry)) (now (state .entry)) count (now (words .entry)) ⌝ }
+pub fn run_plain(
+    state: &mut [u8],
+    memory: &[u8],
+    count: u64,
+    words: &mut [u32],
+    counts: &mut [u32],
+) -> u64
+    ensures { λ r. ⌜ r ≡ runPacked (now (memory .entry)) (now (state .entry)) count (now (words .entry)) (now (counts .entry)) ⌝ }
+    ensures { λ r. ⌜ now (state .exit) ≡ runBytes (now (memory .entry)) (now (state .entry)) count (now (words .entry)) (now (counts .entry)) ⌝ }
+    ensures { λ r. ⌜ now (words .exit) ≡ wordsFrom (now (memory .entry)) (now (state .entry)) count (now (words .entry)) (now (counts .entry)) ⌝ }
+    ensures { λ r. ⌜ now (counts .exit) ≡ countsFrom (now (memory .entry)) (now (state .entry)) count (now (words .entry)) (now (counts .entry)) ⌝ }
 {
-    let r = plain_from(state, memory, count, words);
+    let r = plain_from(state, memory, count, words, counts);
     let s = r.state;
     c_chip::store(r.number, s, state);
     pack_run(r)

@@ -1,2 +1,3 @@
+pub mod CountingLaws
 pub mod ReadingLaws
 pub mod SayingLaws

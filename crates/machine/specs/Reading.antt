@@ -1,14 +1,15 @@
 -- Document 01, "Mixer and records": the plain reading, over any machine.
 use Prim.Native.Nat.{ℕ, zero, suc, _+_, _-_}
-use mathlib.Core.Bool.{Bool, false}
+use mathlib.Core.Bool.{Bool, true, false}
 use mathlib.Core.List.{List, [], _∷_, _++_}
 use lib.Dec.{eqb}
 use Rattle.arith.specs.Pick.{pick}
 
--- what a reading goes by: one clock, and the level of a state
+-- what a reading goes by: one clock, the level of a state, and whether the next clock is not to be worked, whatever room there is
 pub record Machine (S : Type 0) : Type 0 where
   pub clock : S → S
   pub level : S → ℕ
+  pub full : S → Bool
 
 -- a record: "its number in the run (from 1) and the level"; here "whole numbers of any size and no 32-bit words"
 pub record Mark : Type 0 where
@@ -35,9 +36,9 @@ module _ {S : Type 0} (m : Machine S) where
   abbrev pub same : S → Bool
   same s = eqb (m .level (m .clock s)) (m .level s)
 
-  -- "exactly before a clock that needs a record with no room left"
+  -- "exactly before a clock that needs a record with no room left"; request 1: "with this second way of ending early, the plain reading's too"
   abbrev pub stopped : Progress S → Bool
-  stopped p = pick (same (p .state)) false (eqb (p .room) 0)
+  stopped p = pick (m .full (p .state)) true (pick (same (p .state)) false (eqb (p .room) 0))
 
   -- a clock worked, with no record
   abbrev pub unrecorded : Progress S → Progress S
@@ -57,7 +58,7 @@ module _ {S : Type 0} (m : Machine S) where
   unfoldable pub worked : Progress S → Progress S
   worked p = pick (same (p .state)) (unrecorded p) (recorded p)
 
-  -- "works every clock .. and ends at the count or by that early end"
+  -- "works every clock .. and ends at the count or by that early end", either of the two
   unfoldable pub reading : ℕ → Progress S → Progress S
   reading zero p = p
   reading (suc n) p = pick (stopped p) p (reading n (worked p))

@@ -21,7 +21,7 @@ pub mod salvages;
 pub extern "C" fn perch_version() -> u32
     ensures { λ r. ⌜ r ≡ version ⌝ }
 {
-    7
+    8
 }
 
 // How many bytes a state is.

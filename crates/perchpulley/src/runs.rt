@@ -1,16 +1,23 @@
 // The runs that C and Rust call.
 ghost use mathlib.Core.Path.{_≡_};
-ghost use Rattle.c_run.specs.Runs.{runPacked, runBytes, wordsFrom};
+ghost use Rattle.c_run.specs.Runs.{runPacked, runBytes, wordsFrom, countsFrom};
 
-// Works `count` clocks, leaping where nothing changes, and writes a record of two words for each clock whose level differs from
-// that before it. Refused: 1, 2, 3.
+// Works `count` clocks, leaping where nothing changes, writes a record of two words for each clock whose level differs from that before it, and adds
+// one to the count at the DMC level after each clock done. Refused: 1, 2, 3, 13.
 #[no_mangle]
-pub extern "C" fn perch_run(state: &mut [u8], memory: &[u8], count: u64, words: &mut [u32]) -> u64
-    ensures { λ r. ⌜ r ≡ runPacked (now (memory .entry)) (now (state .entry)) count (now (words .entry)) ⌝ }
-    ensures { λ r. ⌜ now (state .exit) ≡ runBytes (now (memory .entry)) (now (state .entry)) count (now (words .entry)) ⌝ }
-    ensures { λ r. ⌜ now (words .exit) ≡ wordsFrom (now (memory .entry)) (now (state .entry)) count (now (words .entry)) ⌝ }
+pub extern "C" fn perch_run(
+    state: &mut [u8],
+    memory: &[u8],
+    count: u64,
+    words: &mut [u32],
+    counts: &mut [u32],
+) -> u64
+    ensures { λ r. ⌜ r ≡ runPacked (now (memory .entry)) (now (state .entry)) count (now (words .entry)) (now (counts .entry)) ⌝ }
+    ensures { λ r. ⌜ now (state .exit) ≡ runBytes (now (memory .entry)) (now (state .entry)) count (now (words .entry)) (now (counts .entry)) ⌝ }
+    ensures { λ r. ⌜ now (words .exit) ≡ wordsFrom (now (memory .entry)) (now (state .entry)) count (now (words .entry)) (now (counts .entry)) ⌝ }
+    ensures { λ r. ⌜ now (counts .exit) ≡ countsFrom (now (memory .entry)) (now (state .entry)) count (now (words .entry)) (now (counts .entry)) ⌝ }
 {
-    c_run::run(state, memory, count, words)
+    c_run::run(state, memory, count, words, counts)
 }
 
 // The same, clock by clock.
@@ -20,10 +27,12 @@ pub extern "C" fn perch_run_plain(
     memory: &[u8],
     count: u64,
     words: &mut [u32],
+    counts: &mut [u32],
 ) -> u64
-    ensures { λ r. ⌜ r ≡ runPacked (now (memory .entry)) (now (state .entry)) count (now (words .entry)) ⌝ }
-    ensures { λ r. ⌜ now (state .exit) ≡ runBytes (now (memory .entry)) (now (state .entry)) count (now (words .entry)) ⌝ }
-    ensures { λ r. ⌜ now (words .exit) ≡ wordsFrom (now (memory .entry)) (now (state .entry)) count (now (words .entry)) ⌝ }
+    ensures { λ r. ⌜ r ≡ runPacked (now (memory .entry)) (now (state .entry)) count (now (words .entry)) (now (counts .entry)) ⌝ }
+    ensures { λ r. ⌜ now (state .exit) ≡ runBytes (now (memory .entry)) (now (state .entry)) count (now (words .entry)) (now (counts .entry)) ⌝ }
+    ensures { λ r. ⌜ now (words .exit) ≡ wordsFrom (now (memory .entry)) (now (state .entry)) count (now (words .entry)) (now (counts .entry)) ⌝ }
+    ensures { λ r. ⌜ now (counts .exit) ≡ countsFrom (now (memory .entry)) (now (state .entry)) count (now (words .entry)) (now (counts .entry)) ⌝ }
 {
-    c_run::run_plain(state, memory, count, words)
+    c_run::run_plain(state, memory, count, words, counts)
 }

@@ -10,6 +10,7 @@ use lib.Seq.{take-at}
 use Rattle.arith.specs.Iterate.{iterate}
 use Rattle.arith.specs.Pick.{pick}
 use Rattle.machine.specs.Reading.{Mark, Progress, start, same, stopped, unrecorded, recorded, worked, reading, plain}
+use Rattle.machine.proofs.ReadingLaws.{plain-went}
 use Rattle.chip.specs.Clock.{chipClock}
 use Rattle.chip.specs.Range.{inRange, Bytes}
 use Rattle.chip.specs.declared.State.{State}
@@ -21,7 +22,7 @@ use Rattle.run_meter.specs.Levels.{lowest, highest}
 use Rattle.run_meter.specs.Records.{levelsIn, recordLevels}
 use Rattle.run_meter.specs.Spans.{spanOver}
 use Rattle.play_to.specs.Walking.{portion}
-use Rattle.play_to.proofs.ClockLaws.{nearer, plain-went}
+use Rattle.play_to.proofs.ClockLaws.{nearer}
 use Rattle.play_meter.specs.Walking.{changed, meterMoment, clocksOn}
 use Rattle.play_meter.proofs.HeardLaws.{span-append, changed-add}
 

@@ -63,7 +63,7 @@ fn clocks_on(s: State, span: Span, memory: &[u8], n: u64, words: &mut [u32]) -> 
     let mut heard = span;
     let mut left = n;
     while 0 < left {
-        let r = run::run(state, memory, arith::least_u64(left, 1000000), words);
+        let r = run::uncounted(state, memory, arith::least_u64(left, 1000000), words);
         heard = run_meter::records::with_records(heard, words, 0, r.records as usize);
         left -= arith::wide_u32(r.done);
         state = r.state;

@@ -97,7 +97,7 @@ module _ (memory : List ℕ) where
     last-all = read-left t (stateLevel s) (λ u l x. []) n (start (1 + n) s) (omega arith) .1 refl
 
     pub done-all : all .done ≡ n
-    done-all = plain-all (chipMachine memory) (1 + n) n s (positive few)
+    done-all = plain-all (chipMachine memory) (1 + n) n s (λ x. refl) (positive few)
       where
         few : length (all .marks) ≤ n
         few =

@@ -41,22 +41,24 @@ module _ {S : Type 0} (m : Machine S) where
       by false = refl
 
   stopped-more : (b : ℕ) (p : Progress S) → stopped m p ≡ false → stopped m (roomier b p) ≡ false
-  stopped-more b p e = by (same m (p .state)) (eqb (p .room) 0) refl e
+  stopped-more b p e = by (m .full (p .state)) (same m (p .state)) (eqb (p .room) 0) refl e
     where
-      by : (t u : Bool) → eqb (p .room) 0 ≡ u → pick t false u ≡ false → pick t false (eqb (p .room + b) 0) ≡ false
-      by true u z e = refl
-      by false true z e = let y : _≡_ {A = Bool} true false = e in absurd (let x : _≡_ {A = ℕ} 0 1 = cc in omega arith)
-      by false false z e = let n = eqb-false (p .room) 0 z in ne-eqb (p .room + b) 0 (λ y. n (omega arith))
+      by : (f t u : Bool) → eqb (p .room) 0 ≡ u → pick f true (pick t false u) ≡ false → pick f true (pick t false (eqb (p .room + b) 0)) ≡ false
+      by true t u z e = e
+      by false true u z e = refl
+      by false false true z e = let y : _≡_ {A = Bool} true false = e in absurd (let x : _≡_ {A = ℕ} 0 1 = cc in omega arith)
+      by false false false z e = let n = eqb-false (p .room) 0 z in ne-eqb (p .room + b) 0 (λ y. n (omega arith))
 
   worked-more : (b : ℕ) (p : Progress S) → stopped m p ≡ false → worked m (roomier b p) ≡ roomier b (worked m p)
   unfolding worked
-  worked-more b p e = by (same m (p .state)) (eqb (p .room) 0) refl e
+  worked-more b p e = by (m .full (p .state)) (same m (p .state)) (eqb (p .room) 0) refl e
     where
-      by : (t u : Bool) → eqb (p .room) 0 ≡ u → pick t false u ≡ false
+      by : (f t u : Bool) → eqb (p .room) 0 ≡ u → pick f true (pick t false u) ≡ false
           → pick t (unrecorded m (roomier b p)) (recorded m (roomier b p)) ≡ roomier b (pick t (unrecorded m p) (recorded m p))
-      by true u z e = refl
-      by false true z e = let y : _≡_ {A = Bool} true false = e in absurd (let x : _≡_ {A = ℕ} 0 1 = cc in omega arith)
-      by false false z e =
+      by true t u z e = let y : _≡_ {A = Bool} true false = e in absurd (let x : _≡_ {A = ℕ} 0 1 = cc in omega arith)
+      by false true u z e = refl
+      by false false true z e = let y : _≡_ {A = Bool} true false = e in absurd (let x : _≡_ {A = ℕ} 0 1 = cc in omega arith)
+      by false false false z e =
           let n = eqb-false (p .room) 0 z in
           let pos : 0 < p .room = positive (p .room) n in
           let q : p .room + b - 1 ≡ p .room - 1 + b = omega arith in
@@ -91,11 +93,11 @@ module _ {S : Type 0} (m : Machine S) where
 
   -- WHAT A READING LEAVES
 
-  -- with room left at the end, no clock was left out
-  reading-all : (n : ℕ) (p : Progress S) → 0 < reading m n p .room → reading m n p .done ≡ p .done + n
+  -- with room left at the end of a machine that is never full, no clock was left out
+  reading-all : ((s : S) → m .full s ≡ false) → (n : ℕ) (p : Progress S) → 0 < reading m n p .room → reading m n p .done ≡ p .done + n
   unfolding reading
-  reading-all zero p h = omega arith
-  reading-all (suc n) p h = by (stopped m p) refl (λ q i. reading-all n q i)
+  reading-all never zero p h = omega arith
+  reading-all never (suc n) p h = by (stopped m p) refl (λ q i. reading-all never n q i)
     where
       room-none : (t : Bool) → pick t false (eqb (p .room) 0) ≡ true → p .room ≡ 0
       room-none true e = absurd (let x : _≡_ {A = ℕ} 0 1 = cc in omega arith)
@@ -106,7 +108,7 @@ module _ {S : Type 0} (m : Machine S) where
       by true z ih =
           let s = reading-stopped m (suc n) p z in
           let r : 0 < p .room = rw s at h in
-          let e = room-none (same m (p .state)) z in
+          let e = room-none (same m (p .state)) (rw (never (p .state)) at z) in
           absurd (omega arith)
       by false z ih =
           let s = goes-on n p z in
@@ -142,9 +144,9 @@ module _ {S : Type 0} (m : Machine S) where
         from : (q : Progress S) → roomier b q ≡ later (q .done) (q .marks) (start (q .room + b) (q .state))
         from q = rw (add-zero, append-nil)
 
-    pub plain-all : 0 < plain m a n s .room → plain m a n s .done ≡ n
+    pub plain-all : ((x : S) → m .full x ≡ false) → 0 < plain m a n s .room → plain m a n s .done ≡ n
     unfolding plain
-    plain-all h = rw zero-add at (reading-all n (start a s) h)
+    plain-all never h = rw zero-add at (reading-all never n (start a s) h)
 
     pub plain-most : plain m a n s .done ≤ n
     unfolding plain

@@ -86,7 +86,7 @@ module _ (log memory : List ℕ) where
     unfolding lastOf markSaid markLast
     none more r e h =
         let room : 0 < r .room = (let q : r .room + 0 ≡ 1 = room-of w s r e [] h in omega arith) in
-        let d : r .done ≡ w = rw e (plain-all (chipMachine memory) 1 w s (rw e at room)) in
+        let d : r .done ≡ w = rw e (plain-all (chipMachine memory) 1 w s (λ x. refl) (rw e at room)) in
         let zero : w - r .done ≡ 0 = omega arith in
         let turn : turnOf log memory (playerOf 2 w t last s c) ≡ go on (playerOf 2 (w - r .done) (t + r .done) last (r .state) c) = wait-turn w t last s c z a b ∙ rw (← e, h) refl in
         let whole : plain (chipMachine memory) (1 + more) w s ≡ later (r .done) [] (start (r .room + more) (r .state)) =

@@ -97,7 +97,7 @@ fn waited(p: Player, memory: &[u8], out: &mut [u8], at: usize, words: &mut [u32]
 {
     let end = 2 * room(out.len(), at);
     let s = p.state;
-    let ran = run::run(s, memory, arith::wide_u32(p.wait), &mut words[..end]);
+    let ran = run::uncounted(s, memory, arith::wide_u32(p.wait), &mut words[..end]);
     let n = ran.records as usize;
     let next = play_levels::level_lines(out, at, p.time, words, n);
     let last = last_level(p.last, words, n);

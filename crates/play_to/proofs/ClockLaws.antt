@@ -1,14 +1,14 @@
 -- A wait by runs: a run's state is so many clocks on as it did, and it does one at least. Assumes nothing.
 use Prim.Native.Nat.{ℕ, zero, suc, _+_, _-_, _/_, _≤_, _<_}
 use mathlib.Core.Path.{_≡_, refl, sym, ap, _∙_}
-use mathlib.Core.Bool.{Bool, true, false}
+use mathlib.Core.Bool.{true, false}
 use mathlib.Core.List.{List}
 use native.Mathlib.Omega.{arith}
 use lib.ListN.{length}
 use Rattle.arith.specs.Iterate.{iterate}
-use Rattle.arith.specs.Pick.{pick}
-use Rattle.arith.proofs.IterateLaws.{iterate-add, iterate-zero}
-use Rattle.machine.specs.Reading.{Machine, Progress, start, same, stopped, unrecorded, recorded, worked, reading, plain}
+use Rattle.arith.proofs.IterateLaws.{iterate-add}
+use Rattle.machine.specs.Reading.{Machine, plain}
+use Rattle.machine.proofs.ReadingLaws.{plain-went}
 use Rattle.chip.specs.Clock.{chipClock}
 use Rattle.chip.specs.Range.{inRange, Bytes}
 use Rattle.chip.specs.declared.State.{State}
@@ -19,45 +19,14 @@ use Rattle.play_model.proofs.RoomLaws.{plain-all, plain-most, plain-few, plain-
 use Rattle.play_model.proofs.WaitLaws.{plain-ranged}
 use Rattle.play_to.specs.Walking.{portion}
 
--- how far a reading went from p: k clocks, done one after the other
-pub record Went {S : Type 0} (m : Machine S) (p q : Progress S) : Type 0 where
-  pub clocks : ℕ
-  pub done : q .done ≡ p .done + clocks
-  pub state : q .state ≡ iterate (m .clock) clocks (p .state)
-
 module _ {S : Type 0} (m : Machine S) where
-  went-worked : (p q : Progress S) → Went m (worked m p) q → Went m p q
-  unfolding worked iterate
-  went-worked p q w = by (same m (p .state)) w
-    where
-      by : (t : Bool) → Went m (pick t (unrecorded m p) (recorded m p)) q → Went m p q
-      by true w = record { clocks = suc (w .clocks); done = omega (arith, w .done); state = w .state }
-      by false w = record { clocks = suc (w .clocks); done = omega (arith, w .done); state = w .state }
-
-  -- THE STATE OF A READING is so many clocks on as it did
-  pub reading-went : (n : ℕ) (p : Progress S) → Went m p (reading m n p)
-  unfolding reading iterate
-  reading-went zero p = record { clocks = 0; done = omega arith; state = refl }
-  reading-went (suc n) p = by (stopped m p) (went-worked p (reading m n (worked m p)) (reading-went n (worked m p)))
-    where
-      by : (t : Bool) → Went m p (reading m n (worked m p)) → Went m p (pick t p (reading m n (worked m p)))
-      by true w = record { clocks = 0; done = omega arith; state = sym (iterate-zero (m .clock) (p .state)) }
-      by false w = w
-
-  pub plain-went : (room n : ℕ) (s : S) → plain m room n s .state ≡ iterate (m .clock) (plain m room n s .done) s
-  unfolding plain
-  plain-went room n s =
-      let w = reading-went n (start room s) in
-      let e : w .clocks ≡ reading m n (start room s) .done = omega (arith, w .done) in
-      w .state ∙ ap (λ (k : ℕ). iterate (m .clock) k s) e
-
-  -- with room for a record and a clock to do, a clock is done at least
-  pub plain-some : (room n : ℕ) (s : S) → 0 < room → 0 < n → 0 < plain m room n s .done
-  plain-some room n s h k = by (plain m room n s .room) refl
+  -- with room for a record and a clock to do, a machine that is never full does a clock at least
+  pub plain-some : ((x : S) → m .full x ≡ false) → (room n : ℕ) (s : S) → 0 < room → 0 < n → 0 < plain m room n s .done
+  plain-some never room n s h k = by (plain m room n s .room) refl
     where
       by : (r : ℕ) → plain m room n s .room ≡ r → 0 < plain m room n s .done
       by zero e = omega (arith, plain-few m room n s, plain-room m room n s, e)
-      by (suc r) e = let all = plain-all m room n s (omega (arith, e)) in omega (arith, all)
+      by (suc r) e = let all = plain-all m room n s never (omega (arith, e)) in omega (arith, all)
 
 -- a run of a part of the clocks left
 pub record Nearer (memory : List ℕ) (s : State) (left : ℕ) (r : Ran) : Type 0 where
@@ -74,7 +43,7 @@ nearer memory s left words r long bytes fine room some e =
     let p = plain (chipMachine memory) (length words / 2) n s in
     let low : n ≤ 1000000 = omega arith in
     let is : r ≡ record { number = 0; state = p .state; done = p .done; records = length (p .marks) } = e ∙ rw (number-none memory s n long fine low) refl in
-    let d : 0 < p .done = plain-some (chipMachine memory) (length words / 2) n s (omega arith) (omega arith) in
+    let d : 0 < p .done = plain-some (chipMachine memory) (λ x. refl) (length words / 2) n s (omega arith) (omega arith) in
     let most : p .done ≤ n = plain-most (chipMachine memory) (length words / 2) n s in
     let split : left ≡ p .done + (left - p .done) = omega (arith, most) in
     rw is

@@ -74,7 +74,7 @@ fn clocks_on(s: State, memory: &[u8], n: u64, words: &mut [u32]) -> State
     let mut state = s;
     let mut left = n;
     while 0 < left {
-        let r = run::run(state, memory, arith::least_u64(left, 1000000), words);
+        let r = run::uncounted(state, memory, arith::least_u64(left, 1000000), words);
         left -= arith::wide_u32(r.done);
         state = r.state;
     }

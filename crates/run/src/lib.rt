@@ -8,11 +8,15 @@ ghost use Rattle.arith.specs.Pick.{pick};
 ghost use Rattle.leap_chip.specs.Frame.{beforeStep};
 ghost use Rattle.chip.specs.Range.{inRange};
 ghost use Rattle.run_answer.specs.Run.{answer, answered, lent, readBy, over, flat, stored};
+ghost use Rattle.run_dwell.specs.Dwell.{dwellLimit, countsWithin, dwellBy, dwellAnswered, dwellAnswer, dwellLent};
+ghost use Rattle.run_walk.specs.Walk.{Open, Walked};
 ghost use Rattle.run_stretch.specs.Stretch.{Standing, Worked, stretchEnd, Stretched};
 use chip::State;
 use leap_stretch::Lags;
 use run_answer::Ran;
+use run_dwell::Counted;
 use run_stretch::Stretch;
+use run_walk::Dwell;
 
 // The channels after some events, and the records written so far.
 pub struct Part {
@@ -211,8 +215,8 @@ fn run_on(s: State, memory: &[u8], count: u32, words: &mut [u32]) -> Ran
     }
 }
 
-// A run, leaping wherever nothing can change.
-pub fn run(s: State, memory: &[u8], count: u64, words: &mut [u32]) -> Ran
+// A run whose counts nobody asks for, leaping wherever nothing can change: by the chip without counts.
+pub fn uncounted(s: State, memory: &[u8], count: u64, words: &mut [u32]) -> Ran
     ensures { λ r. ⌜ r ≡ answer (now (memory .entry)) s count (now (words .entry)) ⌝ }
     ensures { λ r. ⌜ now (words .exit) ≡ lent (now (memory .entry)) s count (now (words .entry)) ⌝ }
 {
@@ -221,4 +225,91 @@ pub fn run(s: State, memory: &[u8], count: u64, words: &mut [u32]) -> Ran
         return run_answer::refuse(number, s);
     }
     run_on(s, memory, count as u32, words)
+}
+
+// The table after so many clocks, or after those before one that a count stops: the DMC goes by itself, and its level stands from change to change.
+fn dwell(s: State, memory: &[u8], counts: [u32; 128], count: u32) -> Dwell
+    requires { ⌜ inRange s ≡ true ⌝ }
+    requires { ⌜ count ≤ 1000000 ⌝ }
+    requires { ⌜ countsWithin dwellLimit counts ≡ true ⌝ }
+    ensures { λ r. ⌜ Walked (now (memory .entry)) s counts count r ⌝ }
+{
+    let period = chip_tables::dmc_period(s.pal, s.dmc.registers.index);
+    let mut table = counts;
+    let mut d = s.dmc;
+    let mut at: u32 = 0;
+    let mut walked: u32 = 0;
+    while walked < count {
+        let place = d.output.level as usize;
+        let last = run_walk::last_at(at, leap_dmc::still_for(d, period), count);
+        let left = last - walked;
+        let dwelt = table[place];
+        let g = arith::least_u32(left, 4000000000 - dwelt);
+        table[place] = dwelt + g;
+        walked += g;
+        if g < left {
+            return Dwell {
+                clocks: walked,
+                counts: table,
+            };
+        }
+        let brink = leap_dmc::at_brink(d);
+        let timed = brink.timed(period);
+        d = timed.fed(memory);
+        at = last + 1;
+    }
+    Dwell {
+        clocks: walked,
+        counts: table,
+    }
+}
+
+// The clocks of a run that no count stops: all of them where no count can reach the limit.
+fn open_clocks(s: State, memory: &[u8], counts: [u32; 128], count: u32) -> u32
+    requires { ⌜ inRange s ≡ true ⌝ }
+    requires { ⌜ count ≤ 1000000 ⌝ }
+    requires { ⌜ countsWithin dwellLimit counts ≡ true ⌝ }
+    ensures { λ r. ⌜ Open (now (memory .entry)) s counts count r ⌝ }
+{
+    if run_dwell::within(counts, 4000000000 - count) {
+        return count;
+    }
+    let w = dwell(s, memory, counts, count);
+    w.clocks
+}
+
+// A run with its counts that nothing refuses: the clocks that no count stops, and the table after those that were done.
+fn run_counted(
+    s: State,
+    memory: &[u8],
+    counts: [u32; 128],
+    count: u32,
+    words: &mut [u32],
+) -> Counted
+    requires { ⌜ inRange s ≡ true ⌝ }
+    requires { ⌜ count ≤ 1000000 ⌝ }
+    requires { ⌜ countsWithin dwellLimit counts ≡ true ⌝ }
+    ensures { λ r. ⌜ r ≡ dwellAnswered 0 s counts (dwellBy (now (memory .entry)) s counts count (now (words .entry))) ⌝ }
+    ensures { λ r. ⌜ now (words .exit) ≡ over (flat (dwellBy (now (memory .entry)) s counts count (now (words .entry)) .marks)) (now (words .entry)) ⌝ }
+{
+    let most = open_clocks(s, memory, counts, count);
+    let ran = run_on(s, memory, most, words);
+    let w = dwell(s, memory, counts, ran.done);
+    let after = w.counts;
+    Counted {
+        ran: ran,
+        counts: after,
+    }
+}
+
+// A run with its dwell table, leaping wherever nothing can change.
+pub fn run(s: State, memory: &[u8], counts: [u32; 128], count: u64, words: &mut [u32]) -> Counted
+    ensures { λ r. ⌜ r ≡ dwellAnswer (now (memory .entry)) s counts count (now (words .entry)) ⌝ }
+    ensures { λ r. ⌜ now (words .exit) ≡ dwellLent (now (memory .entry)) s counts count (now (words .entry)) ⌝ }
+{
+    let number = run_dwell::number_of(s, memory, counts, count);
+    if number != 0 {
+        return run_dwell::refuse(number, s, counts);
+    }
+    run_counted(s, memory, counts, count as u32, words)
 }

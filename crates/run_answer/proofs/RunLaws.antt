@@ -68,7 +68,7 @@ module _ (memory : List ℕ) (s : State) (words₀ : List ℕ) where
     held-leap g q =
         record {
           marks = h .marks;
-          read = on g ∙ reading-quiet (chipMachine memory) g here q;
+          read = on g ∙ reading-quiet (chipMachine memory) (λ s. refl) g here q;
           count = h .count;
           most = h .most;
           stored = h .stored;
@@ -80,7 +80,7 @@ module _ (memory : List ℕ) (s : State) (words₀ : List ℕ) where
     held-same e =
         record {
           marks = h .marks;
-          read = on 1 ∙ reading-same (chipMachine memory) 0 here none (eq-eqb _ _ e) ∙ rw add-zero;
+          read = on 1 ∙ reading-same (chipMachine memory) (λ s. refl) 0 here none (eq-eqb _ _ e) ∙ rw add-zero;
           count = h .count;
           most = h .most;
           stored = h .stored;
@@ -95,7 +95,7 @@ module _ (memory : List ℕ) (s : State) (words₀ : List ℕ) where
           marks = h .marks ++ (m ∷ []);
           read =
               let less : roomOf words₀ - n - 1 ≡ roomOf words₀ - (n + 1) = omega arith in
-              on 1 ∙ reading-mark (chipMachine memory) 0 here none (ne-eqb _ _ e) (omega arith) ∙ rw (add-zero, less);
+              on 1 ∙ reading-mark (chipMachine memory) (λ s. refl) 0 here none (ne-eqb _ _ e) (omega arith) ∙ rw (add-zero, less);
           count = length-append (h .marks) (m ∷ []) ∙ omega (arith, h .count);
           most = omega arith;
           stored =
@@ -114,7 +114,7 @@ module _ (memory : List ℕ) (s : State) (words₀ : List ℕ) where
     held-stuck count e q b =
         let no-room : roomOf words₀ - n ≡ 0 = omega arith in
         let split : count ≡ done + (0 + (count - done)) = omega arith in
-        rw split (on (0 + (count - done)) ∙ reading-stop (chipMachine memory) 0 (count - done) here none (ne-eqb _ _ e) no-room ∙ rw add-zero)
+        rw split (on (0 + (count - done)) ∙ reading-stop (chipMachine memory) (λ s. refl) 0 (count - done) here none (ne-eqb _ _ e) no-room ∙ rw add-zero)
 
     -- what a run of count clocks answers and leaves, once its reading is here
     Given : ℕ → Type 0

@@ -1,5 +1,6 @@
 -- Document 01, "Mixer and records" and "Numbers an answer can carry": what a run answers and leaves in the lent words, by the plain reading.
 use Prim.Native.Nat.{ℕ, _+_, _*_, _/_}
+use mathlib.Core.Bool.{false}
 use mathlib.Core.List.{List, [], _∷_, _++_}
 use lib.ListN.{length, drop, set}
 use lib.Dec.{leb, ltb, eqb}
@@ -12,9 +13,9 @@ use Rattle.chip.specs.declared.State.{State}
 use Rattle.chip_api.specs.Answer.{isMemory}
 use Rattle.run_answer.specs.declared.Ran.{Ran}
 
--- the chip with its sample memory, as the machine of a reading
+-- the chip with its sample memory, as the machine of a reading; with the counts of request 1 beside it: crate run_dwell
 abbrev pub chipMachine : List ℕ → Machine State
-chipMachine memory = record { clock = chipClock memory; level = stateLevel }
+chipMachine memory = record { clock = chipClock memory; level = stateLevel; full = λ s. false }
 
 -- 1 "sample memory isn't 32,768 bytes"; 2 "a state field is outside its range"; 3 "a run of more than 1,000,000 clocks"; "Lowest number first"
 unfoldable pub number : List ℕ → State → ℕ → ℕ

@@ -1,4 +1,5 @@
--- Demand 3: a list of runs, refused ones included. "Each run gets the state the last one handed back and the room it left."
+-- Demand 3: a list of runs, refused ones included. "Each run gets the state the last one handed back and the room it left." Request 1: "each run of a
+-- list gets the table the last one handed back".
 use Prim.Native.Nat.{ℕ, _+_, _*_, _≤_}
 use mathlib.Core.Path.{_≡_}
 use mathlib.Core.Bool.{true}
@@ -10,8 +11,11 @@ use Rattle.machine.specs.Reading.{Mark, Progress, raised, plain}
 use Rattle.chip.specs.Range.{inRange, Bytes}
 use Rattle.chip.specs.declared.State.{State}
 use Rattle.chip_api.specs.Answer.{isMemory}
-use Rattle.run_answer.specs.Run.{chipMachine, roomOf, answer, lent}
+use Rattle.machine.specs.Counting.{Beside}
+use Rattle.run_answer.specs.Run.{roomOf}
 use Rattle.run_answer.specs.declared.Ran.{Ran}
+use Rattle.run_dwell.specs.Dwell.{dwellLimit, dwellMachine, countsWithin, dwellAnswer, dwellLent}
+use Rattle.run_dwell.specs.declared.Counted.{Counted}
 
 -- what one run of the list is asked
 pub record Request : Type 0 where
@@ -21,6 +25,7 @@ pub record Request : Type 0 where
 -- what a list has come to; clocks count from its start
 pub record Outcome : Type 0 where
   pub state : State
+  pub counts : List ℕ
   pub done : ℕ
   pub marks : List Mark
   pub words : List ℕ
@@ -40,77 +45,96 @@ wordsBehind r words = drop (2 * r .records) words
 
 -- a run's answer with the words as it left them, then the rest of the list: "Each run is lent the words behind the records so far"; "the clocks
 -- in its records as whole numbers of any size, raised by the clocks done before it"
-unfoldable pub joined : Ran → List ℕ → (State → List ℕ → Outcome) → Outcome
-joined r words rest =
-    let o = rest (r .state) (wordsBehind r words) in
+unfoldable pub joined : Counted → List ℕ → (State → List ℕ → List ℕ → Outcome) → Outcome
+joined c words rest =
+    let r = c .ran in
+    let o = rest (r .state) (c .counts) (wordsBehind r words) in
     record {
       state = o .state;
+      counts = o .counts;
       done = r .done + o .done;
       marks = marksOf (wordsWritten r words) ++ map (raised (r .done)) (o .marks);
       words = wordsWritten r words ++ o .words;
     }
 
 -- the list, run by run, by what a run promises
-unfoldable pub runAll : List Request → State → List ℕ → Outcome
-runAll [] s words = record { state = s; done = 0; marks = []; words = words }
-runAll (q ∷ qs) s words = joined (answer (q .memory) s (q .count) words) (lent (q .memory) s (q .count) words) (runAll qs)
+unfoldable pub runAll : List Request → State → List ℕ → List ℕ → Outcome
+runAll [] s counts words = record { state = s; counts = counts; done = 0; marks = []; words = words }
+runAll (q ∷ qs) s counts words =
+    joined (dwellAnswer (q .memory) s counts (q .count) words) (dwellLent (q .memory) s counts (q .count) words) (runAll qs)
 
--- "a run is refused exactly where 1 or 3 holds (2 never does), and then counts as asking for 0 clocks"
-unfoldable pub asks : Request → ℕ
-asks q = pick (isMemory (q .memory)) (pick (leb (q .count) 1_000_000) (q .count) 0) 0
+-- "a run is refused exactly where 1 or 3 holds (2 never does), and then counts as asking for 0 clocks"; "a run refused by 13 asks for 0 clocks": that
+-- is all runs of the list or none, by its first table (`ListTables`)
+unfoldable pub asks : List ℕ → Request → ℕ
+asks counts q = pick (isMemory (q .memory)) (pick (leb (q .count) 1_000_000) (pick (countsWithin dwellLimit counts) (q .count) 0) 0) 0
 
 -- "the clocks asked for in all"
-unfoldable pub asked : List Request → ℕ
-asked [] = 0
-asked (q ∷ qs) = asks q + asked qs
+unfoldable pub asked : List ℕ → List Request → ℕ
+asked counts [] = 0
+asked counts (q ∷ qs) = asks counts q + asked counts qs
 
 -- "all runs not refused share the sample memory"
-abbrev pub Share : List ℕ → List Request → Type 0
-Share memory [] = Unit {0}
-Share memory (q ∷ qs) = (length (q .memory) ≡ 32768 → q .count ≤ 1_000_000 → q .memory ≡ memory) × Share memory qs
+abbrev pub Share : List ℕ → List ℕ → List Request → Type 0
+Share memory counts [] = Unit {0}
+Share memory counts (q ∷ qs) =
+    (length (q .memory) ≡ 32768 → q .count ≤ 1_000_000 → countsWithin dwellLimit counts ≡ true → q .memory ≡ memory) × Share memory counts qs
 
--- "the state, the clocks done in all and the records in order are exactly those of the plain reading"; "lent words after the last record stay"
-pub record ReadAs (words : List ℕ) (p : Progress State) (o : Outcome) : Type 0 where
-  pub state : o .state ≡ p .state
+-- "the state, the clocks done in all and the records in order are exactly those of the plain reading"; "lent words after the last record stay"; "the
+-- counts end as in the plain reading"
+pub record ReadAs (words : List ℕ) (p : Progress (Beside State)) (o : Outcome) : Type 0 where
+  pub state : o .state ≡ p .state .state
+  pub counts : o .counts ≡ p .state .counts
   pub done : o .done ≡ p .done
   pub marks : o .marks ≡ p .marks
   pub size : length (o .words) ≡ length words
   pub rest : drop (2 * length (p .marks)) (o .words) ≡ drop (2 * length (p .marks)) words
 
--- DEMAND 3: every list, from any state in range, with any sample memory and any lent words, is "the plain reading, which goes clock by clock
+-- DEMAND 3: every list, from any state in range and any table, with any sample memory and any lent words, is "the plain reading, which goes clock by clock
 -- through the clocks asked for in all" (a memory of another length than 32,768 bytes is shared by no run: all are refused then)
 abbrev pub ListPlain : Type 0
 ListPlain =
-    (memory : List ℕ) → Bytes memory → (requests : List Request) → Share memory requests → (s : State) → inRange s ≡ true → (words : List ℕ)
-    → ReadAs words (plain (chipMachine memory) (roomOf words) (asked requests) s) (runAll requests s words)
+    (memory : List ℕ) → Bytes memory → (requests : List Request) (s : State) → inRange s ≡ true → (counts : List ℕ) → Share memory counts requests → (words : List ℕ)
+    → ReadAs words (plain (dwellMachine memory) (roomOf words) (asked counts requests) (record { state = s; counts = counts })) (runAll requests s counts words)
 
--- "the same state, clocks done and records"
+-- the table that a list hands back, and so the one that any run of a list is given, is one that 13 refuses exactly where the first is
+abbrev pub ListTables : Type 0
+ListTables =
+    (requests : List Request) (s : State) (counts words : List ℕ) → countsWithin dwellLimit (runAll requests s counts words .counts) ≡ countsWithin dwellLimit counts
+
+-- "the same state, clocks done and records", and the same counts
 pub record Alike (o o′ : Outcome) : Type 0 where
   pub state : o .state ≡ o′ .state
+  pub counts : o .counts ≡ o′ .counts
   pub done : o .done ≡ o′ .done
   pub marks : o .marks ≡ o′ .marks
 
--- "two lists alike in first state, memory, room and clocks asked for in all end in the same state, clocks done and records"
+-- "two lists alike in first state, memory, room and clocks asked for in all end in the same state, clocks done and records"; "the first table is among
+-- what two lists are alike in"
 abbrev pub ListsAlike : Type 0
 ListsAlike =
-    (memory : List ℕ) → Bytes memory → (requests requests′ : List Request) → Share memory requests → Share memory requests′
-    → (s : State) → inRange s ≡ true → (words words′ : List ℕ) → roomOf words ≡ roomOf words′ → asked requests ≡ asked requests′
-    → Alike (runAll requests s words) (runAll requests′ s words′)
+    (memory : List ℕ) → Bytes memory → (requests requests′ : List Request) (s : State) → inRange s ≡ true → (counts : List ℕ)
+    → Share memory counts requests → Share memory counts requests′
+    → (words words′ : List ℕ) → roomOf words ≡ roomOf words′ → asked counts requests ≡ asked counts requests′
+    → Alike (runAll requests s counts words) (runAll requests′ s counts words′)
 
 -- two runs, the second from where the first left off, give what one does
-pub record Splits (first second whole : Ran) (words₁ words₂ words : List ℕ) : Type 0 where
-  pub number : second .number ≡ whole .number
-  pub state : second .state ≡ whole .state
-  pub done : first .done + second .done ≡ whole .done
-  pub records : first .records + second .records ≡ whole .records
-  pub marks : marksOf (wordsWritten first words₁) ++ map (raised (first .done)) (marksOf (wordsWritten second words₂)) ≡ marksOf (wordsWritten whole words)
-  pub rest : wordsBehind second words₂ ≡ wordsBehind whole words
+pub record Splits (first second whole : Counted) (words₁ words₂ words : List ℕ) : Type 0 where
+  pub number : second .ran .number ≡ whole .ran .number
+  pub state : second .ran .state ≡ whole .ran .state
+  pub counts : second .counts ≡ whole .counts
+  pub done : first .ran .done + second .ran .done ≡ whole .ran .done
+  pub records : first .ran .records + second .ran .records ≡ whole .ran .records
+  pub marks :
+      marksOf (wordsWritten (first .ran) words₁) ++ map (raised (first .ran .done)) (marksOf (wordsWritten (second .ran) words₂))
+      ≡ marksOf (wordsWritten (whole .ran) words)
+  pub rest : wordsBehind (second .ran) words₂ ≡ wordsBehind (whole .ran) words
 
 -- "Where a+b is at most 1,000,000, a run of a clocks and then one of b give what a+b gives at once."
 abbrev pub Split : Type 0
 Split =
-    (memory : List ℕ) → Bytes memory → length memory ≡ 32768 → (s : State) → inRange s ≡ true → (words : List ℕ) (a b : ℕ) → a + b ≤ 1_000_000
-    → let first = answer memory s a words in
-    let words₁ = lent memory s a words in
-    Splits first (answer memory (first .state) b (wordsBehind first words₁)) (answer memory s (a + b) words)
-    words₁ (lent memory (first .state) b (wordsBehind first words₁)) (lent memory s (a + b) words)
+    (memory : List ℕ) → Bytes memory → length memory ≡ 32768 → (s : State) → inRange s ≡ true → (counts words : List ℕ) (a b : ℕ) → a + b ≤ 1_000_000
+    → let first = dwellAnswer memory s counts a words in
+    let words₁ = dwellLent memory s counts a words in
+    let behind = wordsBehind (first .ran) words₁ in
+    Splits first (dwellAnswer memory (first .ran .state) (first .counts) b behind) (dwellAnswer memory s counts (a + b) words)
+    words₁ (dwellLent memory (first .ran .state) (first .counts) b behind) (dwellLent memory s counts (a + b) words)

@@ -31,7 +31,7 @@ fn access(line: &[u8], state: &mut [u8]) -> u64 {
     }
 }
 
-// A run; the plain run on copies of state and words must give the same answer, state and words.
+// A run; the plain run on copies of state and words must give the same answer, state and words, and the same counts from an empty table.
 fn both(
     count: u64,
     memory: &[u8],
@@ -40,11 +40,14 @@ fn both(
     twin: &mut [u8],
     other: &mut [u32],
 ) -> u64 {
-    let a = c_run::run(state, memory, count, words);
-    let b = c_run::run_plain(twin, memory, count, other);
+    let mut counts = [0u32; 128];
+    let mut tallies = [0u32; 128];
+    let a = c_run::run(state, memory, count, words, &mut counts);
+    let b = c_run::run_plain(twin, memory, count, other, &mut tallies);
     hold(a == b);
     hold(text::exact(state, twin));
     hold(lent::alike(words, other));
+    hold(lent::alike(&counts, &tallies));
     a
 }
 

@@ -6,7 +6,7 @@ mod tune;
 
 use compare::random::Random;
 use compare::{draw, folds, imports};
-use perch::{Access, Chip, MEMORY, Machine, Ran, Refusal, raw};
+use perch::{Access, Chip, Dwell, MEMORY, Machine, Ran, Refusal, raw};
 use std::process::{Command, ExitCode};
 use tune::Act;
 
@@ -33,7 +33,7 @@ fn now() -> f64 {
     time.seconds as f64 + time.nanoseconds as f64 / 1e9
 }
 
-type Run = fn(&mut Chip, &[u8], u64, &mut [u32]) -> Result<Ran, Refusal>;
+type Run = fn(&mut Chip, &[u8], u64, &mut [u32], &mut Dwell) -> Result<Ran, Refusal>;
 
 /// What is measured: the accesses that lead to the first state, and what is played from there.
 struct Scene {
@@ -49,11 +49,12 @@ struct Played {
     clocks: u64,
     records: u64,
     sum: u64,
+    dwell: Dwell,
 }
 
 /// Plays a scene; a run that ends early for want of room goes on with the room used again.
 fn play(scene: &Scene, memory: &[u8], words: &mut [u32], run: Run) -> Result<Played, Refusal> {
-    let mut now = Played { chip: scene.first, clocks: 0, records: 0, sum: 0 };
+    let mut now = Played { chip: scene.first, clocks: 0, records: 0, sum: 0, dwell: perch::EMPTY };
     for act in &scene.acts {
         match *act {
             Act::Write(register, value) => drop(now.chip.access(Access::Write(register, value))?),
@@ -61,7 +62,7 @@ fn play(scene: &Scene, memory: &[u8], words: &mut [u32], run: Run) -> Result<Pla
             Act::Wait(clocks) => {
                 let mut left = clocks;
                 while left > 0 {
-                    let ran = run(&mut now.chip, memory, left.min(1_000_000), words)?;
+                    let ran = run(&mut now.chip, memory, left.min(1_000_000), words, &mut now.dwell)?;
                     for pair in words[..2 * ran.records].chunks_exact(2) {
                         now.sum = now.sum.wrapping_mul(31).wrapping_add((now.clocks + u64::from(pair[0])) << 16);
                         now.sum = now.sum.wrapping_add(pair[1].into());

@@ -25,7 +25,7 @@ pub fn line(name: &str, first: &Chip, memory: &[u8], tries: u32) -> Result<(), B
     const CLOCKS: u64 = 1_000_000;
     let (each, state) = time(first, memory, CLOCKS, tries);
     let mut run = *first;
-    run.run(memory, CLOCKS, &mut vec![0; 2 * CLOCKS as usize])?;
+    run.run(memory, CLOCKS, &mut vec![0; 2 * CLOCKS as usize], &mut perch::EMPTY.clone())?;
     if *run.bytes() != state {
         return Err("the clock by itself and the run differ".into());
     }

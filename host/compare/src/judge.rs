@@ -3,7 +3,7 @@
 use crate::case::{Case, FILL, MOST_MEMORY, Op, Outcome, sum};
 use perch::raw;
 use reading::bytes::SIZE;
-use reading::{Chip, MEMORY, MOST_CLOCKS, Plain, boundary, plain};
+use reading::{Chip, Dwell, MEMORY, MOST_CLOCKS, MOST_COUNT, Plain, boundary, plain};
 
 /// The operations, by the reading or by the library.
 struct Engine {
@@ -13,7 +13,7 @@ struct Engine {
     line: fn(&[u8]) -> u64,
     level: fn(&[u8]) -> u64,
     fraction: fn(u16) -> f32,
-    run: fn(&mut [u8], &[u8], u64, &mut [u32]) -> u64,
+    run: fn(&mut [u8], &[u8], u64, &mut [u32], &mut [u32]) -> u64,
 }
 
 const READING: Engine = Engine {
@@ -44,18 +44,35 @@ struct Side {
     state: Vec<u8>,
     words: Vec<u32>,
     used: usize,
+    counts: Vec<u32>,
+}
+
+/// The table that a case begins with: empty, near its limit, beyond it, or of another length.
+fn table(case: &Case) -> Vec<u32> {
+    let seed = u32::from(case.memory.start);
+    let near = |place: u32| MOST_COUNT - (seed.wrapping_mul(40_503).wrapping_add(place * 7919) >> 3) % 60_000;
+    let mut counts: Vec<u32> = (0..128).map(|place| if seed % 4 == 0 { near(place) } else { 0 }).collect();
+    match seed % 64 {
+        5 => counts[(seed / 64 % 128) as usize] = MOST_COUNT + 1,
+        6 => counts[(seed / 64 % 128) as usize] = MOST_COUNT,
+        7 => counts.truncate(127),
+        9 => counts.push(0),
+        _ => {}
+    }
+    counts
 }
 
 impl Side {
-    fn new(engine: Engine, case: &Case) -> Self {
-        Self { engine, state: case.state.clone(), words: vec![FILL; case.words], used: 0 }
+    fn new(engine: Engine, case: &Case, counts: &[u32]) -> Self {
+        Self { engine, state: case.state.clone(), words: vec![FILL; case.words], used: 0, counts: counts.to_vec() }
     }
 
     fn act(&mut self, op: Op, memory: &[u8]) -> Result<u64, String> {
         let state = &mut self.state;
         Ok(match op {
             Op::Run { memory: length, count } => {
-                let answer = (self.engine.run)(state, &memory[..length], count, &mut self.words[self.used..]);
+                let answer =
+                    (self.engine.run)(state, &memory[..length], count, &mut self.words[self.used..], &mut self.counts);
                 self.used += 2 * (answer >> 32) as usize;
                 if self.used > self.words.len() {
                     return Err(format!("{} counts more records than there is room for", self.engine.name));
@@ -81,6 +98,8 @@ impl Side {
 /// The runs since the last access: demand 3's list, and what it came to so far.
 struct List {
     first: Vec<u8>,
+    /// The first table; none where 13 refuses it.
+    table: Option<Dwell>,
     used: usize,
     asked: u64,
     done: u64,
@@ -90,11 +109,12 @@ struct List {
 
 impl List {
     fn new(side: &Side) -> Self {
-        Self { first: side.state.clone(), used: side.used, asked: 0, done: 0, runs: Vec::new() }
+        let table = Dwell::try_from(&side.counts[..]).ok().filter(|table| table.iter().all(|&n| n <= MOST_COUNT));
+        Self { first: side.state.clone(), table, used: side.used, asked: 0, done: 0, runs: Vec::new() }
     }
 
     fn ran(&mut self, used: usize, length: usize, count: u64, answer: u64) {
-        if length == MEMORY && count <= MOST_CLOCKS {
+        if length == MEMORY && count <= MOST_CLOCKS && self.table.is_some() {
             self.asked += count;
         }
         self.runs.push(((used - self.used) / 2, self.done));
@@ -107,7 +127,7 @@ impl List {
             return Ok(());
         };
         let room = (sides[0].words.len() - self.used) as u64 / 2;
-        let expected = plain(chip, &memory[..MEMORY], self.asked, room);
+        let expected = plain(chip, &memory[..MEMORY], self.asked, room, self.table.unwrap_or([0; 128]));
         sides.iter().try_for_each(|side| self.check(side, &expected))
     }
 
@@ -119,6 +139,9 @@ impl List {
         }
         if self.done != expected.done {
             return Err(format!("{name}: the list did {} clocks, the plain reading {}", self.done, expected.done));
+        }
+        if self.table.is_some() && side.counts != expected.dwell {
+            return Err(format!("{name}: the list's counts aren't the plain reading's"));
         }
         let records = (side.used - self.used) / 2;
         if records != expected.records.len() {
@@ -196,7 +219,7 @@ impl Tally {
 /// What the reading makes of a case.
 pub fn expected(case: &Case) -> Outcome {
     let memory = case.memory.bytes();
-    let mut side = Side::new(READING, case);
+    let mut side = Side::new(READING, case, &[0; 128]);
     let answers = case.ops.iter().map(|op| side.act(*op, &memory).expect("the reading agrees with itself")).collect();
     Outcome { answers, state: side.state, sum: sum(&side.words) }
 }
@@ -205,8 +228,9 @@ pub fn expected(case: &Case) -> Outcome {
 pub fn judge(case: &Case, tally: &mut Tally) -> Result<(), String> {
     let memory = case.memory.bytes();
     debug_assert_eq!(memory.len(), MOST_MEMORY);
-    let mut reading = Side::new(READING, case);
-    let mut library = [Side::new(LEAPING, case), Side::new(PLAIN, case)];
+    let counts = table(case);
+    let mut reading = Side::new(READING, case, &counts);
+    let mut library = [Side::new(LEAPING, case, &counts), Side::new(PLAIN, case, &counts)];
     let mut list = List::new(&reading);
     tally.cases += 1;
     tally.pal += u64::from(case.state.get(SIZE - 1) == Some(&1));
@@ -225,6 +249,10 @@ pub fn judge(case: &Case, tally: &mut Tally) -> Result<(), String> {
             if reading.state != side.state {
                 let fields = differing(&reading.state, &side.state);
                 return Err(format!("operation {i}, {op:?}: after the reading, after {name}:{fields}"));
+            }
+            if reading.counts != side.counts {
+                let at = (0..128).find(|&j| reading.counts.get(j) != side.counts.get(j)).unwrap_or(0);
+                return Err(format!("operation {i}, {op:?}: count {at} is another by {name} than by the reading"));
             }
             let written = before..reading.used;
             if reading.words[written.clone()] != side.words[written.clone()] {
@@ -258,7 +286,7 @@ pub fn judge(case: &Case, tally: &mut Tally) -> Result<(), String> {
 pub fn holds(case: &Case, outcome: &Outcome) -> Result<(), String> {
     let memory = case.memory.bytes();
     for engine in [LEAPING, PLAIN] {
-        let mut side = Side::new(engine, case);
+        let mut side = Side::new(engine, case, &[0; 128]);
         for (op, expected) in case.ops.iter().zip(&outcome.answers) {
             let answer = side.act(*op, &memory)?;
             if answer != *expected {

@@ -113,7 +113,7 @@ fn singles_are_a_run(seed: u64, lists: u64) -> Result<String, String> {
             }
         }
         let mut words = vec![0; records.len()];
-        let answer = perch::raw::run(&mut ran, &memory, clocks, &mut words);
+        let answer = perch::raw::run(&mut ran, &memory, clocks, &mut words, &mut [0; 128]);
         let expected = clocks << 8 | (records.len() as u64 / 2) << 32;
         if (answer, ran) != (expected, clocked) || words != records {
             let chip = Chip::decode(&first);

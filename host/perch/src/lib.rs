@@ -7,7 +7,9 @@
 //! assert_eq!((accessed.level, accessed.differs), (16620, true));
 //! assert_eq!(chip.access(perch::Access::Read)?.byte, 0x00);
 //! let mut words = [0; 64];
-//! let ran = chip.run(&memory, 1_000_000, &mut words)?;
+//! let mut dwell = perch::EMPTY;
+//! let ran = chip.run(&memory, 1_000_000, &mut words, &mut dwell)?;
+//! assert_eq!(u64::from(dwell[64]), ran.done);
 //! for pair in words[..2 * ran.records].chunks(2) {
 //!     println!("clock {} level {}", pair[0], pair[1]);
 //! }
@@ -117,7 +119,7 @@ pub const MEMORY: usize = 32_768;
 pub const STATE: usize = 91;
 
 /// The version of the header that this wraps; the library's is `version()`.
-pub const VERSION: u32 = 7;
+pub const VERSION: u32 = 8;
 
 /// The version of the library linked. One of another version has other sizes, layouts or functions.
 pub fn version() -> u32 {
@@ -148,6 +150,7 @@ impl fmt::Display for Refusal {
             10 => "`stop` differs from the clocks in all",
             11 => "the log has no such item",
             12 => "no loop line begins at the offset",
+            13 => "a count above 4,000,000,000",
             14 => "unknown key, or one not allowed there",
             15 => "value not of its shape",
             16 => "value outside its range",
@@ -185,7 +188,7 @@ fn value(answer: u64) -> Result<u64, Refusal> {
 /// What a run did.
 #[derive(Clone, Copy, Debug, PartialEq, Eq)]
 pub struct Ran {
-    /// The clocks done: those asked for, or fewer where a record had no room.
+    /// The clocks done: those asked for, or fewer where a record had no room or a count would pass 4,000,000,000.
     pub done: u64,
     /// The records written, two words each: the clock in the run, from 1, and the level.
     pub records: usize,
@@ -195,6 +198,12 @@ fn ran(answer: u64) -> Result<Ran, Refusal> {
     let value = value(answer)?;
     Ok(Ran { done: value & 0xff_ffff, records: (value >> 24) as usize })
 }
+
+/// The dwell table: for each value of the DMC level, after how many clocks it stood there.
+pub type Dwell = [u32; 128];
+
+/// A table with no clock counted.
+pub const EMPTY: Dwell = [0; 128];
 
 /// A console.
 #[derive(Clone, Copy, Debug, PartialEq, Eq)]
@@ -259,13 +268,19 @@ impl Chip {
         value(raw::clock(&mut self.0, memory)).map(|_| ())
     }
 
-    /// Runs up to `count` clocks, leaping where nothing changes.
-    pub fn run(&mut self, memory: &[u8], count: u64, words: &mut [u32]) -> Result<Ran, Refusal> {
-        ran(raw::run(&mut self.0, memory, count, words))
+    /// Runs up to `count` clocks, leaping where nothing changes, and counts each in the table.
+    pub fn run(&mut self, memory: &[u8], count: u64, words: &mut [u32], dwell: &mut Dwell) -> Result<Ran, Refusal> {
+        ran(raw::run(&mut self.0, memory, count, words, dwell))
     }
 
     /// The same, clock by clock.
-    pub fn run_plain(&mut self, memory: &[u8], count: u64, words: &mut [u32]) -> Result<Ran, Refusal> {
-        ran(raw::run_plain(&mut self.0, memory, count, words))
+    pub fn run_plain(
+        &mut self,
+        memory: &[u8],
+        count: u64,
+        words: &mut [u32],
+        dwell: &mut Dwell,
+    ) -> Result<Ran, Refusal> {
+        ran(raw::run_plain(&mut self.0, memory, count, words, dwell))
     }
 }

@@ -34,7 +34,17 @@ unsafe extern "C" {
     fn perch_interrupt_line(state: *const u8, n: usize) -> u64;
     fn perch_level(state: *const u8, n: usize) -> u64;
     fn perch_clock(state: *mut u8, n: usize, memory: *const u8, m: usize) -> u64;
-    fn perch_run(state: *mut u8, n: usize, memory: *const u8, m: usize, count: u64, words: *mut u32, w: usize) -> u64;
+    fn perch_run(
+        state: *mut u8,
+        n: usize,
+        memory: *const u8,
+        m: usize,
+        count: u64,
+        words: *mut u32,
+        w: usize,
+        counts: *mut u32,
+        c: usize,
+    ) -> u64;
     fn perch_run_plain(
         state: *mut u8,
         n: usize,
@@ -43,6 +53,8 @@ unsafe extern "C" {
         count: u64,
         words: *mut u32,
         w: usize,
+        counts: *mut u32,
+        c: usize,
     ) -> u64;
     fn perch_check(log: *const u8, n: usize) -> u64;
     fn perch_item(log: *const u8, n: usize, k: u64) -> u64;
@@ -117,7 +129,7 @@ pub fn clock(state: &mut [u8], memory: &[u8]) -> u64 {
 }
 
 /// Runs, leaping where nothing changes.
-pub fn run(state: &mut [u8], memory: &[u8], count: u64, words: &mut [u32]) -> u64 {
+pub fn run(state: &mut [u8], memory: &[u8], count: u64, words: &mut [u32], counts: &mut [u32]) -> u64 {
     unsafe {
         perch_run(
             state.as_mut_ptr(),
@@ -127,12 +139,14 @@ pub fn run(state: &mut [u8], memory: &[u8], count: u64, words: &mut [u32]) -> u6
             count,
             words.as_mut_ptr(),
             words.len(),
+            counts.as_mut_ptr(),
+            counts.len(),
         )
     }
 }
 
 /// The same, clock by clock.
-pub fn run_plain(state: &mut [u8], memory: &[u8], count: u64, words: &mut [u32]) -> u64 {
+pub fn run_plain(state: &mut [u8], memory: &[u8], count: u64, words: &mut [u32], counts: &mut [u32]) -> u64 {
     unsafe {
         perch_run_plain(
             state.as_mut_ptr(),
@@ -142,6 +156,8 @@ pub fn run_plain(state: &mut [u8], memory: &[u8], count: u64, words: &mut [u32])
             count,
             words.as_mut_ptr(),
             words.len(),
+            counts.as_mut_ptr(),
+            counts.len(),
         )
     }
 }

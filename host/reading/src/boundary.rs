@@ -6,7 +6,7 @@
 use crate::bytes::SIZE;
 use crate::chip::Chip;
 use crate::machine::Machine;
-use crate::plain::plain;
+use crate::plain::{Dwell, MOST_COUNT, plain};
 use crate::{MEMORY, MOST_CLOCKS, number};
 
 fn answer(value: u64) -> u64 {
@@ -52,8 +52,9 @@ pub fn clock(state: &mut [u8], memory: &[u8]) -> u64 {
     0
 }
 
-/// Runs, with two words for each record: its clock in the run from 1, and the level.
-pub fn run(state: &mut [u8], memory: &[u8], count: u64, words: &mut [u32]) -> u64 {
+/// Runs, with two words for each record: its clock in the run from 1, and the level; and with a table of 128 counts, one for each
+/// value of the DMC level.
+pub fn run(state: &mut [u8], memory: &[u8], count: u64, words: &mut [u32], counts: &mut [u32]) -> u64 {
     if memory.len() != MEMORY {
         return number::MEMORY.into();
     }
@@ -63,11 +64,15 @@ pub fn run(state: &mut [u8], memory: &[u8], count: u64, words: &mut [u32]) -> u6
     if count > MOST_CLOCKS {
         return number::CLOCKS.into();
     }
-    let ran = plain(chip, memory, count, words.len() as u64 / 2);
+    let Some(dwell) = Dwell::try_from(&*counts).ok().filter(|table| table.iter().all(|&n| n <= MOST_COUNT)) else {
+        return number::COUNTS.into();
+    };
+    let ran = plain(chip, memory, count, words.len() as u64 / 2, dwell);
     for (pair, record) in words.chunks_exact_mut(2).zip(&ran.records) {
         pair[0] = record.clock as u32;
         pair[1] = record.level.into();
     }
+    counts.copy_from_slice(&ran.dwell);
     state.copy_from_slice(&ran.chip.encode());
     ran.done << 8 | (ran.records.len() as u64) << 32
 }

@@ -26,7 +26,7 @@ pub mod why;
 
 pub use chip::Chip;
 pub use machine::Machine;
-pub use plain::{Plain, Record, plain};
+pub use plain::{Dwell, MOST_COUNT, Plain, Record, plain};
 
 /// The length of sample memory, $8000 to $FFFF.
 pub const MEMORY: usize = 32_768;
@@ -60,6 +60,8 @@ pub mod number {
     pub const ITEM: u8 = 11;
     /// No loop line begins at the offset asked for.
     pub const LOOP: u8 = 12;
+    /// A count of the given table is over 4,000,000,000, or the counts are not 128.
+    pub const COUNTS: u8 = 13;
     /// A key that is unknown, or not allowed where it stands.
     pub const KEY: u8 = 14;
     /// A value not of its shape.

@@ -185,7 +185,7 @@ impl Player {
         if u64::from(self.time) + u64::from(self.wait) > LATEST {
             return refused(number::TOTALS);
         }
-        let (ran, begun) = (plain(self.chip, memory, self.wait.into(), 1), self.time);
+        let (ran, begun) = (plain(self.chip, memory, self.wait.into(), 1, [0; 128]), self.time);
         self.chip = ran.chip;
         self.wait -= ran.done as u32;
         self.time += ran.done as u32;

@@ -282,7 +282,7 @@ fn square_goes_by_two_timer_outputs_a_step() {
     chip.write(0x4002, 9);
     chip.write(0x4003, 0x00);
     // The timer stands at 1: half is set after 1 clock, position is 1 after 11, 2 after 31, and so on.
-    let ran = plain(chip, &MEMORY_0, 200, 100);
+    let ran = plain(chip, &MEMORY_0, 200, 100, [0; 128]);
     let high = Outputs { squares: 15, triangle: 15, noise: 0, dmc: 0 }.level();
     let changes: Vec<_> = ran.records.iter().map(|r| (r.clock, r.level)).collect();
     assert_eq!(changes, [(11, high), (91, 8074), (171, high)]);
@@ -435,13 +435,13 @@ fn an_early_end_comes_before_the_clock() {
     let mut chip = Chip::POWER_ON;
     chip.triangle.length = Length { count: 254, enabled: true };
     chip.triangle.linear = 127;
-    let ran = plain(chip, &MEMORY_0, 1000, 3);
+    let ran = plain(chip, &MEMORY_0, 1000, 3, [0; 128]);
     assert_eq!((ran.done, ran.records.len(), ran.chip.triangle.position), (3, 3, 3));
     assert_eq!(
         ran.records[0],
         Record { clock: 1, level: Outputs { squares: 0, triangle: 14, noise: 0, dmc: 0 }.level() }
     );
-    let more = plain(ran.chip, &MEMORY_0, 1000, 0);
+    let more = plain(ran.chip, &MEMORY_0, 1000, 0, ran.dwell);
     assert_eq!((more.done, more.chip), (0, ran.chip));
 }
 
@@ -450,10 +450,11 @@ fn answers_and_refusals() {
     let mut state = Chip::POWER_ON.encode();
     let kept = state;
     let mut words = [7; 5];
+    let mut counts = [0; 128];
     let m = MEMORY_0.as_slice();
-    assert_eq!(boundary::run(&mut state, &m[1..], 2_000_000, &mut words), number::MEMORY.into());
-    assert_eq!(boundary::run(&mut state, m, 1_000_001, &mut words), number::CLOCKS.into());
-    assert_eq!(boundary::run(&mut state[1..], m, 1_000_001, &mut words), number::STATE.into());
+    assert_eq!(boundary::run(&mut state, &m[1..], 2_000_000, &mut words, &mut counts), number::MEMORY.into());
+    assert_eq!(boundary::run(&mut state, m, 1_000_001, &mut words, &mut counts), number::CLOCKS.into());
+    assert_eq!(boundary::run(&mut state[1..], m, 1_000_001, &mut words, &mut counts), number::STATE.into());
     assert_eq!(boundary::clock(&mut state, &m[1..]), number::MEMORY.into());
     assert_eq!((state, words), (kept, [7; 5]));
     state[1] = 2;
@@ -461,6 +462,24 @@ fn answers_and_refusals() {
     assert_eq!((boundary::line(&state), boundary::in_range(&state), boundary::in_range(&kept)), (2, 0, 256));
     assert_eq!(boundary::power_on(&mut state, 0), 0);
     assert_eq!(boundary::level(&state), 8074 << 8);
-    assert_eq!(boundary::run(&mut state, m, 1_000_000, &mut words), 1_000_000 << 8);
+    assert_eq!(boundary::run(&mut state, m, 1_000_000, &mut words, &mut counts), 1_000_000 << 8);
     assert_eq!(words, [7; 5]);
+    assert_eq!((counts[0], counts[1..].iter().sum::<u32>()), (1_000_000, 0));
+}
+
+#[test]
+fn a_full_count_ends_a_run_before_its_clock() {
+    let m = MEMORY_0.as_slice();
+    let (mut state, mut words) = (Chip::POWER_ON.encode(), [7; 4]);
+    let mut counts = [0; 128];
+    counts[0] = 4_000_000_000 - 10;
+    assert_eq!(boundary::run(&mut state, m, 100, &mut words, &mut counts), 10 << 8);
+    assert_eq!(boundary::run(&mut state, m, 100, &mut words, &mut counts), 0);
+    assert_eq!(counts[0], 4_000_000_000);
+    let kept = state;
+    counts[9] = 4_000_000_001;
+    assert_eq!(boundary::run(&mut state, m, 100, &mut words, &mut counts), number::COUNTS.into());
+    assert_eq!(boundary::run(&mut state, m, 1_000_001, &mut words, &mut counts), number::CLOCKS.into());
+    assert_eq!(boundary::run(&mut state, m, 100, &mut words, &mut [0; 127]), number::COUNTS.into());
+    assert_eq!((state, words, counts[9]), (kept, [7; 4], 4_000_000_001));
 }

@@ -57,9 +57,12 @@ pub unsafe extern "C" fn perch_run(
     count: u64,
     words: *mut u32,
     w: usize,
+    counts: *mut u32,
+    c: usize,
 ) -> u64 {
     unsafe {
-        boundary::run(from_raw_parts_mut(state, n), from_raw_parts(memory, m), count, from_raw_parts_mut(words, w))
+        let (words, counts) = (from_raw_parts_mut(words, w), from_raw_parts_mut(counts, c));
+        boundary::run(from_raw_parts_mut(state, n), from_raw_parts(memory, m), count, words, counts)
     }
 }
 
@@ -72,8 +75,10 @@ pub unsafe extern "C" fn perch_run_plain(
     count: u64,
     words: *mut u32,
     w: usize,
+    counts: *mut u32,
+    c: usize,
 ) -> u64 {
-    unsafe { perch_run(state, n, memory, m, count, words, w) }
+    unsafe { perch_run(state, n, memory, m, count, words, w, counts, c) }
 }
 
 #[cfg_attr(feature = "export", unsafe(no_mangle))]

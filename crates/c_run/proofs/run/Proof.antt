@@ -5,17 +5,21 @@ use Rattle.c_run.proofs.run.Tie as tie
 
 pack-run-requires : tie.Need-pack-run-requires
 pack-run-requires c κs =
-    let start = c .before .before .before .before .before .before .before .before .before .before .before .before .before .args in
-    run-most (start .memory .now) (start .state .now) (start .count) (start .words .now) _ (c .before .before .before .before .before .before .before .leaping-from .ensures .0)
+    let a = c .before .before .before .before .before .before .before .before .before .before .before .before .before .before .before .before .before .args in
+    run-most (a .memory .now) (a .state .now) (a .count) (a .words .now) (a .counts .now) _ (c .before .before .before .before .before .before .before .before .before .leaping-from .ensures .0)
 
 returns : tie.Need-returns
 returns c =
-    let start = c .before .before .before .before .before .before .before .before .before .before .before .before .before .before .args in
-    let ran = c .before .before .before .before .before .before .before .before .leaping-from .ensures in (
-      run-packed (start .memory .now) (start .state .now) (start .count) (start .words .now) _ (ran .0) _ (c .pack-run .ensures),
-      (run-stored (start .memory .now) (start .state .now) (start .count) (start .words .now) _ (ran .0) _ (c .before .before .before .store .ensures), ran .1),
+    let a = c .before .before .before .before .before .before .before .before .before .before .before .before .before .before .before .before .before .before .args in
+    let ran = c .before .before .before .before .before .before .before .before .before .before .leaping-from .ensures in (
+      run-packed (a .memory .now) (a .state .now) (a .count) (a .words .now) (a .counts .now) _ (ran .0) _ (c .pack-run .ensures),
+      (
+        run-stored (a .memory .now) (a .state .now) (a .count) (a .words .now) (a .counts .now) _ (ran .0) _ (c .before .before .before .store .ensures),
+        (ran .1 .0, ran .1 .1),
+      ),
     )
 
 pub run-spec : {M : Type 1} → statement M
 run-spec =
-    tie.close (tie.spec (λ c κs. tt) (λ c κs. tt) pack-run-requires (λ c. search needs) (λ c. search needs) returns)
+    tie.close
+    (tie.spec (λ c κs. tt) (λ c κs. tt) pack-run-requires (λ c. search needs) (λ c. search needs) (λ c. search needs) returns)

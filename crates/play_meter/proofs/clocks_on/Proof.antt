@@ -24,7 +24,7 @@ sub-left : tie.Need-sub-left Inv-loop μ-loop
 sub-left c =
     let s = c .before .before .before .before .before .before .before .before .before .before .before .before .before in
     let l = c .before .before .before .before .before .before .before .before .before .before .loop in
-    let r = c .before .before .before .before .before .before .run in
+    let r = c .before .before .before .before .before .before .uncounted in
     let e = rw (c .before .before .before .before .before .before .before .before .least-u64 .ensures) at (r .ensures .0) in
     let f = rw (c .before .before .before .before .before .before .before .before .least-u64 .ensures) at (r .ensures .1) in
     let o = onward (s .args .memory .now) (l .state) (l .heard) (l .left) (l .words) _ (r .result) (s .pre .0 .0) (l .inv .0) (λ i. omega (arith, c .before .before .before .before .before .before .before .before .before .before .before .before .shared-slice-known .given i)) (omega (arith, l .inv .1, s .pre .1)) (c .before .before .before .before .before .before .before .before .before .loop-test .taken) e f in
@@ -34,7 +34,7 @@ loop-less : tie.Need-loop-less Inv-loop μ-loop
 loop-less c =
     let s = c .before .before .before .before .before .before .before .before .before .before .before .before .before .before in
     let l = c .before .before .before .before .before .before .before .before .before .before .before .loop in
-    let r = c .before .before .before .before .before .before .before .run in
+    let r = c .before .before .before .before .before .before .before .uncounted in
     let e = rw (c .before .before .before .before .before .before .before .before .before .least-u64 .ensures) at (r .ensures .0) in
     let f = rw (c .before .before .before .before .before .before .before .before .before .least-u64 .ensures) at (r .ensures .1) in
     let o = onward (s .args .memory .now) (l .state) (l .heard) (l .left) (l .words) _ (r .result) (s .pre .0 .0) (l .inv .0) (λ i. omega (arith, c .before .before .before .before .before .before .before .before .before .before .before .before .before .shared-slice-known .given i)) (omega (arith, l .inv .1, s .pre .1)) (c .before .before .before .before .before .before .before .before .before .before .loop-test .taken) e f in
@@ -44,7 +44,7 @@ loop-again : tie.Need-loop-again Inv-loop μ-loop
 loop-again c =
     let s = c .before .before .before .before .before .before .before .before .before .before .before .before .before .before in
     let l = c .before .before .before .before .before .before .before .before .before .before .before .loop in
-    let r = c .before .before .before .before .before .before .before .run in
+    let r = c .before .before .before .before .before .before .before .uncounted in
     let e = rw (c .before .before .before .before .before .before .before .before .before .least-u64 .ensures) at (r .ensures .0) in
     let f = rw (c .before .before .before .before .before .before .before .before .before .least-u64 .ensures) at (r .ensures .1) in
     let o = onward (s .args .memory .now) (l .state) (l .heard) (l .left) (l .words) _ (r .result) (s .pre .0 .0) (l .inv .0) (λ i. omega (arith, c .before .before .before .before .before .before .before .before .before .before .before .before .before .shared-slice-known .given i)) (omega (arith, l .inv .1, s .pre .1)) (c .before .before .before .before .before .before .before .before .before .before .loop-test .taken) e f in

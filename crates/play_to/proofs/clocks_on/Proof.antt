@@ -27,7 +27,7 @@ sub-left c =
     let s = c .before .before .before .before .before .before .before .before .before .before in
     let a = s .args in
     let l = c .before .before .before .before .before .before .before .loop in
-    let r = c .before .before .before .run in
+    let r = c .before .before .before .uncounted in
     let e = rw (c .before .before .before .before .before .least-u64 .ensures) at (r .ensures .0) in
     let n = nearer (a .memory .now) (l .state) (l .left) (l .words) (r .result) (s .pre .0 .0) (λ i. omega (arith, c .before .before .before .before .before .before .before .before .before .shared-slice-known .given i)) (l .inv .0) (omega (arith, l .inv .1, s .pre .1)) (c .before .before .before .before .before .before .loop-test .taken) e in
     omega (arith, c .wide-u32 .ensures .0, n .most)
@@ -37,7 +37,7 @@ loop-less c =
     let s = c .before .before .before .before .before .before .before .before .before .before .before in
     let a = s .args in
     let l = c .before .before .before .before .before .before .before .before .loop in
-    let r = c .before .before .before .before .run in
+    let r = c .before .before .before .before .uncounted in
     let e = rw (c .before .before .before .before .before .before .least-u64 .ensures) at (r .ensures .0) in
     let n = nearer (a .memory .now) (l .state) (l .left) (l .words) (r .result) (s .pre .0 .0) (λ i. omega (arith, c .before .before .before .before .before .before .before .before .before .before .shared-slice-known .given i)) (l .inv .0) (omega (arith, l .inv .1, s .pre .1)) (c .before .before .before .before .before .before .before .loop-test .taken) e in
     omega (arith, c .before .wide-u32 .ensures .0, n .some, n .most)
@@ -47,7 +47,7 @@ loop-again c =
     let s = c .before .before .before .before .before .before .before .before .before .before .before in
     let a = s .args in
     let l = c .before .before .before .before .before .before .before .before .loop in
-    let r = c .before .before .before .before .run in
+    let r = c .before .before .before .before .uncounted in
     let e = rw (c .before .before .before .before .before .before .least-u64 .ensures) at (r .ensures .0) in
     let n = nearer (a .memory .now) (l .state) (l .left) (l .words) (r .result) (s .pre .0 .0) (λ i. omega (arith, c .before .before .before .before .before .before .before .before .before .before .shared-slice-known .given i)) (l .inv .0) (omega (arith, l .inv .1, s .pre .1)) (c .before .before .before .before .before .before .before .loop-test .taken) e in
     (n .ranged, omega (arith, c .before .before .before .words .given, l .inv .1), rw (c .before .wide-u32 .ensures .0) (n .same ∙ l .inv .2))

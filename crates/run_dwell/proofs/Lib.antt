@@ -1,0 +1,3 @@
+pub mod DwellLaws
+pub mod KeptLaws
+pub mod WithinLaws

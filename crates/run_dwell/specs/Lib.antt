@@ -1,0 +1,2 @@
+pub mod Dwell
+pub mod Kept
