@@ -249,7 +249,7 @@ fn stands_for(
 }
 
 /// What the library's player writes for a log.
-fn played(log: &[u8], memory: &[u8]) -> Result<Vec<u8>, String> {
+pub(crate) fn played(log: &[u8], memory: &[u8]) -> Result<Vec<u8>, String> {
     let mut player = vec![0; raw::player_size()];
     same(|| "the beginning".into(), 0, raw::begin(&mut player, log, memory))?;
     let mut text = Vec::new();

@@ -14,6 +14,7 @@ pub mod lines;
 pub mod logs;
 pub mod machines;
 pub mod meters;
+pub mod orders;
 pub mod players;
 pub mod random;
 pub mod reasons;

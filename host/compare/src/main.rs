@@ -4,8 +4,8 @@ use compare::case::{self, Case, Outcome};
 use compare::judge::{self, Tally, judge};
 use compare::random::Random;
 use compare::{
-    accesses, cursors, draw, every, folds, free, imports, lines, logs, machines, meters, players, reasons, salvages,
-    sheets, stored,
+    accesses, cursors, draw, every, folds, free, imports, lines, logs, machines, meters, orders, players, reasons,
+    salvages, sheets, stored,
 };
 use reading::{Chip, MEMORY};
 use std::process::ExitCode;
@@ -22,7 +22,7 @@ compare examples FOLDER                                 hold the library to the 
 compare text LOG SAMPLE                                 write what the player writes for a log, by the reading
 compare judged FOLDER                                   write what the crate logs prints about the logs of a folder
 compare played FOLDER                                   write what the crate cases prints about them, with sample.bin
---each N: so many accesses, reasons, meters, sheets and texts, half as many whole logs, cursors, players and imports
+--each N: so many accesses, orders, reasons, meters, sheets and texts, half as many whole logs, cursors, players and imports
 --archive: an error where the library's archive isn't linked; --brief: no more parts after one that differs";
 
 /// What the command line asks for.
@@ -168,6 +168,7 @@ fn compare(asked: &Asked) -> bool {
     part("meters", &mut || meters::compare(seed, asked.each));
     part("sheets", &mut || sheets::compare(seed, asked.each));
     let memory = sample(seed);
+    part("orders", &mut || orders::compare(seed, asked.each, &memory));
     part("lines", &mut || lines::compare(seed, asked.logs * 50, &memory));
     part("cuts", &mut || lines::cuts(seed, asked.logs / 20));
     part("machines", &mut || machines::compare(seed, asked.logs / 4, &memory));
