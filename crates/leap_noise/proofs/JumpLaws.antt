@@ -10,6 +10,7 @@ use Rattle.arith.specs.Bit.{bitOf}
 use Rattle.arith.specs.Iterate.{iterate}
 use Rattle.chip_noise.specs.Shifter.{tapOf, shiftedOf}
 use Rattle.chip_noise.proofs.ShifterLaws.{shifted-sum, shifted-most}
+use Rattle.leap_noise.proofs.LinearLaws.{differ-bits}
 
 -- WHAT THE OUTPUTS FEED BACK
 
@@ -20,15 +21,6 @@ fed mode x = (x % 2 + x / 2 ^ tapOf mode % 2) % 2
 -- all that the outputs feed back, lowest bit first
 all : Bool → ℕ → ℕ
 all mode x = bitXor x (x / 2 ^ tapOf mode)
-
-differ-bits : (x y : ℕ) → x < 2 → y < 2 → differ x y ≡ (x + y) % 2
-differ-bits zero zero hx hy = refl
-differ-bits zero (suc zero) hx hy = refl
-differ-bits (suc zero) zero hx hy = refl
-differ-bits (suc zero) (suc zero) hx hy = refl
-differ-bits zero (suc (suc y)) hx hy = absurd (omega arith)
-differ-bits (suc zero) (suc (suc y)) hx hy = absurd (omega arith)
-differ-bits (suc (suc x)) y hx hy = absurd (omega arith)
 
 all-step : (mode : Bool) (x : ℕ) → all mode x ≡ all mode (x / 2) * 2 + fed mode x
 unfolding all fed

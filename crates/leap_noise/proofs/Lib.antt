@@ -1,3 +1,5 @@
 pub mod AheadLaws
 pub mod JumpLaws
 pub mod LeapLaws
+pub mod LinearLaws
+pub mod RoundLaws

@@ -1,5 +1,6 @@
 // The noise in the leap: for how many clocks it surely gives the same, and its timer and register g clocks on and at its next change.
 ghost use mathlib.Core.Path.{_≡_};
+ghost use mathlib.Core.Bool.{false};
 ghost use Prim.Native.Nat.{_+_, _*_, _≤_};
 ghost use Rattle.arith.specs.Iterate.{iterate};
 ghost use Rattle.chip_noise.specs.Shifter.{shiftedOf};
@@ -55,8 +56,8 @@ fn blocks(mode: bool, register: u16, q: u64) -> u16
     block_by_block(false, register, q)
 }
 
-// The register k outputs on.
-pub fn shifted_by(mode: bool, register: u16, k: u64) -> u16
+// The register k outputs on, by eights.
+fn shifted_few(mode: bool, register: u16, k: u64) -> u16
     ensures { λ r. ⌜ r ≡ iterate (shiftedOf mode) k register ⌝ }
 {
     if 32767 < register {
@@ -64,6 +65,44 @@ pub fn shifted_by(mode: bool, register: u16, k: u64) -> u16
     }
     let x = jump(mode, register, (k % 8) as u16);
     blocks(mode, x, k / 8)
+}
+
+// The register 256 outputs on while mode is clear: XOR of the register 1 output on and 4 outputs on.
+fn leap(register: u16) -> u16
+    requires { ⌜ register ≤ 32767 ⌝ }
+    ensures { λ r. ⌜ r ≡ iterate (shiftedOf false) 256 register ⌝ }
+{
+    let one = jump(false, register, 1);
+    let four = jump(false, register, 4);
+    one ^ four
+}
+
+// The register 256 q outputs on while mode is clear.
+fn leaps(register: u16, q: u64) -> u16
+    requires { ⌜ register ≤ 32767 ⌝ }
+    ensures { λ r. ⌜ r ≡ iterate (shiftedOf false) (256 * q) register ⌝ }
+{
+    let mut x = register;
+    let mut i: u64 = 0;
+    while i < q {
+        x = leap(x);
+        i += 1;
+    }
+    x
+}
+
+// The register k outputs on. While mode is set, 93 outputs give the register back; while it is clear, 256 are gone at once.
+pub fn shifted_by(mode: bool, register: u16, k: u64) -> u16
+    ensures { λ r. ⌜ r ≡ iterate (shiftedOf mode) k register ⌝ }
+{
+    if 32767 < register {
+        return singles(mode, register, k);
+    }
+    if mode {
+        return shifted_few(true, register, k % 93);
+    }
+    let x = shifted_few(false, register, k % 256);
+    leaps(x, k / 256)
 }
 
 // How many of the 14 bits above bit 0 are as it is, up to the first that differs. Adding a set bit 0 turns the ones above it into zeros.
@@ -112,7 +151,7 @@ pub fn turn(shifter: Shifter, period: u16, mode: bool) -> Shifter
     ensures { λ r. ⌜ r ≡ shifterTurned period mode shifter ⌝ }
 {
     let turns = alike_of(shifter.register);
-    let register = shifted_by(mode, shifter.register, turns as u64 + 1);
+    let register = shifted_few(mode, shifter.register, turns as u64 + 1);
     Shifter {
         timer: period,
         register: register,

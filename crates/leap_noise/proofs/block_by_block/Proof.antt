@@ -3,9 +3,10 @@ use mathlib.Core.Path.{_≡_, sym, ap, _∙_}
 use native.Mathlib.Omega.{arith}
 use borrow.Author.Needs.{needs}
 use Rattle.arith.specs.Iterate.{iterate}
-use Rattle.arith.proofs.IterateLaws.{iterate-zero, iterate-add}
+use Rattle.arith.proofs.IterateLaws.{iterate-zero}
 use Rattle.chip_noise.specs.Shifter.{shiftedOf}
 use Rattle.chip_noise.proofs.ShifterLaws.{shifts-most}
+use Rattle.leap_noise.proofs.RoundLaws.{block-more}
 use Rattle.leap_noise.proofs.block_by_block.Statement.{statement}
 use Rattle.leap_noise.proofs.block_by_block.Tie as tie
 
@@ -30,13 +31,10 @@ loop-less c = omega arith
 loop-again : tie.Need-loop-again Inv-loop μ-loop
 loop-again c =
     let a = c .before .before .before .args in
-    let l = c .before .before .loop in
-    let s = shiftedOf (a .mode) in
-    let e : 8 * l .i + 8 ≡ 8 * (l .i + 1) = omega arith in (
+    let l = c .before .before .loop in (
       c .jump .ensures
-          ∙ ap (iterate s 8) (l .inv .0)
-          ∙ sym (iterate-add s (8 * l .i) 8 (a .register))
-          ∙ ap (λ (m : ℕ). iterate s m (a .register)) e,
+          ∙ ap (iterate (shiftedOf (a .mode)) 8) (l .inv .0)
+          ∙ block-more (a .mode) 8 (l .i) (a .register),
       rw (c .jump .ensures) (shifts-most (a .mode) 8 (l .x) (l .inv .1)),
       omega arith,
     )

@@ -6,7 +6,7 @@ use Rattle.leap_noise.proofs.turn.Tie as tie
 
 returns : tie.Need-returns
 unfolding shifterTurned
-returns c = simp (c .shifted-by .ensures, c .before .alike-of .ensures, add-one)
+returns c = simp (c .shifted-few .ensures, c .before .alike-of .ensures, add-one)
 
 pub turn-spec : {M : Type 1} → statement M
 turn-spec = tie.close (tie.spec (λ c κs. tt) (λ c. search needs) (λ c. search needs) (λ c κs. tt) returns)

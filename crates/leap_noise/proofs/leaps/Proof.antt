@@ -1,0 +1,50 @@
+use Prim.Native.Nat.{ℕ, _+_, _-_, _*_, _≤_}
+use mathlib.Core.Path.{_≡_, sym, ap, _∙_}
+use mathlib.Core.Bool.{false}
+use native.Mathlib.Omega.{arith}
+use borrow.Author.Needs.{needs}
+use Rattle.arith.specs.Iterate.{iterate}
+use Rattle.arith.proofs.IterateLaws.{iterate-zero}
+use Rattle.chip_noise.specs.Shifter.{shiftedOf}
+use Rattle.chip_noise.proofs.ShifterLaws.{shifts-most}
+use Rattle.leap_noise.proofs.RoundLaws.{block-more}
+use Rattle.leap_noise.proofs.leaps.Statement.{statement}
+use Rattle.leap_noise.proofs.leaps.Tie as tie
+
+abbrev Inv-loop : tie.InvT-loop
+Inv-loop register q x₀ i₀ x i = (x ≡ iterate (shiftedOf false) (256 * i) register) × (x ≤ 32767) × (i ≤ q)
+
+abbrev μ-loop : tie.MeasureT-loop
+μ-loop register q x₀ i₀ x i = q - i
+
+loop-holds : tie.Need-loop-holds Inv-loop μ-loop
+loop-holds c = (sym (iterate-zero _ _), c .pre, omega arith)
+
+leap-requires : tie.Need-leap-requires Inv-loop μ-loop
+leap-requires c κs = c .before .loop .inv .1
+
+add-i : tie.Need-add-i Inv-loop μ-loop
+add-i c = search needs
+
+loop-less : tie.Need-loop-less Inv-loop μ-loop
+loop-less c = omega arith
+
+loop-again : tie.Need-loop-again Inv-loop μ-loop
+loop-again c =
+    let l = c .before .before .loop in (
+      c .leap .ensures
+          ∙ ap (iterate (shiftedOf false) 256) (l .inv .0)
+          ∙ block-more false 256 (l .i) (c .before .before .before .args .register),
+      rw (c .leap .ensures) (shifts-most false 256 (l .x) (l .inv .1)),
+      omega arith,
+    )
+
+returns : tie.Need-returns Inv-loop μ-loop
+returns c =
+    let a = c .before .before .args in
+    let l = c .before .loop in
+    let e : l .i ≡ a .q = omega arith in
+    l .inv .0 ∙ ap (λ (m : ℕ). iterate (shiftedOf false) (256 * m) (a .register)) e
+
+pub leaps-spec : {M : Type 1} → statement M
+leaps-spec = tie.close (tie.spec Inv-loop μ-loop loop-holds leap-requires add-i loop-less loop-again returns)
