@@ -5,7 +5,7 @@ use mathlib.Core.Bool.{Bool, true, false}
 use native.Mathlib.Omega.{arith}
 use lib.Dec.{T, eqb, eqb→eq}
 use lib.ListN.{getD}
-use borrow.Author.Tests.{eqb-false}
+use borrow.Author.Tests.{eqb-true, eqb-false}
 use Rattle.arith.specs.Pick.{pick}
 use Rattle.arith.specs.Table.{every}
 use Rattle.arith.proofs.TableLaws.{at}
@@ -17,7 +17,7 @@ use Rattle.leap_square.proofs.LagLaws.{renewed-waits}
 use Rattle.leap_triangle.specs.Lag.{triangleRenewed}
 use Rattle.leap_stretch.proofs.LaggedLaws.{sooner-most}
 use Rattle.leap_stretch.specs.Lagged.{lagsAt, voicesRenewed}
-use Rattle.leap_stretch.specs.Voices.{weightTable, squaresAt, squaresTurned, squaresAfter, voicesOf, voicesTo, voicesAfter, voicesLevel, lagsWith}
+use Rattle.leap_stretch.specs.Voices.{weightTable, squaresAt, squaresTurned, squaresAfter, voicesOf, voicesTo, voicesAfter, voicesLevel, othersOf, levelBy, lagsWith}
 use Rattle.leap_stretch.specs.declared.Squares.{Squares}
 use Rattle.leap_stretch.specs.declared.Voices.{Voices}
 use Rattle.leap_stretch.specs.declared.Lags.{Lags}
@@ -40,6 +40,16 @@ same-position p = let z : p % 32 % 32 ≡ p % 32 = omega arith in rw z refl
 -- EVERY ENTRY IS THE TRIANGLE'S PART
 pub weight-is : (p : ℕ) → getD weightTable (p % 32) 0 ≡ triangleWeight (triangleAt p)
 weight-is p = entry-is (p % 32) (omega arith) ∙ ap triangleWeight (same-position p)
+
+-- THE LEVEL BY THE TABLE IS THE LEVEL
+pub level-by-is : (v : Voices) (l : Lags) → levelBy v (othersOf l) ≡ voicesLevel v (othersWeight (l .noise .out) (l .dmc .out))
+unfolding levelBy othersOf
+level-by-is v l = ap (voicesLevel v) (go (eqb (l .dmc .out) 0) refl)
+  where
+    go : (t : Bool) → eqb (l .dmc .out) 0 ≡ t
+        → pick t (othersWeight (l .noise .out) 0) (othersWeight (l .noise .out) (l .dmc .out)) ≡ othersWeight (l .noise .out) (l .dmc .out)
+    go true e = ap (othersWeight (l .noise .out)) (sym (eqb-true _ _ e))
+    go false e = refl
 
 -- before any event of theirs
 pub voices-start : (l : Lags) → l .next ≡ min (l .soon) (min (l .noise .next) (l .dmc .next)) → lagsWith l (voicesOf l) (l .level) ≡ l

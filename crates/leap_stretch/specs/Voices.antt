@@ -7,11 +7,12 @@ use Rattle.arith.specs.Pick.{pick, either}
 use Rattle.leap_square.specs.Lag.{squareLagOut, squareRenewed}
 use Rattle.leap_triangle.specs.Lag.{triangleRenewed}
 use Rattle.chip_triangle.specs.Triangle.{triangleAt}
-use Rattle.chip_mixer.specs.Parts.{triangleWeight, mixedBy}
+use Rattle.chip_mixer.specs.Parts.{triangleWeight, othersWeight, mixedBy}
 use Rattle.leap_square.specs.declared.SquareLag.{SquareLag}
 use Rattle.leap_stretch.specs.declared.Squares.{Squares}
 use Rattle.leap_stretch.specs.declared.Voices.{Voices}
 use Rattle.leap_stretch.specs.declared.Lags.{Lags}
+use Rattle.leap_stretch.specs.declared.Others.{Others}
 
 -- the table that the code looks the triangle's part in N up in, by its position
 abbrev pub weightTable : List ℕ
@@ -46,6 +47,15 @@ voicesAfter v each e = voicesTo (squaresAfter (v .squares) each e) v e
 unfoldable pub voicesLevel : Voices → ℕ → ℕ
 voicesLevel v others =
     mixedBy (squareLagOut (v .squares .first)) (squareLagOut (v .squares .second)) (triangleWeight (triangleAt (v .triangle .position))) others
+
+-- noise and DMC in the level: their part in N, what the noise gives, and whether the DMC gives 0
+unfoldable pub othersOf : Lags → Others
+othersOf l =
+    record { weight = othersWeight (l .noise .out) (l .dmc .out); noise = l .noise .out; calm = eqb (l .dmc .out) 0 }
+
+-- the level with them
+unfoldable pub levelBy : Voices → Others → ℕ
+levelBy v o = voicesLevel v (pick (o .calm) (othersWeight (o .noise) 0) (o .weight))
 
 -- the channels with squares and triangle as they are then
 unfoldable pub lagsWith : Lags → Voices → ℕ → Lags

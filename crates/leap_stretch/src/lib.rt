@@ -2,10 +2,11 @@
 ghost use mathlib.Core.Path.{_≡_};
 ghost use lib.ListN.{getD};
 ghost use Rattle.leap_chip.specs.Between.{stateWith};
-ghost use Rattle.chip_mixer.specs.Parts.{triangleWeight, othersWeight};
+ghost use Rattle.arith.specs.Pick.{pick};
+ghost use Rattle.chip_mixer.specs.Parts.{triangleWeight, othersWeight, mixedBy};
 ghost use Rattle.chip_triangle.specs.Triangle.{triangleAt};
 ghost use Rattle.leap_stretch.specs.Lagged.{lagsAt, lagsOf, renewed, soundsRenewed, stretchState};
-ghost use Rattle.leap_stretch.specs.Voices.{weightTable, squaresAt, squaresTurned, squaresAfter, voicesOf, voicesAfter, voicesLevel, lagsWith};
+ghost use Rattle.leap_stretch.specs.Voices.{weightTable, squaresAt, squaresTurned, squaresAfter, voicesOf, voicesAfter, othersOf, levelBy, lagsWith};
 use chip::State;
 use leap_dmc::lag::DmcLag;
 use leap_noise::lag::NoiseLag;
@@ -142,13 +143,25 @@ pub fn voices_of(l: Lags) -> Voices
     }
 }
 
-// The part of noise and DMC in the level.
-pub fn others_of(l: Lags) -> u64
-    ensures { λ r. ⌜ r ≡ othersWeight (l .noise .out) (l .dmc .out) ⌝ }
+// Noise and DMC in the level: their part in N, what the noise gives, and whether the DMC gives 0.
+pub struct Others {
+    pub weight: u64,
+    pub noise: u32,
+    pub calm: bool,
+}
+
+// Noise and DMC in the level.
+pub fn others_of(l: Lags) -> Others
+    ensures { λ r. ⌜ r ≡ othersOf l ⌝ }
 {
     let n = l.noise;
     let d = l.dmc;
-    chip_mixer::others_weight(n.out as u32, d.out as u32)
+    let weight = chip_mixer::others_weight(n.out as u32, d.out as u32);
+    Others {
+        weight: weight,
+        noise: n.out as u32,
+        calm: d.out == 0,
+    }
 }
 
 // The triangle's part in the level, for each position. A match becomes one load.
@@ -198,6 +211,17 @@ fn weight_at(position: u32) -> u32
     weight_entry(position % 32)
 }
 
+// The level, by the table where the DMC gives 0.
+fn level_of(a: u32, b: u32, position: u32, others: Others) -> u16
+    ensures { λ r. ⌜ r ≡ mixedBy a b (triangleWeight (triangleAt position)) (pick (others .calm) (othersWeight (others .noise) 0) (others .weight)) ⌝ }
+{
+    if others.calm {
+        return leap_calm::mix(a, b, position, others.noise);
+    }
+    let t = weight_at(position);
+    chip_mixer::mix_by(a, b, t, others.weight)
+}
+
 impl Squares {
     fn turned(self, e: u32) -> Squares
         ensures { λ r. ⌜ r ≡ squaresTurned self e ⌝ }
@@ -235,14 +259,13 @@ impl Voices {
         }
     }
 
-    // The level, with the part of noise and DMC.
-    pub fn level(self, others: u64) -> u16
-        ensures { λ r. ⌜ r ≡ voicesLevel self others ⌝ }
+    // The level, with noise and DMC.
+    pub fn level(self, others: Others) -> u16
+        ensures { λ r. ⌜ r ≡ levelBy self others ⌝ }
     {
         let a = self.squares.first.out();
         let b = self.squares.second.out();
-        let t = weight_at(self.triangle.position);
-        chip_mixer::mix_by(a, b, t, others)
+        level_of(a, b, self.triangle.position, others)
     }
 }
 

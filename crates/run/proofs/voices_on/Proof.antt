@@ -4,9 +4,9 @@ use mathlib.Core.Path.{_≡_, refl, ap, _∙_}
 use native.Mathlib.Omega.{arith}
 use Rattle.chip.specs.Range.{Bytes}
 use Rattle.chip.specs.declared.State.{State}
-use Rattle.leap_stretch.specs.Voices.{voicesLevel, lagsWith}
+use Rattle.leap_stretch.specs.Voices.{levelBy, lagsWith}
 use Rattle.leap_stretch.specs.declared.Voices.{Voices}
-use Rattle.leap_stretch.proofs.VoicesLaws.{Sound, sound-start}
+use Rattle.leap_stretch.proofs.VoicesLaws.{Sound, sound-start, level-by-is}
 use Rattle.run_answer.specs.Run.{roomOf}
 use Rattle.run_stretch.specs.Stretch.{Standing, Worked}
 use Rattle.run_stretch.proofs.StretchLaws.{voices-none, voices-past, voices-worked, voices-now, voices-sound}
@@ -71,7 +71,7 @@ loop-less c =
     let u = c .before .before .before .before .before .before .before .before .before .before .before .before .before .voices-until .ensures .1 in
     let x = voices-worked (a .memory .now) bytes (a .s) (a .end) (a .base) (a .first .now) (a .records) (a .words .now) (i .words) (a .first) (i .v) (i .level) (i .n) w
     (i .inv .2) (omega (arith, t .0, u .2)) (omega (arith, t .0, u .0)) (omega (arith, t .0, u .1)) (omega (arith, t .1, i .inv .1, w .same-length))
-    _ _ (c .before .before .before .before .before .renewed .ensures) _ (c .before .before .before .before .level .ensures ∙ ap (voicesLevel (c .before .before .before .before .before .renewed .result)) (c .before .before .before .before .before .before .before .before .before .before .before .before .others-of .ensures))
+    _ _ (c .before .before .before .before .before .renewed .ensures) _ (c .before .before .before .before .level .ensures ∙ ap (levelBy (c .before .before .before .before .before .renewed .result)) (c .before .before .before .before .before .before .before .before .before .before .before .before .others-of .ensures) ∙ level-by-is _ (a .first))
     _ _ (c .before .before .mark .ensures .0) (c .before .before .mark .ensures .1)
     in
     let q = voices-past (a .memory .now) bytes (a .s) (a .end) (a .base) (a .first .now) (a .records) (a .words .now) _ (a .first) _ _ _ x in
@@ -91,7 +91,7 @@ loop-again c =
     let u = c .before .before .before .before .before .before .before .before .before .before .before .before .before .voices-until .ensures .1 in (
       λ s g. voices-worked (a .memory .now) bytes s (a .end) (a .base) (a .first .now) (a .records) (a .words .now) (i .words) (a .first) (i .v) (i .level) (i .n) (i .inv .0 s g)
           (i .inv .2) (omega (arith, t .0, u .2)) (omega (arith, t .0, u .0)) (omega (arith, t .0, u .1)) (omega (arith, t .1, i .inv .1, w .same-length))
-          _ _ (c .before .before .before .before .before .renewed .ensures) _ (c .before .before .before .before .level .ensures ∙ ap (voicesLevel (c .before .before .before .before .before .renewed .result)) (c .before .before .before .before .before .before .before .before .before .before .before .before .others-of .ensures))
+          _ _ (c .before .before .before .before .before .renewed .ensures) _ (c .before .before .before .before .level .ensures ∙ ap (levelBy (c .before .before .before .before .before .renewed .result)) (c .before .before .before .before .before .before .before .before .before .before .before .before .others-of .ensures) ∙ level-by-is _ (a .first))
           _ _ (c .before .before .mark .ensures .0) (c .before .before .mark .ensures .1),
       i .inv .1,
       voices-sound (i .v) (i .inv .2) _ _ (c .before .before .before .before .before .renewed .ensures),
