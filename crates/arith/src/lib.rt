@@ -61,12 +61,6 @@ pub fn minus_u32(x: u32, y: u32) -> u32
     if x < y { 0 } else { x - y }
 }
 
-pub fn wide_u16(x: u8) -> u16
-    ensures { λ r. ⌜ r ≡ x ⌝ }
-{
-    x as u16
-}
-
 // A byte or a word as 64 bits, with the bound of its type.
 pub fn wide_u8(x: u8) -> u64
     ensures { λ r. ⌜ r ≡ x ⌝ }

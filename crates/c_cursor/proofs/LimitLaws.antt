@@ -7,24 +7,24 @@ use borrow.Author.Tests.{ltb-true, ltb-false, leb-true}
 use lib.ListN.{length, getD, set, length-set}
 use lib.Dec.{eqb, leb, ltb}
 use Rattle.arith.proofs.PickLaws.{pick-both, pick-each}
-use Rattle.machine.specs.Saying.{Said, over, on, refused}
+use Rattle.reading.specs.Saying.{Said, over, on, refused}
 use Rattle.log_line.specs.declared.Act.{Act}
 use Rattle.log_line.specs.declared.Act.the-variants.{Wait}
 use Rattle.log_line.specs.declared.Line.{Line}
 use Rattle.log_line.specs.declared.Line.the-variants.{Header, Machine, One, Loop, Done, Stop, Bad}
 use Rattle.log_line.specs.Printed.{Allowed, Printable}
-use Rattle.log_spot.specs.declared.Stand.{Stand}
-use Rattle.log_spot.specs.declared.Found.{Found as Spot}
-use Rattle.log_spot.specs.declared.Found.the-variants.{Right, Wrong}
-use Rattle.log_spot.specs.Fault.{spotOf}
-use Rattle.log_spot.proofs.FaultLaws.{right-line}
-use Rattle.log_spot.proofs.Standing.{bounded}
-use Rattle.log_judge.specs.declared.Reading.{Reading}
-use Rattle.log_judge.specs.declared.Reading.the-variants.{Item, Refused}
-use Rattle.log_judge.specs.Lines.{bytesAt, nextLine}
-use Rattle.log_judge.specs.Reading.{taken, standing, readIn}
-use Rattle.log_judge.specs.Tree.{actClocks}
-use Rattle.log_judge.proofs.PlaceLaws.{bytes-long, next-le}
+use Rattle.log_fault.specs.declared.Stand.{Stand}
+use Rattle.log_fault.specs.declared.Spotted.{Spotted as Spot}
+use Rattle.log_fault.specs.declared.Spotted.the-variants.{Right, Wrong}
+use Rattle.log_fault.specs.Fault.{spotOf}
+use Rattle.log_fault.proofs.FaultLaws.{right-line}
+use Rattle.log_fault.proofs.Standing.{bounded}
+use Rattle.log_rules.specs.declared.Reading.{Reading}
+use Rattle.log_rules.specs.declared.Reading.the-variants.{Item, Refused}
+use Rattle.log_rules.specs.Lines.{bytesAt, nextLine}
+use Rattle.log_rules.specs.Reading.{taken, standing, readIn}
+use Rattle.log_rules.specs.Tree.{actClocks}
+use Rattle.log_rules.proofs.PlaceLaws.{bytes-long, next-le}
 use Rattle.log_cursor.specs.declared.Cursor.{Cursor}
 use Rattle.log_cursor.specs.Stepping.{Go, go, told, loopsOpen, movedTo, entered, again, turned, followed, readStep, stepOf}
 use Rattle.c_cursor.specs.Cursors.{CursorFits}

@@ -6,11 +6,11 @@ use native.Mathlib.Numerals.{sub-one}
 use native.Mathlib.Omega.{arith}
 use types.Run.{OneOf, miss}
 use denote.Enum.Declared.{tagOf}
-use Rattle.machine.specs.Saying.{Said, over, on, says, refused, Turn, Gives, ends, goes, gives}
-use Rattle.machine.proofs.SayingLaws.{within}
+use Rattle.reading.specs.Saying.{Said, over, on, says, refused, Turn, Gives, ends, goes, gives}
+use Rattle.reading.proofs.SayingLaws.{within}
 use Rattle.log_line.specs.declared.Act.{Act}
 use Rattle.log_cursor.specs.declared.Cursor.{Cursor}
-use Rattle.log_cursor.specs.declared.Found.{Found}
+use Rattle.log_cursor.specs.declared.Given.{Given}
 use Rattle.log_cursor.specs.declared.Stepped.{Stepped}
 use Rattle.log_cursor.specs.Stepping.{told, steppedOf, stepOf}
 use Rattle.c_cursor.specs.Next.{endedBy, nextIn}
@@ -90,23 +90,23 @@ module _ {S A : Type 0} (step : S → Turn S A) where
 
 -- what is told of a step
 
-told-on : (w : Said Act) → told w ≡ Found.Moved → w ≡ on
+told-on : (w : Said Act) → told w ≡ Given.Moved → w ≡ on
 told-on over e = let z : _≡_ {A = ℕ} 0 1 = cc in absurd (omega arith)
 told-on on e = refl
 told-on (says a) e = let z : _≡_ {A = ℕ} 0 1 = cc in absurd (omega arith)
 told-on (refused k p) e = let z : _≡_ {A = ℕ} 0 1 = cc in absurd (omega arith)
 
-told-no : (w : Said Act) → OneOf (0 ∷ 2 ∷ 3 ∷ []) (tagOf Rattle.log_cursor.proofs.Found.the-type (told w)) → w ≡ on → ⊥
+told-no : (w : Said Act) → OneOf (0 ∷ 2 ∷ 3 ∷ []) (tagOf Rattle.log_cursor.proofs.Given.the-type (told w)) → w ≡ on → ⊥
 told-no over o e = let z : _≡_ {A = ℕ} 0 1 = cc in omega arith
 told-no on o e = miss (0 ∷ 2 ∷ 3 ∷ []) 1 tt o
 told-no (says a) o e = let z : _≡_ {A = ℕ} 0 1 = cc in omega arith
 told-no (refused k p) o e = let z : _≡_ {A = ℕ} 0 1 = cc in omega arith
 
 module _ (log : List ℕ) (c : Cursor) (f : ℕ) (s : Stepped) (h : 0 < f) (e : s ≡ steppedOf (stepOf log c)) where
-  pub find-on : s .found ≡ Found.Moved → nextIn (stepOf log) f c ≡ nextIn (stepOf log) (f - 1) (s .cursor)
+  pub find-on : s .found ≡ Given.Moved → nextIn (stepOf log) f c ≡ nextIn (stepOf log) (f - 1) (s .cursor)
   find-on w =
       turn-on (stepOf log) c f h (told-on (stepOf log c .said) (sym (ap (λ (r : Stepped). r .found) e) ∙ w))
       ∙ ap (nextIn (stepOf log) (f - 1)) (sym (ap (λ (r : Stepped). r .cursor) e))
 
-  pub find-said : OneOf (0 ∷ 2 ∷ 3 ∷ []) (tagOf Rattle.log_cursor.proofs.Found.the-type (s .found)) → s ≡ steppedOf (nextIn (stepOf log) f c)
+  pub find-said : OneOf (0 ∷ 2 ∷ 3 ∷ []) (tagOf Rattle.log_cursor.proofs.Given.the-type (s .found)) → s ≡ steppedOf (nextIn (stepOf log) f c)
   find-said o = e ∙ ap steppedOf (sym (turn-said (stepOf log) c f h (told-no (stepOf log c .said) (rw e at o))))

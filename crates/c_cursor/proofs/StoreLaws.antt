@@ -8,7 +8,7 @@ use borrow.Author.Tests.{eq-eqb, ne-eqb}
 use lib.ListN.{length}
 use lib.Dec.{eqb}
 use Rattle.arith.specs.Pick.{pick}
-use Rattle.log_cursor.specs.declared.Found.{Found}
+use Rattle.log_cursor.specs.declared.Given.{Given}
 use Rattle.log_cursor.specs.declared.Stepped.{Stepped}
 use Rattle.c_cursor.specs.Cursors.{cursorSize, cursorOf, cursorEncoded}
 use Rattle.c_cursor.specs.Next.{nextOf, nextFound, isRefused, cursorMoved, nextPacked, nextBytes}
@@ -26,11 +26,11 @@ module _ (log b : List ℕ) where
   next-is h s e b′ f r g = rw (eq-eqb (length b) cursorSize h, ← e) (g, rw (eq-eqb (length b) cursorSize h) at f)
 
 -- A REFUSED CALL LEAVES THE BYTES: where an answer's number isn't 0
-found-stays : (s : Stepped) (f : Found) → s .found ≡ f → (b : List ℕ) → (nextFound f % 2 ^ 8 ≡ 0 → ⊥) → cursorMoved s b ≡ b
-found-stays s (Found.Act a) e b h = absurd (h (omega arith))
-found-stays s Found.Moved e b h = absurd (h (omega arith))
-found-stays s Found.End e b h = absurd (h (omega arith))
-found-stays s (Found.Refused k p) e b h = rw e
+found-stays : (s : Stepped) (f : Given) → s .found ≡ f → (b : List ℕ) → (nextFound f % 2 ^ 8 ≡ 0 → ⊥) → cursorMoved s b ≡ b
+found-stays s (Given.Act a) e b h = absurd (h (omega arith))
+found-stays s Given.Moved e b h = absurd (h (omega arith))
+found-stays s Given.End e b h = absurd (h (omega arith))
+found-stays s (Given.Refused k p) e b h = rw e
 
 pub refused-stays : (log b : List ℕ) → (nextPacked log b % 2 ^ 8 ≡ 0 → ⊥) → nextBytes log b ≡ b
 unfolding nextPacked nextBytes

@@ -5,9 +5,9 @@ use mathlib.Core.List.{List}
 use lib.ListN.{length}
 use lib.Dec.{eqb}
 use Rattle.arith.specs.Pick.{pick}
-use Rattle.machine.specs.Saying.{Said, over, on, says, refused, Turn}
+use Rattle.reading.specs.Saying.{Said, over, on, says, refused, Turn}
 use Rattle.log_cursor.specs.declared.Cursor.{Cursor}
-use Rattle.log_cursor.specs.declared.Found.{Found}
+use Rattle.log_cursor.specs.declared.Given.{Given}
 use Rattle.log_cursor.specs.declared.Stepped.{Stepped}
 use Rattle.log_cursor.specs.Stepping.{steppedOf, stepOf, beginning}
 use Rattle.c_log.specs.Logs.{logPacked, actValue}
@@ -39,17 +39,17 @@ unfoldable pub nextOf : List ℕ → Cursor → Stepped
 nextOf log c = steppedOf (nextIn (stepOf log) 2000002 c)
 
 -- "kind x 2^24 + what it holds", as an item's; kind 0, the log's end; kind 4, the cursor has moved and came to no item yet
-abbrev pub nextFound : Found → ℕ
-nextFound (Found.Act a) = logPacked 0 0 (actValue a)
-nextFound Found.End = logPacked 0 0 0
-nextFound Found.Moved = logPacked 0 0 (4 * 2 ^ 24)
-nextFound (Found.Refused k p) = logPacked k p 0
+abbrev pub nextFound : Given → ℕ
+nextFound (Given.Act a) = logPacked 0 0 (actValue a)
+nextFound Given.End = logPacked 0 0 0
+nextFound Given.Moved = logPacked 0 0 (4 * 2 ^ 24)
+nextFound (Given.Refused k p) = logPacked k p 0
 
-abbrev pub isRefused : Found → Bool
-isRefused (Found.Act a) = false
-isRefused Found.End = false
-isRefused Found.Moved = false
-isRefused (Found.Refused k p) = true
+abbrev pub isRefused : Given → Bool
+isRefused (Given.Act a) = false
+isRefused Given.End = false
+isRefused Given.Moved = false
+isRefused (Given.Refused k p) = true
 
 -- 2 for another length; then the number and the place of the line that the cursor comes to
 unfoldable pub nextPacked : List ℕ → List ℕ → ℕ

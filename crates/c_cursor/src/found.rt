@@ -4,7 +4,7 @@ ghost use lib.Dec.{eqb};
 ghost use Rattle.c_cursor.specs.Next.{nextOf, nextFound, isRefused};
 ghost use Rattle.c_cursor.specs.Limits.{FoundIn};
 use log_cursor::Cursor;
-use log_cursor::Found;
+use log_cursor::Given;
 use log_cursor::Stepped;
 
 // Steps from a cursor on up to the first that finds something, at most 2,000,002 of them.
@@ -16,38 +16,38 @@ pub(crate) fn find(log: &[u8], c: Cursor) -> Stepped
     while 0 < left {
         let s = log_cursor::step(log, c);
         let f = s.found;
-        let Found::Moved = f else {
+        let Given::Moved = f else {
             return s;
         };
         c = s.cursor;
         left -= 1;
     }
     Stepped {
-        found: Found::Moved,
+        found: Given::Moved,
         cursor: c,
     }
 }
 
-pub(crate) fn is_refused(f: Found) -> bool
+pub(crate) fn is_refused(f: Given) -> bool
     ensures { λ r. ⌜ r ≡ isRefused f ⌝ }
 {
     match f {
-        Found::Act(_) => false,
-        Found::Moved => false,
-        Found::End => false,
-        Found::Refused(_, _) => true,
+        Given::Act(_) => false,
+        Given::Moved => false,
+        Given::End => false,
+        Given::Refused(_, _) => true,
     }
 }
 
 // What was found in one number.
-pub(crate) fn pack(f: Found) -> u64
+pub(crate) fn pack(f: Given) -> u64
     requires { ⌜ FoundIn f ⌝ }
     ensures { λ r. ⌜ r ≡ nextFound f ⌝ }
 {
     match f {
-        Found::Act(a) => c_log::pack(0, 0, c_log::act_value(a) as u32),
-        Found::Moved => c_log::pack(0, 0, 67108864),
-        Found::End => 0,
-        Found::Refused(number, place) => c_log::pack(number, place, 0),
+        Given::Act(a) => c_log::pack(0, 0, c_log::act_value(a) as u32),
+        Given::Moved => c_log::pack(0, 0, 67108864),
+        Given::End => 0,
+        Given::Refused(number, place) => c_log::pack(number, place, 0),
     }
 }

@@ -10,7 +10,7 @@ mod writer;
 
 use c_bytes::number;
 use log_cursor::Cursor;
-use log_cursor::Found;
+use log_cursor::Given;
 
 // How many bytes a cursor is.
 pub const SIZE: usize = 88;
@@ -63,7 +63,7 @@ pub fn start(cursor: &mut [u8]) -> u64
 }
 
 // The cursor written to the bytes, unless what was found is a refusal.
-fn store(f: Found, c: Cursor, b: &mut [u8])
+fn store(f: Given, c: Cursor, b: &mut [u8])
     ensures { λ r. ⌜ now (b .exit) ≡ pick (isRefused f) (now (b .entry)) (cursorEncoded c (now (b .entry))) ⌝ }
 {
     if found::is_refused(f) {

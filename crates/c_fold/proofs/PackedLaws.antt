@@ -8,14 +8,14 @@ use borrow.Author.Tests.{eqb-true}
 use lib.ListN.{length, take}
 use lib.Dec.{eqb, ltb}
 use Rattle.arith.specs.Pick.{pick}
-use Rattle.log_judge.specs.Whole.{checkOf}
-use Rattle.log_judge.proofs.Limits.{check-limits}
+use Rattle.log_rules.specs.Whole.{checkOf}
+use Rattle.log_rules.proofs.Limits.{check-limits}
 use Rattle.log_passing.proofs.Passing.{clear}
 use Rattle.log_fold.specs.declared.Folded.{Folded}
-use Rattle.log_folding.specs.Folding.{foldedLog}
-use Rattle.log_folding.specs.Promise.{Folds}
+use Rattle.log_fold_rules.specs.Folding.{foldedLog}
+use Rattle.log_fold_rules.specs.Promise.{Folds}
 use Rattle.log_fold.specs.Answer.{foldRefusal, foldDone, foldOf}
-use Rattle.log_folding.proofs.Passes.{folds}
+use Rattle.log_fold_rules.proofs.Passes.{folds}
 use Rattle.c_log.specs.Logs.{logPacked}
 use Rattle.c_log.proofs.PackedLaws.{apart}
 use Rattle.c_fold.specs.Packed.{foldPacked}

@@ -5,14 +5,14 @@ use mathlib.Core.List.{List}
 use native.Mathlib.Omega.{arith}
 use borrow.Author.Tests.{eq-eqb, ne-eqb}
 use lib.ListN.{length, take}
-use Rattle.log_measure.specs.declared.Imported.{Imported}
-use Rattle.log_stream.specs.declared.Said.{Said}
-use Rattle.log_stream.specs.Stream.{ended, streamOf}
-use Rattle.log_measure.specs.Import.{textFor, textOf, importOf}
-use Rattle.log_import.specs.Stamps.{Stands}
-use Rattle.log_measure.proofs.AnswerLaws.{imports}
-use Rattle.log_import.proofs.BufferLaws.{length-is}
-use Rattle.log_measure.proofs.FaultLaws.{answer-limits}
+use Rattle.vgm_measure.specs.declared.Imported.{Imported}
+use Rattle.vgm_stream.specs.declared.Said.{Said}
+use Rattle.vgm_stream.specs.Stream.{ended, streamOf}
+use Rattle.vgm_measure.specs.Import.{textFor, textOf, importOf}
+use Rattle.vgm_import.specs.Stamps.{Stands}
+use Rattle.vgm_measure.proofs.AnswerLaws.{imports}
+use Rattle.vgm_import.proofs.BufferLaws.{length-is}
+use Rattle.vgm_measure.proofs.FaultLaws.{answer-limits}
 use Rattle.c_import.specs.Packed.{importValue, importPacked}
 
 text-ended : (l : List Said) → textOf (ended l) ≡ textFor l

@@ -3,8 +3,8 @@ use Prim.Native.Nat.{ℕ, _+_, _*_, _%_, _^_}
 use mathlib.Core.List.{List}
 use lib.Dec.{eqb}
 use Rattle.arith.specs.Pick.{pick}
-use Rattle.log_measure.specs.declared.Imported.{Imported}
-use Rattle.log_measure.specs.Import.{importOf}
+use Rattle.vgm_measure.specs.declared.Imported.{Imported}
+use Rattle.vgm_measure.specs.Import.{importOf}
 
 -- done: "the length of each log .. it writes"; refused: the place, of which the number holds the low 56 bits. A stream shorter than 2^56 bytes has no
 -- other

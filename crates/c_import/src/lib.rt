@@ -2,10 +2,10 @@
 ghost use mathlib.Core.Path.{_≡_};
 ghost use Prim.Native.Nat.{_/_, _%_, _^_, _≤_, _<_};
 ghost use lib.ListN.{length, take};
-ghost use Rattle.log_measure.specs.Import.{bufferOf};
-ghost use Rattle.log_import.specs.Stamps.{Stands};
+ghost use Rattle.vgm_measure.specs.Import.{bufferOf};
+ghost use Rattle.vgm_import.specs.Stamps.{Stands};
 ghost use Rattle.c_import.specs.Packed.{importValue, importPacked};
-use log_measure::Imported;
+use vgm_measure::Imported;
 
 // The length of the log, or the place of a refusal.
 fn value_of(a: Imported) -> u64
@@ -26,6 +26,6 @@ pub fn import(stream: &[u8], out: &mut [u8]) -> u64
     ensures { λ r. ⌜ now (out .exit) ≡ bufferOf (now (stream .entry)) (now (out .entry)) ⌝ }
     ensures { λ r. ⌜ (r % 2 ^ 8 ≡ 0 → Stands (now (stream .entry)) (take (r / 2 ^ 8) (now (out .exit)))) ⌝ }
 {
-    let a = log_import::import(stream, out);
+    let a = vgm_import::import(stream, out);
     a.number as u64 + 256 * value_of(a)
 }

@@ -9,10 +9,10 @@ use borrow.Author.Tests.{eq-eqb}
 use lib.ListN.{length, take, drop}
 use Rattle.arith.specs.Pick.{pick}
 use Rattle.log_line.specs.declared.Line.{Line}
-use Rattle.log_judge.specs.declared.Reading.the-variants.{Item}
-use Rattle.log_judge.specs.Lines.{nextLine}
-use Rattle.log_judge.specs.Reading.{readAt}
-use Rattle.log_judge.proofs.PlaceLaws.{had-at}
+use Rattle.log_rules.specs.declared.Reading.the-variants.{Item}
+use Rattle.log_rules.specs.Lines.{nextLine}
+use Rattle.log_rules.specs.Reading.{readAt}
+use Rattle.log_rules.proofs.PlaceLaws.{had-at}
 use Rattle.log_body.specs.Bodies.{bodyCheckOf, bodyOf}
 use Rattle.log_body.proofs.Limits.{body-answer, body-start, body-length, body-is-part}
 use Rattle.c_log.specs.Logs.{logPacked, checkValue, bodyValue, bodyPacked}

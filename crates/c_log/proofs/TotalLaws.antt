@@ -9,12 +9,12 @@ use lib.ListN.{length}
 use lib.Dec.{eqb, ltb}
 use Rattle.arith.specs.Pick.{pick, either}
 use Rattle.arith.proofs.PickLaws.{pick-both, pick-each}
-use Rattle.log_judge.specs.declared.Checked.{Checked}
-use Rattle.log_judge.specs.Judge.{Verdict, right, wrong, judged}
-use Rattle.log_judge.specs.Head.{machineOf}
-use Rattle.log_judge.specs.Tree.{Tree, clocks, turns, acts}
-use Rattle.log_judge.specs.Whole.{treeOf, Stopping, stoppingOf, checkRefusal, passedCheck, heavy, weighed, unlessWrong, checkOf}
-use Rattle.log_judge.proofs.CheckLaws.{acts-le}
+use Rattle.log_rules.specs.declared.Checked.{Checked}
+use Rattle.log_rules.specs.Judge.{Verdict, right, wrong, judged}
+use Rattle.log_rules.specs.Head.{machineOf}
+use Rattle.log_rules.specs.Tree.{Tree, clocks, turns, acts}
+use Rattle.log_rules.specs.Whole.{treeOf, Stopping, stoppingOf, checkRefusal, passedCheck, heavy, weighed, unlessWrong, checkOf}
+use Rattle.log_rules.proofs.CheckLaws.{acts-le}
 
 -- a place in a log has 24 bits
 pub place-is : (place : ℕ) → place ≤ 60000 → place % 2 ^ 24 ≡ place

@@ -9,10 +9,10 @@ use Rattle.bus.specs.declared.Access.{Access}
 use Rattle.bus.specs.declared.Access.the-variants.{Write, Read}
 use Rattle.log_line.specs.declared.Act.{Act}
 use Rattle.log_line.specs.declared.Act.the-variants.{Wait}
-use Rattle.log_judge.specs.Lines.{nextLine}
-use Rattle.log_judge.specs.Whole.{checkOf}
-use Rattle.log_item.specs.declared.Found.{Found}
-use Rattle.log_item.specs.declared.Found.the-variants.{Is, Refused}
+use Rattle.log_rules.specs.Lines.{nextLine}
+use Rattle.log_rules.specs.Whole.{checkOf}
+use Rattle.log_item.specs.declared.Picked.{Picked}
+use Rattle.log_item.specs.declared.Picked.the-variants.{Is, Refused}
 use Rattle.log_item.specs.Items.{itemOf}
 use Rattle.log_body.specs.Bodies.{bodyCheckOf, bodyOf}
 
@@ -43,7 +43,7 @@ abbrev pub actValue : Act → ℕ
 actValue (Wait n) = 1 * 2 ^ 24 + n
 actValue (Act.Access x) = accessValue x
 
-abbrev pub foundPacked : Found → ℕ
+abbrev pub foundPacked : Picked → ℕ
 foundPacked (Is a) = logPacked 0 0 (actValue a)
 foundPacked (Refused number place) = logPacked number place 0
 

@@ -1,13 +1,13 @@
 // What is asked of a log, each answer in one 64-bit number: whether it passes, its items, and the bodies of its loops.
 ghost use mathlib.Core.Path.{_≡_};
 ghost use Prim.Native.Nat.{_^_, _%_, _≤_, _<_};
-ghost use Rattle.log_judge.specs.Tree.{actClocks};
+ghost use Rattle.log_rules.specs.Tree.{actClocks};
 ghost use Rattle.log_body.specs.Bodies.{bodyCheckOf};
 ghost use Rattle.c_log.specs.Logs.{logPacked, checkValue, checkPacked, turnsPacked, itemsPacked, accessValue, actValue, itemPacked, bodyValue, bodyPacked};
 use bus::Access;
-use log_item::Found;
-use log_judge::Reading;
+use log_item::Picked;
 use log_line::Act;
+use log_rules::Reading;
 
 // An answer about a log in one number. Of the place it has 24 bits; a log's places have 16.
 pub fn pack(number: u8, place: usize, value: u32) -> u64
@@ -77,8 +77,8 @@ pub fn item(log: &[u8], k: u64) -> u64
 {
     let f = log_item::item(log, k);
     match f {
-        Found::Is(a) => pack(0, 0, act_value(a) as u32),
-        Found::Refused(number, place) => pack(number, place, 0),
+        Picked::Is(a) => pack(0, 0, act_value(a) as u32),
+        Picked::Refused(number, place) => pack(number, place, 0),
     }
 }
 

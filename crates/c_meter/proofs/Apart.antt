@@ -3,10 +3,10 @@ use Prim.Native.Nat.{ℕ, _/_, _%_, _^_, _<_}
 use mathlib.Core.Path.{_≡_}
 use mathlib.Core.List.{List}
 use native.Mathlib.Omega.{arith}
-use Rattle.run_meter.specs.declared.Measured.{Measured}
-use Rattle.run_meter.specs.declared.Measured.the-variants.{Refused, NoLevels, Silent, Steady, Moving}
-use Rattle.run_meter.specs.Measure.{measuredNumber, measureOf}
-use Rattle.run_meter.proofs.Answers.{Says, says}
+use Rattle.meter.specs.declared.Measured.{Measured}
+use Rattle.meter.specs.declared.Measured.the-variants.{Refused, NoLevels, Silent, Steady, Moving}
+use Rattle.meter.specs.Measure.{measuredNumber, measureOf}
+use Rattle.meter.proofs.Answers.{Says, says}
 use Rattle.c_meter.specs.Packed.{caseOf, lowestOf, highestOf, meterPacked}
 
 pub record Apart (m : Measured) : Type 0 where

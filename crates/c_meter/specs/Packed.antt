@@ -3,12 +3,12 @@ use Prim.Native.Nat.{ℕ, _+_, _*_, _^_}
 use mathlib.Core.List.{List}
 use lib.Dec.{ltb}
 use Rattle.arith.specs.Pick.{pick}
-use Rattle.run_meter.specs.declared.Measured.{Measured}
-use Rattle.run_meter.specs.declared.Measured.the-variants.{Refused, NoLevels, Silent, Steady, Moving}
-use Rattle.run_meter.specs.declared.records.Before.{Before}
-use Rattle.run_meter.specs.declared.records.Before.the-variants.{Nothing, Level}
-use Rattle.run_meter.specs.Measure.{measuredNumber, measureOf}
-use Rattle.run_meter.specs.Records.{recordLevels, levelsHeard}
+use Rattle.meter.specs.declared.Measured.{Measured}
+use Rattle.meter.specs.declared.Measured.the-variants.{Refused, NoLevels, Silent, Steady, Moving}
+use Rattle.meter.specs.declared.records.Before.{Before}
+use Rattle.meter.specs.declared.records.Before.the-variants.{Nothing, Level}
+use Rattle.meter.specs.Measure.{measuredNumber, measureOf}
+use Rattle.meter.specs.Records.{recordLevels, levelsHeard}
 
 -- the case of an answer: "0 none, 1 silent, 2 steady, 3 moving", and 0 of a refusal
 abbrev pub caseOf : Measured → ℕ

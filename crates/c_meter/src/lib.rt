@@ -1,10 +1,10 @@
 // The meter for C and Rust, each answer one 64-bit number: number + 2^8 x case + 2^16 x lowest + 2^32 x highest.
 ghost use mathlib.Core.Path.{_≡_};
 ghost use Rattle.chip_mixer.specs.Fraction.{fractionOf};
-ghost use Rattle.run_meter.specs.Measure.{measureOf};
+ghost use Rattle.meter.specs.Measure.{measureOf};
 ghost use Rattle.c_meter.specs.Packed.{meterPacked, beforeOf, recordsPacked};
-use run_meter::Measured;
-use run_meter::records::Before;
+use meter::Measured;
+use meter::records::Before;
 
 // An answer in one number.
 fn pack(m: Measured) -> u64
@@ -23,7 +23,7 @@ fn pack(m: Measured) -> u64
 pub fn meter(levels: &[u32]) -> u64
     ensures { λ r. ⌜ r ≡ meterPacked (measureOf (now (levels .entry))) ⌝ }
 {
-    let m = run_meter::measure(levels);
+    let m = meter::measure(levels);
     pack(m)
 }
 
@@ -42,7 +42,7 @@ pub fn meter_records(words: &[u32], start: u64, count: u64, before: u64) -> u64
     ensures { λ r. ⌜ r ≡ recordsPacked (now (words .entry)) start count before ⌝ }
 {
     let b = before_of(before);
-    let m = run_meter::records::measure(b, words, start as usize, count as usize);
+    let m = meter::records::measure(b, words, start as usize, count as usize);
     pack(m)
 }
 

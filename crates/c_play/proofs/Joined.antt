@@ -10,17 +10,17 @@ use lib.Dec.{eqb, leb}
 use Rattle.arith.specs.Pick.{pick}
 use Rattle.c_bytes.specs.Fields.{flagByte}
 use Rattle.chip_api.specs.Answer.{isMemory}
-use Rattle.play_model.specs.declared.Player.{Player}
+use Rattle.play_rules.specs.declared.Player.{Player}
 use Rattle.play.specs.declared.Played.{Played}
-use Rattle.play_model.specs.Turns.{freshPlayer, endedPlayer}
+use Rattle.play_rules.specs.Turns.{freshPlayer, endedPlayer}
 use Rattle.play.specs.Playing.{PlayedOn}
 use Rattle.play.specs.Calls as play
 use Rattle.play_begin.specs.Whole.{playNumber, begunOf}
 use Rattle.play.proofs.Whole.{Beginning, pieces-whole, never-halted, gets-line, comes-to-end}
-use Rattle.log_judge.specs.Head.{machineOf}
-use Rattle.log_judge.specs.Tree.{acts}
-use Rattle.log_judge.specs.Whole.{treeOf}
-use Rattle.play_model.specs.Sound.{entriesOf}
+use Rattle.log_rules.specs.Head.{machineOf}
+use Rattle.log_rules.specs.Tree.{acts}
+use Rattle.log_rules.specs.Whole.{treeOf}
+use Rattle.play_rules.specs.Sound.{entriesOf}
 use Rattle.c_cursor.proofs.Calls.{beginning-fits}
 use Rattle.c_player.specs.Player.{playerSize, playerBytes, playerAt, isPlayer, PlayerFits}
 use Rattle.c_player.proofs.CodeLaws.{written-read, player-right}

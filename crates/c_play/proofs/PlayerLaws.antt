@@ -15,9 +15,9 @@ use Rattle.arith.proofs.PickLaws.{both-left, pick-both}
 use Rattle.chip.specs.Range.{inRange}
 use Rattle.chip_api.specs.Answer.{isMemory}
 use Rattle.c_state.specs.Bytes.{isState}
-use Rattle.log_judge.proofs.Limits.{check-limits}
+use Rattle.log_rules.proofs.Limits.{check-limits}
 use Rattle.text_print.specs.Printed.{fits, placed}
-use Rattle.play_model.specs.declared.Player.{Player}
+use Rattle.play_rules.specs.declared.Player.{Player}
 use Rattle.play.specs.declared.Played.{Played}
 use Rattle.play_begin.specs.declared.Begun.{Begun}
 use Rattle.play_text.specs.Entries.{refusalText}

@@ -7,7 +7,7 @@ use lib.Dec.{eqb}
 use Rattle.arith.specs.Pick.{pick}
 use Rattle.c_bytes.specs.Fields.{flagByte}
 use Rattle.text_print.specs.Printed.{placed}
-use Rattle.play_model.specs.declared.Player.{Player}
+use Rattle.play_rules.specs.declared.Player.{Player}
 use Rattle.play.specs.declared.Played.{Played}
 use Rattle.play_text.specs.Entries.{refusalText}
 use Rattle.play.specs.Playing.{Where, Untouched, PlayedOn}

@@ -9,7 +9,7 @@ ghost use Rattle.play_text.specs.Entries.{refusalText};
 ghost use Rattle.c_player.specs.Player.{playerEncoded};
 ghost use Rattle.c_play.specs.Players.{beginPacked, beginBytes, piecePacked, PlayedFrom, Continued, refusalPacked};
 use play::Played;
-use play_model::Player;
+use play_rules::Player;
 
 // The player written to the bytes, where the number says that it is done.
 fn store_player(number: u8, p: Player, b: &mut [u8])

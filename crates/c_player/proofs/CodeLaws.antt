@@ -15,7 +15,7 @@ use Rattle.c_bytes.proofs.WideLaws.{wide-size}
 use Rattle.c_bytes.proofs.NumberLaws.{wide-past, wide-read}
 use Rattle.c_cursor.proofs.PlaceLaws.{cursor-size}
 use Rattle.c_cursor.proofs.CodeLaws.{written-read as cursor-read}
-use Rattle.play_model.specs.declared.Player.{Player}
+use Rattle.play_rules.specs.declared.Player.{Player}
 use Rattle.c_player.specs.Player.{cursorPlace, statePlace, playerSize, playerBytes, cursorPart, statePart, playerAt, isPlayer, PlayerFits}
 use Rattle.c_player.proofs.PlaceLaws.{numbers, numbers-size, front-size, whole, player-size}
 

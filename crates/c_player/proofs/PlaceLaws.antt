@@ -12,7 +12,7 @@ use Rattle.c_cursor.specs.Cursors.{cursorSize, cursorBytes}
 use Rattle.c_bytes.proofs.WideLaws.{wide-size}
 use Rattle.c_bytes.proofs.PlaceLaws.{put-next, put-all}
 use Rattle.c_cursor.proofs.PlaceLaws.{cursor-size}
-use Rattle.play_model.specs.declared.Player.{Player}
+use Rattle.play_rules.specs.declared.Player.{Player}
 use Rattle.c_player.specs.Player.{cursorPlace, statePlace, playerSize, playerBytes}
 
 -- the four numbers

@@ -9,7 +9,7 @@ use Rattle.arith.specs.Pick.{pick, both}
 use Rattle.c_state.specs.Bytes.{stateSize, stateBytes, stateOf, isState}
 use Rattle.c_bytes.specs.Numbers.{wideBytes, wideOf}
 use Rattle.c_cursor.specs.Cursors.{cursorSize, cursorBytes, cursorOf, CursorFits}
-use Rattle.play_model.specs.declared.Player.{Player}
+use Rattle.play_rules.specs.declared.Player.{Player}
 
 -- where the cursor and the state begin, and how many bytes a player is
 abbrev pub cursorPlace : ℕ

@@ -7,7 +7,7 @@ mod reader;
 mod writer;
 
 use c_bytes::number;
-use play_model::Player;
+use play_rules::Player;
 
 // Where the cursor and the state begin, and how many bytes a player is.
 pub(crate) const CURSOR: usize = 11;

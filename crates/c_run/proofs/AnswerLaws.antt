@@ -10,14 +10,14 @@ use lib.ListN.{length}
 use borrow.Author.Tests.{eq-eqb, ne-eqb, eqb-true}
 use Rattle.arith.specs.Pick.{pick}
 use Rattle.arith.proofs.PickLaws.{pick-both, pick-each}
-use Rattle.machine.specs.Reading.{start, plain}
-use Rattle.machine.proofs.ReadingLaws.{reading-done}
+use Rattle.reading.specs.Reading.{start, plain}
+use Rattle.reading.proofs.ReadingLaws.{reading-done}
 use Rattle.chip.specs.declared.State.{State}
 use Rattle.chip_api.specs.Answer.{isMemory}
 use Rattle.run_answer.specs.Run.{roomOf, number, refusal}
 use Rattle.run_answer.specs.declared.Ran.{Ran}
 use Rattle.run_answer.proofs.AnswerLaws.{number-fine}
-use Rattle.run_dwell.specs.Dwell.{dwellMachine, dwellNumber, dwellBy, dwellRefusal, dwellAnswered, dwellAnswer, dwellLent}
+use Rattle.run_dwell.specs.Dwell.{dwellClockwork, dwellNumber, dwellBy, dwellRefusal, dwellAnswered, dwellAnswer, dwellLent}
 use Rattle.run_dwell.specs.declared.Counted.{Counted}
 use Rattle.run_dwell.proofs.DwellLaws.{number-right}
 use Rattle.c_state.specs.Bytes.{isState, stateOf}
@@ -101,7 +101,7 @@ answer-most memory s counts count words =
     omega (
       arith,
       number-fine memory s count (number-right memory s counts count (eqb-true (dwellNumber memory s counts count) 0 e) .0),
-      reading-done (dwellMachine memory) count (start (roomOf words) (record { state = s; counts = counts })),
+      reading-done (dwellClockwork memory) count (start (roomOf words) (record { state = s; counts = counts })),
     ))
     (λ e. omega arith)
 

@@ -8,10 +8,10 @@ use borrow.Author.Tests.{ltb-false}
 use lib.ListN.{length, take}
 use lib.Dec.{eqb, ltb}
 use Rattle.arith.specs.Pick.{pick, either}
-use Rattle.log_judge.specs.Whole.{heavy}
-use Rattle.log_mending.specs.Mending.{mended, mendedTree}
-use Rattle.log_mending.specs.Promise.{Mends}
-use Rattle.log_mending.proofs.Few.{few}
+use Rattle.log_rules.specs.Whole.{heavy}
+use Rattle.log_salvage_rules.specs.Mending.{mended, mendedTree}
+use Rattle.log_salvage_rules.specs.Promise.{Mends}
+use Rattle.log_salvage_rules.proofs.Few.{few}
 use Rattle.log_salvage.specs.declared.Salvaged.{Salvaged}
 use Rattle.log_salvage.specs.Answer.{numberOf, salvageRefusal, salvageDone, salvageOf}
 use Rattle.c_log.proofs.PackedLaws.{apart}

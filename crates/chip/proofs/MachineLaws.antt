@@ -4,9 +4,9 @@ use mathlib.Core.Path.{_≡_, refl, _∙_}
 use mathlib.Core.Bool.{Bool}
 use mathlib.Core.List.{List}
 use Rattle.arith.proofs.PickLaws.{pick-both}
-use Rattle.chip_frame.specs.Frame.{nextStep, frameDue, frameMoved, clocksEnvelopes, clocksLengths}
+use Rattle.chip_frame.specs.Frame.{nextStep, frameDue, frameMoved, isQuarter, isHalf}
 use Rattle.chip_tables.specs.Table.{frameTimes}
-use Rattle.chip.specs.Clock.{withFrame, timersClocked, readerClocked, envelopesClocked, lengthsClocked, envelopesIf, lengthsIf, stepped, framed, chipClock}
+use Rattle.chip.specs.Clock.{withFrame, timersClocked, readerClocked, quarterFrame, halfFrame, quarterIf, halfIf, stepped, framed, chipClock}
 use Rattle.chip.specs.declared.State.{State}
 
 -- the same machine
@@ -16,24 +16,24 @@ pub record Alike (s x : State) : Type 0 where
 same : (s : State) → Alike s s
 same s = record { pal = refl }
 
-envelopes-machine : (s : State) → Alike s (envelopesClocked s)
-unfolding envelopesClocked
+envelopes-machine : (s : State) → Alike s (quarterFrame s)
+unfolding quarterFrame
 envelopes-machine s = record { pal = refl }
 
-lengths-machine : (s : State) → Alike s (lengthsClocked s)
-unfolding lengthsClocked
+lengths-machine : (s : State) → Alike s (halfFrame s)
+unfolding halfFrame
 lengths-machine s = record { pal = refl }
 
 -- what a step clocks
-pub clocked-machine : (half quarter : Bool) (s : State) → Alike s (lengthsIf half (envelopesIf quarter s))
+pub clocked-machine : (half quarter : Bool) (s : State) → Alike s (halfIf half (quarterIf quarter s))
 clocked-machine half quarter s =
-    let e : Alike s (envelopesIf quarter s) = pick-both (Alike s) quarter (envelopes-machine s) (same s) in
-    pick-both (Alike s) half (record { pal = lengths-machine (envelopesIf quarter s) .pal ∙ e .pal }) e
+    let e : Alike s (quarterIf quarter s) = pick-both (Alike s) quarter (envelopes-machine s) (same s) in
+    pick-both (Alike s) half (record { pal = lengths-machine (quarterIf quarter s) .pal ∙ e .pal }) e
 
 -- a step of the frame
 pub step-machine : (step : ℕ) (s : State) → Alike s (stepped step s)
 unfolding stepped
-step-machine step s = record { pal = clocked-machine (clocksLengths step (s .frame)) (clocksEnvelopes step (s .frame)) s .pal }
+step-machine step s = record { pal = clocked-machine (isHalf step (s .frame)) (isQuarter step (s .frame)) s .pal }
 
 timers-machine : (s : State) → timersClocked s .pal ≡ s .pal
 unfolding timersClocked

@@ -16,11 +16,11 @@ use Rattle.chip_square.proofs.RangeLaws.{SquareRanged, square-in, square-back, 
 use Rattle.chip_triangle.proofs.RangeLaws.{TriangleRanged, triangle-in, triangle-back, triangle-on, triangle-timed, triangle-linear, triangle-lengthened}
 use Rattle.chip_noise.proofs.RangeLaws.{NoiseRanged, noise-in, noise-back, noise-on, noise-timed-kept, noise-enveloped-kept, noise-lengthened-kept}
 use Rattle.chip_dmc.proofs.RangeLaws.{DmcRanged, dmc-in, dmc-back, dmc-on, dmc-timed-kept, dmc-read-kept}
-use Rattle.chip_frame.specs.Frame.{nextStep, frameDue, frameMoved, clocksEnvelopes, clocksLengths}
+use Rattle.chip_frame.specs.Frame.{nextStep, frameDue, frameMoved, isQuarter, isHalf}
 use Rattle.chip_frame.proofs.RangeLaws.{FrameRanged, frame-in, frame-back, frame-on, frame-moved, frame-stepped}
 use Rattle.chip_mixer.proofs.LevelLaws.{mixed-most}
 use Rattle.chip_tables.specs.Table.{noiseNtsc, noisePal, dmcNtsc, dmcPal, noisePeriod, dmcPeriod, noiseTop, dmcTop, frameTimes}
-use Rattle.chip.specs.Clock.{withFrame, timersClocked, readerClocked, envelopesClocked, lengthsClocked, envelopesIf, lengthsIf, stepped, framed, chipClock}
+use Rattle.chip.specs.Clock.{withFrame, timersClocked, readerClocked, quarterFrame, halfFrame, quarterIf, halfIf, stepped, framed, chipClock}
 use Rattle.chip.proofs.MachineLaws.{clocked-machine}
 use Rattle.chip.specs.Level.{stateLevel}
 use Rattle.chip.specs.Range.{inRange, powerOn, Bytes}
@@ -115,8 +115,8 @@ reader-kept memory b s h =
       frame = h .frame;
     }
 
-envelopes-kept : (s : State) → StateRanged s → StateRanged (envelopesClocked s)
-unfolding envelopesClocked
+envelopes-kept : (s : State) → StateRanged s → StateRanged (quarterFrame s)
+unfolding quarterFrame
 envelopes-kept s h =
     record {
       square1 = square-enveloped (s .square1) (h .square1);
@@ -127,8 +127,8 @@ envelopes-kept s h =
       frame = h .frame;
     }
 
-lengths-kept : (s : State) → StateRanged s → StateRanged (lengthsClocked s)
-unfolding lengthsClocked
+lengths-kept : (s : State) → StateRanged s → StateRanged (halfFrame s)
+unfolding halfFrame
 lengths-kept s h =
     record {
       square1 = square-swept false (s .square1) (h .square1);
@@ -142,10 +142,10 @@ lengths-kept s h =
 pub step-kept : (step : ℕ) (s : State) → StateRanged s → StateRanged (stepped step s)
 unfolding stepped
 step-kept step s h =
-    let quarter : Bool = clocksEnvelopes step (s .frame) in
-    let half : Bool = clocksLengths step (s .frame) in
-    let e : StateRanged (envelopesIf quarter s) = pick-both StateRanged quarter (envelopes-kept s h) h in
-    let l : StateRanged (lengthsIf half (envelopesIf quarter s)) = pick-both StateRanged half (lengths-kept (envelopesIf quarter s) e) e in
+    let quarter : Bool = isQuarter step (s .frame) in
+    let half : Bool = isHalf step (s .frame) in
+    let e : StateRanged (quarterIf quarter s) = pick-both StateRanged quarter (envelopes-kept s h) h in
+    let l : StateRanged (halfIf half (quarterIf quarter s)) = pick-both StateRanged half (lengths-kept (quarterIf quarter s) e) e in
     frame-put _ l (rw (clocked-machine half quarter s .pal) (frame-stepped (frameTimes (s .pal)) step (s .frame) (h .frame)))
 
 framed-kept : (s : State) → StateRanged s → StateRanged (framed s)

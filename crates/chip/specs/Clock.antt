@@ -7,7 +7,7 @@ use Rattle.chip_square.specs.Square.{squareTimed, squareEnveloped, squareSwept}
 use Rattle.chip_triangle.specs.Triangle.{triangleTimed, triangleLinear, triangleLengthened}
 use Rattle.chip_noise.specs.Noise.{noiseTimed, noiseEnveloped, noiseLengthened}
 use Rattle.chip_dmc.specs.Clock.{dmcTimed, dmcRead}
-use Rattle.chip_frame.specs.Frame.{nextStep, frameDue, frameMoved, clocksEnvelopes, clocksLengths, frameStepped}
+use Rattle.chip_frame.specs.Frame.{nextStep, frameDue, frameMoved, isQuarter, isHalf, frameStepped}
 use Rattle.chip_dmc.specs.declared.Dmc.{Dmc}
 use Rattle.chip_frame.specs.declared.Frame.{Frame}
 use Rattle.chip_tables.specs.Table.{noisePeriod, dmcPeriod, frameTimes}
@@ -55,8 +55,8 @@ unfoldable pub readerClocked : List ℕ → State → State
 readerClocked memory s = withDmc s (dmcRead memory (s .dmc))
 
 -- "envelopes and linear counter"
-unfoldable pub envelopesClocked : State → State
-envelopesClocked s =
+unfoldable pub quarterFrame : State → State
+quarterFrame s =
     record {
       square1 = squareEnveloped (s .square1);
       square2 = squareEnveloped (s .square2);
@@ -68,8 +68,8 @@ envelopesClocked s =
     }
 
 -- "lengths and sweeps"
-unfoldable pub lengthsClocked : State → State
-lengthsClocked s =
+unfoldable pub halfFrame : State → State
+halfFrame s =
     record {
       square1 = squareSwept false (s .square1);
       square2 = squareSwept true (s .square2);
@@ -81,16 +81,16 @@ lengthsClocked s =
     }
 
 -- what a step clocks, where it does
-abbrev pub envelopesIf : Bool → State → State
-envelopesIf on s = pick on (envelopesClocked s) s
+abbrev pub quarterIf : Bool → State → State
+quarterIf on s = pick on (quarterFrame s) s
 
-abbrev pub lengthsIf : Bool → State → State
-lengthsIf on s = pick on (lengthsClocked s) s
+abbrev pub halfIf : Bool → State → State
+halfIf on s = pick on (halfFrame s) s
 
 -- a step of the frame: what it clocks, then its flag
 unfoldable pub stepped : ℕ → State → State
 stepped step s =
-    withFrame (lengthsIf (clocksLengths step (s .frame)) (envelopesIf (clocksEnvelopes step (s .frame)) s)) (frameStepped step (s .frame))
+    withFrame (halfIf (isHalf step (s .frame)) (quarterIf (isQuarter step (s .frame)) s)) (frameStepped step (s .frame))
 
 -- whether the next clock brings a frame step
 abbrev pub stepDue : State → Bool

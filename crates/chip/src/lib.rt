@@ -1,7 +1,7 @@
 // The whole chip: its state, one clock, interrupt line and level. Every operation here has an answer for every state; the operations
 // that refuse states out of range are the crate `chip_api`.
 ghost use mathlib.Core.Path.{_≡_};
-ghost use Rattle.chip.specs.Clock.{timersClocked, readerClocked, envelopesClocked, lengthsClocked, envelopesIf, lengthsIf, stepped, framed, chipClock};
+ghost use Rattle.chip.specs.Clock.{timersClocked, readerClocked, quarterFrame, halfFrame, quarterIf, halfIf, stepped, framed, chipClock};
 ghost use Rattle.chip.specs.Level.{stateLevel};
 ghost use Rattle.chip.specs.Line.{lineAsserted};
 ghost use Rattle.chip.specs.Range.{inRange, powerOn};
@@ -91,8 +91,8 @@ impl State {
         s
     }
 
-    fn envelopes_clocked(self) -> State
-        ensures { λ r. ⌜ r ≡ envelopesClocked self ⌝ }
+    fn quarter_frame(self) -> State
+        ensures { λ r. ⌜ r ≡ quarterFrame self ⌝ }
     {
         let mut s = self;
         s.square1 = self.square1.envelope_clocked();
@@ -102,8 +102,8 @@ impl State {
         s
     }
 
-    fn lengths_clocked(self) -> State
-        ensures { λ r. ⌜ r ≡ lengthsClocked self ⌝ }
+    fn half_frame(self) -> State
+        ensures { λ r. ⌜ r ≡ halfFrame self ⌝ }
     {
         let mut s = self;
         s.square1 = self.square1.swept(false);
@@ -113,16 +113,16 @@ impl State {
         s
     }
 
-    fn envelopes_if(self, on: bool) -> State
-        ensures { λ r. ⌜ r ≡ envelopesIf on self ⌝ }
+    fn quarter_if(self, on: bool) -> State
+        ensures { λ r. ⌜ r ≡ quarterIf on self ⌝ }
     {
-        if on { self.envelopes_clocked() } else { self }
+        if on { self.quarter_frame() } else { self }
     }
 
-    fn lengths_if(self, on: bool) -> State
-        ensures { λ r. ⌜ r ≡ lengthsIf on self ⌝ }
+    fn half_if(self, on: bool) -> State
+        ensures { λ r. ⌜ r ≡ halfIf on self ⌝ }
     {
-        if on { self.lengths_clocked() } else { self }
+        if on { self.half_frame() } else { self }
     }
 
     // A step of the frame.
@@ -131,8 +131,8 @@ impl State {
     {
         let quarter = self.frame.is_quarter(step);
         let half = self.frame.is_half(step);
-        let e = self.envelopes_if(quarter);
-        let mut s = e.lengths_if(half);
+        let e = self.quarter_if(quarter);
+        let mut s = e.half_if(half);
         s.frame = self.frame.stepped(step);
         s
     }

@@ -9,9 +9,9 @@ use Rattle.chip.specs.Range.{inRange}
 use Rattle.chip.specs.declared.State.{State}
 use Rattle.chip.proofs.MachineLaws.{Alike}
 use Rattle.chip.proofs.RangeLaws.{state-in, state-back}
-use Rattle.chip_registers.specs.Status.{statusRead}
-use Rattle.chip_registers.proofs.MachineLaws.{write-machine, read-machine}
-use Rattle.chip_registers.proofs.RangeLaws.{write-kept, read-kept}
+use Rattle.chip_access.specs.Status.{statusRead}
+use Rattle.chip_access.proofs.MachineLaws.{write-machine, read-machine}
+use Rattle.chip_access.proofs.RangeLaws.{write-kept, read-kept}
 use Rattle.chip_access.specs.Access.{accessState}
 
 -- a value that is written is a byte

@@ -1,1 +1,4 @@
 pub mod AccessLaws
+pub mod Elsewhere
+pub mod MachineLaws
+pub mod RangeLaws

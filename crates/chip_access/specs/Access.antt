@@ -3,8 +3,8 @@ use Prim.Native.Nat.{ℕ}
 use Rattle.bus.specs.declared.Access.{Access}
 use Rattle.bus.specs.declared.Access.the-variants.{Write, Read}
 use Rattle.chip.specs.declared.State.{State}
-use Rattle.chip_registers.specs.Status.{statusByte, statusRead}
-use Rattle.chip_registers.specs.Write.{registerWritten}
+use Rattle.chip_access.specs.Status.{statusByte, statusRead}
+use Rattle.chip_access.specs.Write.{registerWritten}
 use Rattle.chip_access.specs.declared.Outcome.{Outcome}
 
 -- the state after an access: a register written with a value, or the status read, which clears the frame flag

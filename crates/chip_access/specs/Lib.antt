@@ -1,1 +1,3 @@
 pub mod Access
+pub mod Status
+pub mod Write

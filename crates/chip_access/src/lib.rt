@@ -1,5 +1,7 @@
 // One bus access to the chip: a register written or the status read. It has an answer for every state and every register; the
 // customers' operation, which refuses, is `chip_api::access`.
+mod registers;
+
 ghost use mathlib.Core.Bool.{true};
 ghost use mathlib.Core.Path.{_≡_};
 ghost use Rattle.chip.specs.Range.{inRange};
@@ -20,16 +22,16 @@ pub fn accessed(s: State, x: Access) -> Outcome
 {
     match x {
         Access::Write(register, value) => {
-            let after = chip_registers::written(s, register, value);
+            let after = registers::register_written(s, register, value);
             Outcome {
                 byte: 0,
                 state: after,
             }
         }
         Access::Read => {
-            let after = chip_registers::read(s);
+            let after = registers::status_read(s);
             Outcome {
-                byte: chip_registers::status(s),
+                byte: registers::status_byte(s),
                 state: after,
             }
         }

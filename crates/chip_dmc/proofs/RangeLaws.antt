@@ -7,10 +7,10 @@ use native.Mathlib.Omega.{arith}
 use lib.Dec.{eqb}
 use lib.ListN.{getD}
 use Rattle.arith.proofs.PickLaws.{both-left, both-right, both-true, pick-both}
-use Rattle.chip_output.specs.Output.{takes}
-use Rattle.chip_output.proofs.RangeLaws.{OutputRanged, output-in, output-back, output-kept}
-use Rattle.chip_reader.specs.Reader.{withInterrupt}
-use Rattle.chip_reader.proofs.RangeLaws.{RegistersRanged, registers-in, registers-back, ReaderRanged, reader-in, reader-back, emptied-kept, flag-kept, reader-kept, switched-kept}
+use Rattle.chip_dmc_output.specs.Output.{takes}
+use Rattle.chip_dmc_output.proofs.RangeLaws.{OutputRanged, output-in, output-back, output-kept}
+use Rattle.chip_dmc_reader.specs.Reader.{withInterrupt}
+use Rattle.chip_dmc_reader.proofs.RangeLaws.{RegistersRanged, registers-in, registers-back, ReaderRanged, reader-in, reader-back, emptied-kept, flag-kept, reader-kept, switched-kept}
 use Rattle.chip_dmc.specs.Clock.{dmcTimed, dmcRead, dmcClock}
 use Rattle.chip_dmc.specs.Write.{dmcWrite0, dmcWrite1, dmcWrite2, dmcWrite3, dmcWrite, dmcEnabled}
 use Rattle.chip_dmc.specs.Range.{dmcIn, dmcOn}

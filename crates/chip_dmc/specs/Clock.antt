@@ -1,8 +1,8 @@
 -- Document 01, "Units", DMC: one clock, the timer's period being an argument.
 use Prim.Native.Nat.{ℕ}
 use mathlib.Core.List.{List}
-use Rattle.chip_output.specs.Output.{outputClock, takes}
-use Rattle.chip_reader.specs.Reader.{emptied, readerClock}
+use Rattle.chip_dmc_output.specs.Output.{outputClock, takes}
+use Rattle.chip_dmc_reader.specs.Reader.{emptied, readerClock}
 use Rattle.chip_dmc.specs.declared.Dmc.{Dmc}
 
 -- "all timers with what they drive": the DMC's share

@@ -2,8 +2,8 @@
 use Prim.Native.Nat.{ℕ}
 use mathlib.Core.Bool.{Bool, true, false}
 use Rattle.arith.specs.Pick.{both}
-use Rattle.chip_output.specs.Output.{outputIn}
-use Rattle.chip_reader.specs.Reader.{registersIn, readerIn}
+use Rattle.chip_dmc_output.specs.Output.{outputIn}
+use Rattle.chip_dmc_reader.specs.Reader.{registersIn, readerIn}
 use Rattle.chip_dmc.specs.declared.Dmc.{Dmc}
 
 unfoldable pub dmcIn : ℕ → Dmc → Bool

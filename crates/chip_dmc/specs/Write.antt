@@ -4,7 +4,7 @@ use mathlib.Core.Bool.{Bool, false}
 use lib.Dec.{eqb}
 use Rattle.arith.specs.Pick.{pick, both}
 use Rattle.arith.specs.Bit.{bitSet}
-use Rattle.chip_reader.specs.Reader.{withInterrupt, switched}
+use Rattle.chip_dmc_reader.specs.Reader.{withInterrupt, switched}
 use Rattle.chip_dmc.specs.declared.Dmc.{Dmc}
 
 -- "$4010 interrupt enable 7, loop 6, index 3-0"; "$4010 with interrupt enable clear clears the flag."

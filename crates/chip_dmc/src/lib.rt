@@ -3,9 +3,9 @@ ghost use mathlib.Core.Path.{_≡_};
 ghost use Rattle.chip_dmc.specs.Clock.{dmcTimed, dmcRead, dmcClock, dmcOutput};
 ghost use Rattle.chip_dmc.specs.Write.{dmcWrite0, dmcWrite1, dmcWrite2, dmcWrite3, dmcWrite, dmcEnabled};
 ghost use Rattle.chip_dmc.specs.Range.{dmcIn, dmcOn};
-use chip_output::Output;
-use chip_reader::Reader;
-use chip_reader::Registers;
+use chip_dmc_output::Output;
+use chip_dmc_reader::Reader;
+use chip_dmc_reader::Registers;
 
 pub struct Dmc {
     pub registers: Registers,

@@ -37,12 +37,12 @@ unfoldable pub frameDue : Times → Frame → Bool
 frameDue t f = not (eqb (nextStep t f) 0)
 
 -- "Mode 0, steps 1 to 4: envelopes and linear counter each time"; "Mode 1, steps 1 to 5: envelopes and linear at 1 to 4"
-unfoldable pub clocksEnvelopes : ℕ → Frame → Bool
-clocksEnvelopes step f = pick (f .mode) (leb step 4) true
+unfoldable pub isQuarter : ℕ → Frame → Bool
+isQuarter step f = pick (f .mode) (leb step 4) true
 
 -- "lengths and sweeps at 2 and 4"; in mode 1 "at 1 and 3"
-unfoldable pub clocksLengths : ℕ → Frame → Bool
-clocksLengths step f = pick (f .mode) (either (eqb step 1) (eqb step 3)) (either (eqb step 2) (eqb step 4))
+unfoldable pub isHalf : ℕ → Frame → Bool
+isHalf step f = pick (f .mode) (either (eqb step 1) (eqb step 3)) (either (eqb step 2) (eqb step 4))
 
 -- "In mode 0 the flag is set at [step 4] only, if disable is clear"
 unfoldable pub frameStepped : ℕ → Frame → Frame

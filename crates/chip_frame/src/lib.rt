@@ -3,7 +3,7 @@ ghost use mathlib.Core.Path.{_≡_};
 ghost use Prim.Native.Nat.{_+_};
 ghost use lib.Dec.{leb};
 ghost use Rattle.arith.specs.Pick.{pick};
-ghost use Rattle.chip_frame.specs.Frame.{lastNumber, frameMoved, stepAt, nextStep, clocksEnvelopes, clocksLengths, frameStepped, frameWritten, frameRead, frameAsserts, frameIn, frameOn};
+ghost use Rattle.chip_frame.specs.Frame.{lastNumber, frameMoved, stepAt, nextStep, isQuarter, isHalf, frameStepped, frameWritten, frameRead, frameAsserts, frameIn, frameOn};
 
 // The clock numbers at which steps come. Mode 0 has the first four, mode 1 all five; behind the last the clock number is 0 again.
 pub struct Times {
@@ -87,14 +87,14 @@ impl Frame {
 
     // Whether a step clocks envelopes and the linear counter.
     pub fn is_quarter(self, step: u8) -> bool
-        ensures { λ r. ⌜ r ≡ clocksEnvelopes step self ⌝ }
+        ensures { λ r. ⌜ r ≡ isQuarter step self ⌝ }
     {
         arith::pick_bool(self.mode, step <= 4, true)
     }
 
     // Whether a step clocks lengths and sweeps.
     pub fn is_half(self, step: u8) -> bool
-        ensures { λ r. ⌜ r ≡ clocksLengths step self ⌝ }
+        ensures { λ r. ⌜ r ≡ isHalf step self ⌝ }
     {
         let five = arith::either_of(step == 1, step == 3);
         let four = arith::either_of(step == 2, step == 4);

@@ -6,7 +6,7 @@ use native.Mathlib.Nat.{zero-add}
 use native.Mathlib.Omega.{arith}
 use lib.ListN.{length, set, drop}
 use lib.Seq.{sets, sets-eq}
-use Rattle.chip_reader.specs.Reader.{byteAt, nextAddress}
+use Rattle.chip_dmc_reader.specs.Reader.{byteAt, nextAddress}
 use Rattle.chip_sheet.specs.Byte.{eightSteps}
 use Rattle.chip_sheet.specs.Sheet.{sheetLevels}
 

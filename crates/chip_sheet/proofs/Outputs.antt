@@ -6,8 +6,8 @@ use native.Mathlib.Omega.{arith}
 use lib.Dec.{leb}
 use borrow.Author.Tests.{lt-leb}
 use Rattle.arith.specs.Iterate.{iterate}
-use Rattle.chip_output.specs.Output.{outputStep}
-use Rattle.chip_output.specs.declared.Output.{Output}
+use Rattle.chip_dmc_output.specs.Output.{outputStep}
+use Rattle.chip_dmc_output.specs.declared.Output.{Output}
 use Rattle.chip_sheet.specs.Byte.{lowSteps, eightSteps}
 
 module _ (period : ℕ) (full : Bool) (buffer : ℕ) where

@@ -6,7 +6,7 @@ use native.Mathlib.Nat.{pow-suc}
 use native.Mathlib.Omega.{arith}
 use lib.Count.{ones, ones-step, ones-le}
 use borrow.Author.Tests.{lt-ltb, eq-eqb, ne-eqb}
-use Rattle.chip_output.specs.Output.{levelMoved}
+use Rattle.chip_dmc_output.specs.Output.{levelMoved}
 use Rattle.chip_sheet.specs.Byte.{lowSteps, eightSteps, byOnes}
 
 -- one step away from the ends: 2 down, and 4 up for a set bit

@@ -1,7 +1,7 @@
 -- Request 5: what one byte of a sample does to the level, read in two ways.
 use Prim.Native.Nat.{ℕ, zero, suc, _+_, _-_, _*_, _/_}
 use lib.Count.{ones}
-use Rattle.chip_output.specs.Output.{levelMoved}
+use Rattle.chip_dmc_output.specs.Output.{levelMoved}
 
 -- the steps of a byte's k lowest bits, bit 0 first: document 01's DMC rule moves the level by bit 0, then "shift right"
 unfoldable pub lowSteps : ℕ → ℕ → ℕ → ℕ

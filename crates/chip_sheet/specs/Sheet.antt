@@ -5,7 +5,7 @@ use mathlib.Core.List.{List, [], _∷_, _++_}
 use lib.ListN.{length, drop}
 use lib.Dec.{ltb, eqb}
 use Rattle.arith.specs.Pick.{pick, either}
-use Rattle.chip_reader.specs.Reader.{byteAt, nextAddress}
+use Rattle.chip_dmc_reader.specs.Reader.{byteAt, nextAddress}
 use Rattle.chip_sheet.specs.Byte.{eightSteps}
 use Rattle.chip_sheet.specs.declared.Written.{Written}
 

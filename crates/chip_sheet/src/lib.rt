@@ -20,7 +20,7 @@ fn stepped(byte: u8, level: u8) -> u8
     let mut l = level;
     let mut i: u8 = 0;
     while i < 8 {
-        l = chip_output::level_moved(left, l);
+        l = chip_dmc_output::level_moved(left, l);
         left = left / 2;
         i += 1;
     }
@@ -49,8 +49,8 @@ fn draw(memory: &[u8], level: u8, address: u16, n: usize, buffer: &mut [u8])
     let mut a = address;
     let mut i = 0;
     while i < n {
-        l = level_after(chip_reader::byte_of(memory, a), l);
-        a = chip_reader::address_after(a);
+        l = level_after(chip_dmc_reader::byte_of(memory, a), l);
+        a = chip_dmc_reader::address_after(a);
         buffer[i] = l;
         i += 1;
     }

@@ -28,7 +28,3 @@ outputs n count g = pick (ltb g count) 0 (suc ((g - count) / n))
 -- and leave it at this count.
 unfoldable pub countAfter : ℕ → ℕ → ℕ → ℕ
 countAfter n count g = pick (ltb g count) (count - g) (n - (g - count) % n)
-
--- more clocks than any stretch between two frame steps has: where something can't change before one
-abbrev pub forever : ℕ
-forever = 100000

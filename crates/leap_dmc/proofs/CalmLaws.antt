@@ -13,11 +13,11 @@ use Rattle.arith.proofs.IterateLaws.{iterate-along, iterate-along-while}
 use Rattle.divider.specs.Divider.{due, tick, Driven, drive, countAfter}
 use Rattle.divider.proofs.DividerLaws.{drive-closed}
 use Rattle.chip_dmc.specs.Clock.{dmcTimed, dmcRead, dmcClock}
-use Rattle.chip_output.specs.Output.{outputStep, outputClock, takes}
-use Rattle.chip_reader.specs.Reader.{emptied, pending, readerClock}
-use Rattle.chip_reader.specs.declared.Registers.{Registers}
-use Rattle.chip_output.specs.declared.Output.{Output}
-use Rattle.chip_reader.specs.declared.Reader.{Reader}
+use Rattle.chip_dmc_output.specs.Output.{outputStep, outputClock, takes}
+use Rattle.chip_dmc_reader.specs.Reader.{emptied, pending, readerClock}
+use Rattle.chip_dmc_reader.specs.declared.Registers.{Registers}
+use Rattle.chip_dmc_output.specs.declared.Output.{Output}
+use Rattle.chip_dmc_reader.specs.declared.Reader.{Reader}
 use Rattle.chip_dmc.specs.declared.Dmc.{Dmc}
 use Rattle.leap_dmc.specs.Leap.{withOutput, withTape}
 

@@ -9,11 +9,12 @@ use Rattle.arith.specs.Iterate.{iterate}
 use Rattle.arith.specs.Pick.{pick}
 use Rattle.arith.proofs.IterateLaws.{iterate-zero, iterate-more}
 use Rattle.arith.proofs.PickLaws.{pick-each}
-use Rattle.divider.specs.Divider.{drive, outputs, countAfter, forever}
+use Rattle.divider.specs.Divider.{drive, outputs, countAfter}
+use Rattle.leap_still.specs.Forever.{forever}
 use Rattle.divider.proofs.DividerLaws.{drive-before, drive-closed, drive-brink}
 use Rattle.chip_dmc.specs.Clock.{dmcClock, dmcOutput}
-use Rattle.chip_output.specs.Output.{withTimer}
-use Rattle.chip_reader.specs.Reader.{pending}
+use Rattle.chip_dmc_output.specs.Output.{withTimer}
+use Rattle.chip_dmc_reader.specs.Reader.{pending}
 use Rattle.chip_dmc.specs.declared.Dmc.{Dmc}
 use Rattle.chip_dmc.proofs.RangeLaws.{DmcRanged}
 use Rattle.leap_dmc.specs.Leap.{outputStill, dmcStill, withOutput, withTape, outputAdvanced, dmcAdvanced, outputBrink, dmcBrink, dmcTurned}

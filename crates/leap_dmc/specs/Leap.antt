@@ -4,11 +4,12 @@ use Prim.Native.Nat.{ℕ, _+_, _-_, _*_, _/_, _^_}
 use mathlib.Core.Bool.{Bool}
 use mathlib.Core.List.{List}
 use Rattle.arith.specs.Pick.{pick}
-use Rattle.divider.specs.Divider.{outputs, countAfter, forever}
+use Rattle.divider.specs.Divider.{outputs, countAfter}
+use Rattle.leap_still.specs.Forever.{forever}
 use Rattle.chip_dmc.specs.Clock.{dmcClock}
-use Rattle.chip_output.specs.Output.{withTimer}
-use Rattle.chip_reader.specs.Reader.{pending}
-use Rattle.chip_output.specs.declared.Output.{Output}
+use Rattle.chip_dmc_output.specs.Output.{withTimer}
+use Rattle.chip_dmc_reader.specs.Reader.{pending}
+use Rattle.chip_dmc_output.specs.declared.Output.{Output}
 use Rattle.chip_dmc.specs.declared.Dmc.{Dmc}
 
 -- silent: with a full buffer up to the clock before the end of the eight bits, else for ever; sounding: up to the clock before the timer's

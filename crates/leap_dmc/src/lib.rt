@@ -3,10 +3,10 @@ ghost use mathlib.Core.Path.{_≡_};
 ghost use mathlib.Core.Bool.{Bool};
 ghost use Prim.Native.Nat.{ℕ, _+_, _-_, _*_};
 ghost use Rattle.arith.specs.Pick.{pick};
-ghost use Rattle.divider.specs.Divider.{forever};
+ghost use Rattle.leap_still.specs.Forever.{forever};
 ghost use Rattle.leap_dmc.specs.Leap.{outputStill, dmcStill, withTape, outputAdvanced, dmcAdvanced, outputBrink, dmcBrink, dmcTurned};
 use chip_dmc::Dmc;
-use chip_output::Output;
+use chip_dmc_output::Output;
 
 pub mod lag;
 

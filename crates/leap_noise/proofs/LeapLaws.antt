@@ -11,7 +11,8 @@ use Rattle.arith.specs.Iterate.{iterate}
 use Rattle.arith.specs.Pick.{pick}
 use Rattle.arith.proofs.IterateLaws.{iterate-along}
 use Rattle.arith.proofs.PickLaws.{pick-each}
-use Rattle.divider.specs.Divider.{due, Driven, drive, forever}
+use Rattle.divider.specs.Divider.{due, Driven, drive}
+use Rattle.leap_still.specs.Forever.{forever}
 use Rattle.divider.proofs.DividerLaws.{drive-closed, drive-still, drive-turned}
 use Rattle.chip_noise.specs.Noise.{withShifter, noiseAmount, noiseOutput}
 use Rattle.chip_noise.specs.Shifter.{tapOf, shiftedOf, shifterClock}

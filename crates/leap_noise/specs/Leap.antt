@@ -6,7 +6,8 @@ use lib.Dec.{eqb}
 use Rattle.arith.specs.Bit.{bitSet}
 use Rattle.arith.specs.Iterate.{iterate}
 use Rattle.arith.specs.Pick.{pick}
-use Rattle.divider.specs.Divider.{outputs, countAfter, forever}
+use Rattle.divider.specs.Divider.{outputs, countAfter}
+use Rattle.leap_still.specs.Forever.{forever}
 use Rattle.chip_noise.specs.Shifter.{shiftedOf}
 use Rattle.chip_noise.specs.declared.Shifter.{Shifter}
 

@@ -3,11 +3,11 @@ use Prim.Native.Nat.{ℕ, _+_, _/_, _%_, _≤_}
 use mathlib.Core.Path.{_≡_, refl, sym, ap, _∙_}
 use native.Mathlib.Omega.{arith}
 use borrow.Author.Tests.{eq-eqb, ne-eqb}
-use Rattle.divider.specs.Divider.{forever}
+use Rattle.leap_still.specs.Forever.{forever}
 use Rattle.leap_square.specs.Leap.{squareStill, beatGives, beatTurned}
 use Rattle.leap_square.specs.Lag.{squareSpan, runWord, squareKept, squareLag, squareLagOut, runThen, squareRenewed}
 use Rattle.leap_square.specs.declared.Beat.{Beat}
-use Rattle.leap_square.specs.declared.SquareLag.{SquareLag}
+use Rattle.leap_square.specs.declared.lag.SquareLag.{SquareLag}
 use Rattle.leap_square.proofs.LeapLaws.{BeatRanged, square-still-most, gives-most}
 use Rattle.leap_square.proofs.RoundLaws.{turned-again, gives-again}
 

@@ -6,7 +6,7 @@ use lib.Dec.{eqb}
 use Rattle.arith.specs.Pick.{pick}
 use Rattle.leap_square.specs.Leap.{beatGives, squareStill, beatTurned}
 use Rattle.leap_square.specs.declared.Beat.{Beat}
-use Rattle.leap_square.specs.declared.SquareLag.{SquareLag}
+use Rattle.leap_square.specs.declared.lag.SquareLag.{SquareLag}
 
 -- the clocks up to its next change, as far as the field holds them
 unfoldable pub squareSpan : ℕ → ℕ → Beat → ℕ

@@ -5,7 +5,8 @@ use mathlib.Core.List.{List, [], _∷_}
 use lib.ListN.{getD}
 use lib.Dec.{eqb}
 use Rattle.arith.specs.Pick.{pick}
-use Rattle.divider.specs.Divider.{due, tick, outputs, countAfter, forever}
+use Rattle.divider.specs.Divider.{due, tick, outputs, countAfter}
+use Rattle.leap_still.specs.Forever.{forever}
 use Rattle.chip_timer.specs.Timer.{timerPeriod}
 use Rattle.chip_square.specs.Sequencer.{dutyBit}
 use Rattle.chip_square.specs.declared.Sequencer.{Sequencer}

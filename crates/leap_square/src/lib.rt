@@ -1,28 +1,20 @@
 // A square in the leap: what its timer moves, in whole numbers; for how many clocks it surely gives the same; that state g clocks on and at
-// its next change; and the square as a stretch between two frame steps keeps it.
+// its next change. The square as a stretch between two frame steps keeps it: `lag`.
 ghost use mathlib.Core.Path.{_≡_};
 ghost use Prim.Native.Nat.{_+_, _/_, _%_};
 ghost use Rattle.chip_square.specs.Sequencer.{dutyBit};
 ghost use Rattle.leap_square.specs.Leap.{stepsOf, beatOf, withBeat, dutyRow, beatGives, dutyTurns, squareStill, beatAdvanced, beatTurned};
 ghost use Rattle.leap_square.specs.Packed.{turnsWord};
-ghost use Rattle.leap_square.specs.Lag.{squareSpan, runWord, runThen, squareLag, squareLagOut, squareRenewed};
-ghost use Rattle.arith.specs.Pick.{pick};
+ghost use Rattle.leap_square.specs.Lag.{squareSpan};
 use chip_square::Sequencer;
+
+pub mod lag;
 
 // A sequencer in whole numbers: its divider's period, its timer's count, and half flag and position as one count of sixteen.
 pub struct Beat {
     pub n: u32,
     pub count: u32,
     pub steps: u32,
-}
-
-// A square in a stretch: `next` is the clock of its next possible change. `kept` is what it gives up to then, times 2^32, plus the clocks for which it
-// gives the other behind it; `both` is the sum of that number and the one that takes its place at the change. A change is an addition and a
-// subtraction, so that it costs no look-up and no branch.
-pub struct SquareLag {
-    pub next: u64,
-    pub kept: u64,
-    pub both: u64,
 }
 
 // Rows by shifts, since a table would be copied at each look-up.
@@ -125,7 +117,7 @@ impl Beat {
     }
 
     // The clocks up to its next change.
-    fn span(self, row: u32, amount: u32) -> u32
+    pub(crate) fn span(self, row: u32, amount: u32) -> u32
         ensures { λ r. ⌜ r ≡ squareSpan row amount self ⌝ }
     {
         let still = self.still_for(row, amount);
@@ -156,71 +148,6 @@ impl Beat {
             n: self.n,
             count: self.n,
             steps: steps,
-        }
-    }
-}
-
-// What it gives and the clocks of its next run, as one number.
-fn run_word(out: u32, span: u32) -> u64
-    ensures { λ r. ⌜ r ≡ runWord out span ⌝ }
-{
-    out as u64 * 4294967296 + span as u64
-}
-
-fn pick_u64(test: bool, a: u64, b: u64) -> u64
-    ensures { λ r. ⌜ r ≡ pick test a b ⌝ }
-{
-    if test { a } else { b }
-}
-
-impl SquareLag {
-    // Kept from the stretch's start on.
-    pub fn new(row: u32, amount: u32, beat: Beat) -> SquareLag
-        ensures { λ r. ⌜ r ≡ squareLag row amount beat 0 ⌝ }
-    {
-        let still = beat.still_for(row, amount);
-        let out = beat.gives(row, amount);
-        let turned = beat.turn(row);
-        let other = turned.gives(row, amount);
-        let span = turned.span(row, amount);
-        let again = turned.turn(row);
-        let after = again.span(row, amount);
-        let kept = run_word(out, span);
-        let then = run_word(other, after);
-        let both = std::num::wrapping_add_u64(kept, then);
-        SquareLag {
-            next: still + 1,
-            kept: kept,
-            both: both,
-        }
-    }
-
-    // What it gives up to its next change.
-    pub fn out(self) -> u32
-        ensures { λ r. ⌜ r ≡ squareLagOut self ⌝ }
-    {
-        (self.kept / 4294967296) as u32
-    }
-
-    // What takes the place of `kept` at a change.
-    fn then(self) -> u64
-        ensures { λ r. ⌜ r ≡ runThen (self .both) (self .kept) ⌝ }
-    {
-        std::num::wrapping_sub_u64(self.both, self.kept)
-    }
-
-    // At clock e: brought up to it where that is its next change.
-    pub fn renewed(self, e: u32) -> SquareLag
-        ensures { λ r. ⌜ r ≡ squareRenewed self e ⌝ }
-    {
-        let due = self.next == e as u64;
-        let then = self.then();
-        let next = pick_u64(due, e as u64 + self.kept % 4294967296, self.next);
-        let kept = pick_u64(due, then, self.kept);
-        SquareLag {
-            next: next,
-            kept: kept,
-            both: self.both,
         }
     }
 }

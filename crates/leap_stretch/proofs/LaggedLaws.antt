@@ -7,19 +7,19 @@ use native.Mathlib.Omega.{arith}
 use lib.Dec.{eqb}
 use borrow.Author.Tests.{eqb-false}
 use Rattle.arith.specs.Iterate.{iterate}
-use Rattle.divider.specs.Divider.{forever}
+use Rattle.leap_still.specs.Forever.{forever}
 use Rattle.chip_mixer.specs.Mixer.{mixed}
 use Rattle.chip_triangle.specs.Triangle.{triangleAt}
-use Rattle.leap_chip.specs.Frame.{beforeStep}
-use Rattle.leap_chip.proofs.FrameLaws.{before-step-most}
+use Rattle.leap_law.specs.Frame.{beforeStep}
+use Rattle.leap_law.proofs.FrameLaws.{before-step-most}
 use Rattle.chip.specs.Clock.{chipClock}
 use Rattle.chip.specs.Level.{stateLevel}
 use Rattle.chip.specs.Range.{Bytes}
 use Rattle.chip_tables.specs.Table.{noisePeriod, dmcPeriod}
 use Rattle.chip.specs.declared.State.{State}
 use Rattle.chip.proofs.RangeLaws.{StateRanged, noise-period-range, dmc-period-range}
-use Rattle.leap_chip.specs.Between.{stateWith}
-use Rattle.leap_chip.proofs.BetweenLaws.{between}
+use Rattle.leap_law.specs.Between.{stateWith}
+use Rattle.leap_law.proofs.BetweenLaws.{between}
 use Rattle.leap_square.specs.Lag.{squareLagOut}
 use Rattle.leap_stretch.specs.Lagged.{lagsAt, lagsOf, renewedWith, renewed, stretchState}
 use Rattle.leap_stretch.specs.declared.Lags.{Lags}

@@ -5,7 +5,7 @@ use mathlib.Core.Bool.{Bool, true, false}
 use native.Mathlib.Nat.{sub-zero}
 use native.Mathlib.Omega.{arith}
 use borrow.Author.Tests.{eq-eqb}
-use Rattle.divider.specs.Divider.{forever}
+use Rattle.leap_still.specs.Forever.{forever}
 use Rattle.chip_square.specs.Square.{squareAmount}
 use Rattle.leap_square.specs.Leap.{squareStill}
 use Rattle.leap_square.specs.Lag.{squareLag}
@@ -23,13 +23,13 @@ use Rattle.chip_noise.specs.declared.Noise.{Noise}
 use Rattle.chip_noise.specs.declared.Shifter.{Shifter}
 use Rattle.leap_dmc.specs.Lag.{dmcLag, dmcAt}
 use Rattle.leap_dmc.proofs.LeapLaws.{DmcIdle, idle-forever}
-use Rattle.leap_chip.specs.Frame.{beforeStep}
-use Rattle.leap_chip.proofs.FrameLaws.{before-step-most}
+use Rattle.leap_law.specs.Frame.{beforeStep}
+use Rattle.leap_law.proofs.FrameLaws.{before-step-most}
 use Rattle.chip_tables.specs.Table.{dmcPeriod}
 use Rattle.chip.specs.declared.State.{State}
 use Rattle.chip.proofs.RangeLaws.{StateRanged}
-use Rattle.leap_chip.specs.Quiet.{Quiet, quietAfter}
-use Rattle.leap_chip.proofs.QuietLaws.{gate-shut, square-plain, triangle-plain}
+use Rattle.leap_law.specs.Quiet.{Quiet, quietAfter}
+use Rattle.leap_law.proofs.QuietLaws.{gate-shut, square-plain, triangle-plain}
 use Rattle.leap_stretch.specs.Lagged.{lagsAt, lagsOf, stretchState}
 use Rattle.leap_stretch.proofs.LaggedLaws.{sooner-past}
 

@@ -8,7 +8,7 @@ use borrow.Author.Tests.{eqb-true, eqb-false}
 use Rattle.arith.specs.Iterate.{iterate}
 use Rattle.arith.specs.Pick.{pick}
 use Rattle.arith.proofs.PickLaws.{pick-both}
-use Rattle.divider.specs.Divider.{forever}
+use Rattle.leap_still.specs.Forever.{forever}
 use Rattle.chip_sweep.specs.Sweep.{lowPeriod, highTarget}
 use Rattle.chip_envelope.proofs.RangeLaws.{volume-most}
 use Rattle.leap_stretch.specs.Lag.{Follows}
@@ -20,7 +20,7 @@ use Rattle.leap_square.specs.Lag.{squareLag, squareLagOut, squareRenewed}
 use Rattle.chip_square.specs.declared.Sequencer.{Sequencer}
 use Rattle.chip_square.specs.declared.Square.{Square}
 use Rattle.leap_square.specs.declared.Beat.{Beat}
-use Rattle.leap_square.specs.declared.SquareLag.{SquareLag}
+use Rattle.leap_square.specs.declared.lag.SquareLag.{SquareLag}
 use Rattle.chip_square.proofs.RangeLaws.{SquareRanged}
 use Rattle.leap_square.proofs.LeapLaws.{BeatRanged, beat-clocked, beat-ranged, beat-closed, sequencer-beats, square-still, square-turned, square-gives-at}
 use Rattle.leap_square.proofs.LagLaws.{kept-gives, turned-lag, renewed-due, renewed-waits}

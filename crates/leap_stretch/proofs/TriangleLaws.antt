@@ -7,7 +7,7 @@ use lib.Dec.{eqb}
 use borrow.Author.Tests.{eqb-true, eqb-false}
 use Rattle.arith.specs.Iterate.{iterate}
 use Rattle.arith.specs.Pick.{pick}
-use Rattle.divider.specs.Divider.{forever}
+use Rattle.leap_still.specs.Forever.{forever}
 use Rattle.leap_stretch.specs.Lag.{Follows}
 use Rattle.leap_stretch.proofs.LagLaws.{lag-start, lag-wait}
 use Rattle.chip_triangle.specs.Triangle.{runs, triangleSequenced, withSequencer, triangleAt, triangleOutput}
@@ -16,7 +16,7 @@ use Rattle.leap_triangle.specs.Lag.{triangleLag, triangleRenewed}
 use Rattle.chip_triangle.specs.declared.Sequencer.{Sequencer}
 use Rattle.chip_triangle.specs.declared.Triangle.{Triangle}
 use Rattle.leap_triangle.specs.declared.Beat.{Beat}
-use Rattle.leap_triangle.specs.declared.TriangleLag.{TriangleLag}
+use Rattle.leap_triangle.specs.declared.lag.TriangleLag.{TriangleLag}
 use Rattle.chip_triangle.proofs.RangeLaws.{TriangleRanged}
 use Rattle.leap_triangle.proofs.LeapLaws.{BeatRanged, beat-clocked, beat-ranged, triangle-beat-closed, triangle-beats, triangle-still, triangle-turned, triangle-gives-at}
 use Rattle.leap_triangle.proofs.LagLaws.{moved}

@@ -3,7 +3,7 @@ use Prim.Native.Nat.{ℕ, _+_, _-_, _≤_, _<_}
 use mathlib.Core.Path.{_≡_, sym, ap, _∙_}
 use native.Mathlib.Omega.{arith}
 use Rattle.arith.specs.Iterate.{iterate}
-use Rattle.divider.specs.Divider.{forever}
+use Rattle.leap_still.specs.Forever.{forever}
 use Rattle.leap_stretch.specs.Lag.{Follows}
 use Rattle.leap_stretch.proofs.LagLaws.{lag-moved, lag-gives, lag-fine}
 

@@ -14,12 +14,12 @@ use Rattle.chip_triangle.specs.Triangle.{triangleAt}
 use Rattle.chip_noise.specs.Noise.{noiseAmount}
 use Rattle.leap_noise.specs.Lag.{noiseLag, noiseRenewed, noiseShifterAt}
 use Rattle.leap_dmc.specs.Lag.{dmcLag, dmcRenewed, dmcAt}
-use Rattle.leap_chip.specs.Frame.{passedFrame}
+use Rattle.leap_law.specs.Frame.{passedFrame}
 use Rattle.chip_mixer.specs.Mixer.{mixed}
 use Rattle.chip_tables.specs.Table.{noisePeriod, dmcPeriod}
-use Rattle.leap_chip.specs.Between.{stateWith}
-use Rattle.leap_square.specs.declared.SquareLag.{SquareLag}
-use Rattle.leap_triangle.specs.declared.TriangleLag.{TriangleLag}
+use Rattle.leap_law.specs.Between.{stateWith}
+use Rattle.leap_square.specs.declared.lag.SquareLag.{SquareLag}
+use Rattle.leap_triangle.specs.declared.lag.TriangleLag.{TriangleLag}
 use Rattle.leap_noise.specs.declared.lag.NoiseLag.{NoiseLag}
 use Rattle.leap_dmc.specs.declared.lag.DmcLag.{DmcLag}
 use Rattle.chip.specs.declared.State.{State}

@@ -8,7 +8,7 @@ use Rattle.leap_square.specs.Lag.{squareLagOut, squareRenewed}
 use Rattle.leap_triangle.specs.Lag.{triangleRenewed}
 use Rattle.chip_triangle.specs.Triangle.{triangleAt}
 use Rattle.chip_mixer.specs.Parts.{triangleWeight, othersWeight, mixedBy}
-use Rattle.leap_square.specs.declared.SquareLag.{SquareLag}
+use Rattle.leap_square.specs.declared.lag.SquareLag.{SquareLag}
 use Rattle.leap_stretch.specs.declared.Squares.{Squares}
 use Rattle.leap_stretch.specs.declared.Voices.{Voices}
 use Rattle.leap_stretch.specs.declared.Lags.{Lags}

@@ -1,7 +1,7 @@
 // A stretch of clocks between two frame steps, each channel brought up only when what it gives may change.
 ghost use mathlib.Core.Path.{_≡_};
 ghost use lib.ListN.{getD};
-ghost use Rattle.leap_chip.specs.Between.{stateWith};
+ghost use Rattle.leap_law.specs.Between.{stateWith};
 ghost use Rattle.arith.specs.Pick.{pick};
 ghost use Rattle.chip_mixer.specs.Parts.{triangleWeight, othersWeight, mixedBy};
 ghost use Rattle.chip_triangle.specs.Triangle.{triangleAt};
@@ -10,8 +10,8 @@ ghost use Rattle.leap_stretch.specs.Voices.{weightTable, squaresAt, squa
 use chip::State;
 use leap_dmc::lag::DmcLag;
 use leap_noise::lag::NoiseLag;
-use leap_square::SquareLag;
-use leap_triangle::TriangleLag;
+use leap_square::lag::SquareLag;
+use leap_triangle::lag::TriangleLag;
 
 // The channels as a stretch keeps them at clock `now` of it; `soon` is the clock of the next event of squares and triangle, `next` that of the
 // next event of all, `level` the level up to then.
@@ -339,6 +339,6 @@ pub fn state_at(s: State, l: Lags, k: u32) -> State
     let tq = leap_triangle::with_beat(s.triangle.sequencer, beat3);
     let h = l.noise.shifter_at(k);
     let d = l.dmc.dmc_at(k);
-    let f = leap_chip::passed_frame(s, k);
+    let f = leap_law::passed_frame(s, k);
     state_with(q1, q2, tq, h, d, f, s)
 }

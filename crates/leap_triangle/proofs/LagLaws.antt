@@ -4,7 +4,7 @@ use mathlib.Core.Path.{_≡_, refl}
 use Rattle.leap_triangle.specs.Leap.{triangleStill, triangleBeatTurned}
 use Rattle.leap_triangle.specs.Lag.{triangleLag}
 use Rattle.leap_triangle.specs.declared.Beat.{Beat}
-use Rattle.leap_triangle.specs.declared.TriangleLag.{TriangleLag}
+use Rattle.leap_triangle.specs.declared.lag.TriangleLag.{TriangleLag}
 
 pub moved : (on : ℕ) (b : Beat) (at e : ℕ) (l : TriangleLag) → l ≡ triangleLag on b at
     → record { next = e + l .still + 1; position = (l .position + 1) % 32; still = l .still } ≡ triangleLag on (triangleBeatTurned b) e

@@ -10,7 +10,8 @@ use Rattle.arith.specs.Iterate.{iterate}
 use Rattle.arith.specs.Pick.{pick, both}
 use Rattle.arith.proofs.IterateLaws.{iterate-along, iterate-along-while}
 use Rattle.arith.proofs.PickLaws.{pick-both, pick-each}
-use Rattle.divider.specs.Divider.{due, tick, Driven, drive, outputs, countAfter, forever}
+use Rattle.divider.specs.Divider.{due, tick, Driven, drive, outputs, countAfter}
+use Rattle.leap_still.specs.Forever.{forever}
 use Rattle.divider.proofs.DividerLaws.{drive-at, drive-closed, drive-still}
 use Rattle.chip_timer.specs.Timer.{timerPeriod, timerClock}
 use Rattle.divider.proofs.RangeLaws.{tick-ranged}

@@ -6,7 +6,7 @@ use lib.Dec.{eqb}
 use Rattle.arith.specs.Pick.{pick}
 use Rattle.leap_triangle.specs.Leap.{triangleStill, triangleBeatTurned}
 use Rattle.leap_triangle.specs.declared.Beat.{Beat}
-use Rattle.leap_triangle.specs.declared.TriangleLag.{TriangleLag}
+use Rattle.leap_triangle.specs.declared.lag.TriangleLag.{TriangleLag}
 
 -- kept from clock `at` of the stretch on, where it is b
 unfoldable pub triangleLag : ℕ → Beat → ℕ → TriangleLag

@@ -3,7 +3,8 @@
 use Prim.Native.Nat.{ℕ, _+_, _-_, _%_}
 use lib.Dec.{eqb}
 use Rattle.arith.specs.Pick.{pick}
-use Rattle.divider.specs.Divider.{due, tick, outputs, countAfter, forever}
+use Rattle.divider.specs.Divider.{due, tick, outputs, countAfter}
+use Rattle.leap_still.specs.Forever.{forever}
 use Rattle.chip_timer.specs.Timer.{timerPeriod}
 use Rattle.chip_triangle.specs.Triangle.{runs, triangleAt}
 use Rattle.chip_triangle.specs.declared.Sequencer.{Sequencer}

@@ -1,26 +1,19 @@
 // The triangle in the leap: what its timer moves, in whole numbers; for how many clocks it surely gives the same; that state g clocks on and
-// at its next change; and the triangle as a stretch between two frame steps keeps it.
+// at its next change. The triangle as a stretch between two frame steps keeps it: `lag`.
 ghost use mathlib.Core.Path.{_≡_};
 ghost use Prim.Native.Nat.{_+_, _%_};
 ghost use Rattle.chip_triangle.specs.Triangle.{triangleAt};
 ghost use Rattle.leap_triangle.specs.Leap.{triangleGate, triangleBeatOf, triangleWithBeat, positionAfter, triangleGives, triangleStill, triangleBeatAdvanced, triangleBeatTurned};
-ghost use Rattle.leap_triangle.specs.Lag.{triangleLag, triangleRenewed};
 use chip_triangle::Sequencer;
 use chip_triangle::Triangle;
+
+pub mod lag;
 
 // A sequencer in whole numbers: its divider's period, its timer's count, its position.
 pub struct Beat {
     pub n: u32,
     pub count: u32,
     pub position: u32,
-}
-
-// The triangle in a stretch: `next` is the clock of its next possible change, `position` where it stands up to then, and `still` for how many
-// clocks it surely gives the same behind each change.
-pub struct TriangleLag {
-    pub next: u64,
-    pub position: u32,
-    pub still: u32,
 }
 
 // 1 where its two counters let it advance, else 0.
@@ -53,14 +46,14 @@ pub fn with_beat(q: Sequencer, b: Beat) -> Sequencer
 }
 
 // What a position gives.
-fn value_after(position: u32) -> u32
+pub(crate) fn value_after(position: u32) -> u32
     ensures { λ r. ⌜ r ≡ triangleAt position ⌝ }
 {
     let p = position % 32;
     if p < 16 { 15 - p } else { p - 16 }
 }
 
-fn position_on(position: u32, k: u64) -> u32
+pub(crate) fn position_on(position: u32, k: u64) -> u32
     ensures { λ r. ⌜ r ≡ (position + k) % 32 ⌝ }
 {
     (((position % 32) as u64 + k % 32) % 32) as u32
@@ -116,43 +109,5 @@ impl Beat {
             count: self.n,
             position: position,
         }
-    }
-}
-
-impl TriangleLag {
-    // Kept from the stretch's start on; `on` is 1 where its counters let it advance, else 0.
-    pub fn new(on: u32, beat: Beat) -> TriangleLag
-        ensures { λ r. ⌜ r ≡ triangleLag on beat 0 ⌝ }
-    {
-        let still = beat.still_for(on);
-        let turned = beat.turn();
-        let after = turned.still_for(on);
-        TriangleLag {
-            next: still as u64 + 1,
-            position: beat.position,
-            still: after,
-        }
-    }
-
-    // At clock e: brought up to it where that is its next change.
-    pub fn renewed(self, e: u32) -> TriangleLag
-        ensures { λ r. ⌜ r ≡ triangleRenewed self e ⌝ }
-    {
-        let position = position_on(self.position, 1);
-        if self.next == e as u64 {
-            return TriangleLag {
-                next: e as u64 + self.still as u64 + 1,
-                position: position,
-                still: self.still,
-            };
-        }
-        self
-    }
-
-    // What it gives up to its next change.
-    pub fn gives(self) -> u32
-        ensures { λ r. ⌜ r ≡ triangleAt (self .position) ⌝ }
-    {
-        value_after(self.position)
     }
 }

@@ -1,19 +1,19 @@
 // A block of lines, read with the blocks inside it. The totals that it carries are cut off just above what a log may have, so that no product
 // of nested loops is too large for them.
-use log_judge::Block;
-use log_judge::Part;
-use log_judge::Reading;
-use log_judge::Step;
-use log_judge::Totals;
 use log_line::Act;
 use log_line::Line;
 use log_read::number;
 use log_read::place;
 use log_read::read_inside;
+use log_rules::Block;
+use log_rules::Part;
+use log_rules::Reading;
+use log_rules::Step;
+use log_rules::Totals;
 ghost use mathlib.Core.Path.{_≡_};
 ghost use Prim.Native.Nat.{_<_};
-ghost use Rattle.log_judge.specs.Tree.{actClocks};
-ghost use Rattle.log_judge.specs.Block.{Small, SmallBlock, cut, noTotals, sumOf, timesOf, begun, readBegun, readPart, readBlock, stepAnswer, partAnswer, partEnd, loopPart, blockAnswer};
+ghost use Rattle.log_rules.specs.Tree.{actClocks};
+ghost use Rattle.log_rules.specs.Block.{Small, SmallBlock, cut, noTotals, sumOf, timesOf, begun, readBegun, readPart, readBlock, stepAnswer, partAnswer, partEnd, loopPart, blockAnswer};
 
 fn clocks_of(a: Act) -> u64
     ensures { λ r. ⌜ r ≡ actClocks a ⌝ }

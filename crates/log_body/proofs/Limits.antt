@@ -7,10 +7,10 @@ use lib.ListN.{length, take, drop, length-take, length-drop}
 use lib.Dec.{eqb}
 use Rattle.arith.proofs.PickLaws.{pick-both}
 use Rattle.log_line.specs.declared.Line.the-variants.{Loop}
-use Rattle.log_judge.specs.Lines.{linesOf, nextLine}
-use Rattle.log_judge.specs.Whole.{checkOf}
-use Rattle.log_judge.proofs.PlaceLaws.{had-at, next-le}
-use Rattle.log_judge.proofs.Limits.{check-limits}
+use Rattle.log_rules.specs.Lines.{linesOf, nextLine}
+use Rattle.log_rules.specs.Whole.{checkOf}
+use Rattle.log_rules.proofs.PlaceLaws.{had-at, next-le}
+use Rattle.log_rules.proofs.Limits.{check-limits}
 use Rattle.log_body.specs.declared.Answer.{Answer}
 use Rattle.log_body.specs.Bodies.{beginsLoop, bodyCheckOf, doneFrom, between, bodyOf}
 use Rattle.log_body.proofs.PartLaws.{here}

@@ -15,22 +15,22 @@ use Rattle.arith.proofs.PickLaws.{both-left, both-right}
 use Rattle.log_line.specs.declared.Line.{Line}
 use Rattle.log_line.specs.declared.Line.the-variants.{Header, Machine, One, Loop, Done, Stop, Bad}
 use Rattle.log_line.specs.Printed.{lineText}
-use Rattle.log_judge.specs.declared.Reading.{Reading}
-use Rattle.log_judge.specs.declared.Reading.the-variants.{Item, Refused}
-use Rattle.log_judge.specs.declared.Block.{Block}
-use Rattle.log_judge.specs.declared.Totals.{Totals}
-use Rattle.log_judge.specs.declared.Block.the-variants.{Closed}
-use Rattle.log_judge.specs.Lines.{lineLen, nextLine}
-use Rattle.log_judge.specs.Head.{machineOf, startOf}
-use Rattle.log_judge.specs.Reading.{readAt}
-use Rattle.log_spot.specs.declared.Stand.{Stand as Standing}
-use Rattle.log_judge.specs.Tree.{Tree, text, Within}
-use Rattle.log_judge.specs.Whole.{checkOf}
-use Rattle.log_judge.specs.Block.{readBlock, totals, blockAnswer}
-use Rattle.log_judge.proofs.PlaceLaws.{Had, had-at, had-says, had-text, from-depth, bytes-long}
-use Rattle.log_judge.proofs.Descent.{got-behind}
-use Rattle.log_judge.proofs.Derived.{Ending, closes, stops, Reads, an-act, a-loop, a-done, a-stop, block-of}
-use Rattle.log_judge.proofs.JudgeLaws.{linesFrom, lines-at}
+use Rattle.log_rules.specs.declared.Reading.{Reading}
+use Rattle.log_rules.specs.declared.Reading.the-variants.{Item, Refused}
+use Rattle.log_rules.specs.declared.Block.{Block}
+use Rattle.log_rules.specs.declared.Totals.{Totals}
+use Rattle.log_rules.specs.declared.Block.the-variants.{Closed}
+use Rattle.log_rules.specs.Lines.{lineLen, nextLine}
+use Rattle.log_rules.specs.Head.{machineOf, startOf}
+use Rattle.log_rules.specs.Reading.{readAt}
+use Rattle.log_fault.specs.declared.Stand.{Stand as Standing}
+use Rattle.log_rules.specs.Tree.{Tree, text, Within}
+use Rattle.log_rules.specs.Whole.{checkOf}
+use Rattle.log_rules.specs.Block.{readBlock, totals, blockAnswer}
+use Rattle.log_rules.proofs.PlaceLaws.{Had, had-at, had-says, had-text, from-depth, bytes-long}
+use Rattle.log_rules.proofs.Descent.{got-behind}
+use Rattle.log_rules.proofs.Derived.{Ending, closes, stops, Reads, an-act, a-loop, a-done, a-stop, block-of}
+use Rattle.log_rules.proofs.JudgeLaws.{linesFrom, lines-at}
 use Rattle.log_body.specs.Bodies.{beginsLine, isLoop, readsLoop, beginsLoop, bodyCheckOf, isDone, inner, doneFrom, between, bodyOf}
 use Rattle.log_passing.proofs.Passing.{clear, Passing, passing, had-split, text-of, within-of}
 
@@ -257,7 +257,7 @@ module _ (log : List ℕ) (o : ℕ) (h : bodyCheckOf log o .number ≡ 0) where
   unfolding blockAnswer
   answer-is l from e = rw (block-of (closed-is l from e .reads)) refl
 
-  pub body-closed : (l : Line) (from : ℕ) (b : Block) → readAt log o ≡ Item l from → b ≡ blockAnswer (readBlock log from 1) → OneOf (1 ∷ 2 ∷ []) (tagOf Rattle.log_judge.proofs.Block.the-type b) → ⊥
+  pub body-closed : (l : Line) (from : ℕ) (b : Block) → readAt log o ≡ Item l from → b ≡ blockAnswer (readBlock log from 1) → OneOf (1 ∷ 2 ∷ []) (tagOf Rattle.log_rules.proofs.Block.the-type b) → ⊥
   body-closed l from b e f t = let u = rw (f ∙ answer-is l from e) at t in miss (1 ∷ 2 ∷ []) 0 tt u
 
   pub body-part : (l : Line) (from to next : ℕ) (t : Totals) → readAt log o ≡ Item l from → Closed to next t ≡ blockAnswer (readBlock log from 1)

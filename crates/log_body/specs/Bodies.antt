@@ -9,11 +9,11 @@ use Rattle.arith.specs.Pick.{pick, both, either}
 use Rattle.log_line.specs.declared.Line.{Line}
 use Rattle.log_line.specs.declared.Line.the-variants.{Header, Machine, One, Loop, Done, Stop, Bad}
 use Rattle.log_line.specs.Said.{lineOf}
-use Rattle.log_judge.specs.declared.Reading.{Reading}
-use Rattle.log_judge.specs.declared.Reading.the-variants.{Item, Refused}
-use Rattle.log_judge.specs.Lines.{linesOf, nextLine}
-use Rattle.log_judge.specs.Reading.{readAt}
-use Rattle.log_judge.specs.Whole.{checkOf}
+use Rattle.log_rules.specs.declared.Reading.{Reading}
+use Rattle.log_rules.specs.declared.Reading.the-variants.{Item, Refused}
+use Rattle.log_rules.specs.Lines.{linesOf, nextLine}
+use Rattle.log_rules.specs.Reading.{readAt}
+use Rattle.log_rules.specs.Whole.{checkOf}
 use Rattle.log_body.specs.declared.Answer.{Answer}
 
 -- a line begins at the log's start and behind each line feed

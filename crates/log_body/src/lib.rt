@@ -1,7 +1,7 @@
 // A loop's body, as a part of the log itself.
-use log_judge::Block;
-use log_judge::Reading;
 use log_line::Line;
+use log_rules::Block;
+use log_rules::Reading;
 ghost use mathlib.Core.Path.{_≡_};
 ghost use Rattle.log_body.specs.Bodies.{beginsLine, isLoop, readsLoop, beginsLoop, bodyCheckOf, bodyOf};
 

@@ -1,18 +1,18 @@
 // The check of a whole log.
 use log_block::read_block;
-use log_judge::Block;
-use log_judge::Checked;
-use log_judge::Reading;
-use log_judge::Totals;
 use log_read::is_pal;
 use log_read::number;
 use log_read::place;
 use log_read::read;
 use log_read::start;
+use log_rules::Block;
+use log_rules::Checked;
+use log_rules::Reading;
+use log_rules::Totals;
 ghost use mathlib.Core.Path.{_≡_};
 ghost use lib.ListN.{length};
-ghost use Rattle.log_judge.specs.Whole.{checkRefusal, checkOf};
-ghost use Rattle.log_judge.specs.Closing.{totalled, limited, closing};
+ghost use Rattle.log_rules.specs.Whole.{checkRefusal, checkOf};
+ghost use Rattle.log_rules.specs.Closing.{totalled, limited, closing};
 
 // The answer of a refusal.
 fn refusal(number: u8, place: usize) -> Checked

@@ -8,17 +8,17 @@ use native.Mathlib.Omega.{arith}
 use borrow.Author.Tests.{lt-ltb, eq-eqb, ne-eqb, le-leb}
 use lib.ListN.{length, take, getD, set, length-set}
 use lib.Seq.{take-suc-set, take-take, getD-take, take-at, getD-at, length-take-le}
-use Rattle.machine.specs.Saying.{over, on, says, Gives}
-use Rattle.machine.proofs.SayingLaws.{within, by-says, by-on, by-over}
+use Rattle.reading.specs.Saying.{over, on, says, Gives}
+use Rattle.reading.proofs.SayingLaws.{within, by-says, by-on, by-over}
 use Rattle.log_line.specs.declared.Act.{Act}
 use Rattle.log_line.specs.declared.Line.{Line}
 use Rattle.log_line.specs.declared.Line.the-variants.{Header, Machine, One, Loop, Done, Stop, Bad}
-use Rattle.log_judge.specs.declared.Reading.the-variants.{Item}
-use Rattle.log_spot.proofs.Standing.{Goes, act as acts-on, opens as opened-on, closes as closes-on, ends as ends-on}
-use Rattle.log_judge.proofs.PlaceLaws.{had-at, had-text, to-depth}
-use Rattle.log_judge.specs.Reading.{standing, readIn, readAt}
-use Rattle.log_judge.specs.Tree.{Tree, end, act, loop, acts, times, turns}
-use Rattle.log_judge.proofs.Derived.{Ending, closes, stops, Reads, an-act, a-loop, a-done, a-stop}
+use Rattle.log_rules.specs.declared.Reading.the-variants.{Item}
+use Rattle.log_fault.proofs.Standing.{Goes, act as acts-on, opens as opened-on, closes as closes-on, ends as ends-on}
+use Rattle.log_rules.proofs.PlaceLaws.{had-at, had-text, to-depth}
+use Rattle.log_rules.specs.Reading.{standing, readIn, readAt}
+use Rattle.log_rules.specs.Tree.{Tree, end, act, loop, acts, times, turns}
+use Rattle.log_rules.proofs.Derived.{Ending, closes, stops, Reads, an-act, a-loop, a-done, a-stop}
 use Rattle.log_cursor.specs.declared.Cursor.{Cursor}
 use Rattle.log_cursor.specs.Stepping.{go, beginning, loopsOpen, movedTo, entered, again, turned, followed, readStep, stepOf}
 

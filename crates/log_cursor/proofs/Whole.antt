@@ -3,10 +3,10 @@ use mathlib.Core.Path.{_≡_, refl}
 use mathlib.Core.List.{List}
 use mathlib.Core.Bool.{Bool, true, false}
 use Prim.Native.Nat.{ℕ}
-use Rattle.machine.specs.Saying.{Gives}
-use Rattle.log_judge.specs.Head.{machineOf, startOf}
-use Rattle.log_judge.specs.Tree.{acts}
-use Rattle.log_judge.specs.Whole.{treeOf, checkOf}
+use Rattle.reading.specs.Saying.{Gives}
+use Rattle.log_rules.specs.Head.{machineOf, startOf}
+use Rattle.log_rules.specs.Tree.{acts}
+use Rattle.log_rules.specs.Whole.{treeOf, checkOf}
 use Rattle.log_passing.proofs.Passing.{Clear, clear, Passing, passing}
 use Rattle.log_cursor.specs.Stepping.{beginning, stepOf}
 use Rattle.log_cursor.proofs.WalkLaws.{begin-ntsc, begin-pal}

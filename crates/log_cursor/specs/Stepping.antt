@@ -7,12 +7,12 @@ use Rattle.arith.specs.Pick.{pick}
 use Rattle.log_line.specs.declared.Act.{Act}
 use Rattle.log_line.specs.declared.Line.{Line}
 use Rattle.log_line.specs.declared.Line.the-variants.{Header, Machine, One, Loop, Done, Stop, Bad}
-use Rattle.log_judge.specs.declared.Reading.{Reading}
-use Rattle.log_judge.specs.declared.Reading.the-variants.{Item, Refused}
-use Rattle.log_judge.specs.Reading.{standing, readIn}
-use Rattle.machine.specs.Saying.{Said, over, on, says, refused, Turn}
+use Rattle.log_rules.specs.declared.Reading.{Reading}
+use Rattle.log_rules.specs.declared.Reading.the-variants.{Item, Refused}
+use Rattle.log_rules.specs.Reading.{standing, readIn}
+use Rattle.reading.specs.Saying.{Said, over, on, says, refused, Turn}
 use Rattle.log_cursor.specs.declared.Cursor.{Cursor}
-use Rattle.log_cursor.specs.declared.Found.{Found}
+use Rattle.log_cursor.specs.declared.Given.{Given}
 use Rattle.log_cursor.specs.declared.Stepped.{Stepped}
 
 abbrev pub Go : Type 0
@@ -22,28 +22,28 @@ abbrev pub go : Said Act → Cursor → Go
 go w c = record { said = w; state = c }
 
 -- the answer for what is said
-abbrev pub told : Said Act → Found
-told over = Found.End
-told on = Found.Moved
-told (says a) = Found.Act a
-told (refused k p) = Found.Refused k p
+abbrev pub told : Said Act → Given
+told over = Given.End
+told on = Given.Moved
+told (says a) = Given.Act a
+told (refused k p) = Given.Refused k p
 
 abbrev pub steppedOf : Go → Stepped
 steppedOf t = record { found = told (t .said); cursor = t .state }
 
 -- document 01's number and place of each answer: 0 is "done", and the place is "0 otherwise"
 
-abbrev pub foundNumber : Found → ℕ
-foundNumber (Found.Act a) = 0
-foundNumber Found.Moved = 0
-foundNumber Found.End = 0
-foundNumber (Found.Refused k p) = k
+abbrev pub foundNumber : Given → ℕ
+foundNumber (Given.Act a) = 0
+foundNumber Given.Moved = 0
+foundNumber Given.End = 0
+foundNumber (Given.Refused k p) = k
 
-abbrev pub foundPlace : Found → ℕ
-foundPlace (Found.Act a) = 0
-foundPlace Found.Moved = 0
-foundPlace Found.End = 0
-foundPlace (Found.Refused k p) = p
+abbrev pub foundPlace : Given → ℕ
+foundPlace (Given.Act a) = 0
+foundPlace Given.Moved = 0
+foundPlace Given.End = 0
+foundPlace (Given.Refused k p) = p
 
 -- at a log's beginning
 abbrev pub beginning : Cursor

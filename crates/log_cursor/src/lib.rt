@@ -2,9 +2,9 @@
 ghost use mathlib.Core.Path.{_≡_};
 ghost use Prim.Native.Nat.{_≤_, _<_};
 ghost use Rattle.log_cursor.specs.Stepping.{beginning, loopsOpen, movedTo, entered, again, turned, followed, refusedBy, stepOf, steppedOf, foundNumber, foundPlace};
-use log_judge::Reading;
 use log_line::Act;
 use log_line::Line;
+use log_rules::Reading;
 
 // The place of the next line, and the open loops: how many, where each body begins, and the turns that are left behind this one.
 pub struct Cursor {
@@ -15,7 +15,7 @@ pub struct Cursor {
 }
 
 // What a step finds: an act; nothing, the cursor has moved; the log's end; or a refusal's number and place.
-pub enum Found {
+pub enum Given {
     Act(Act),
     Moved,
     End,
@@ -24,31 +24,31 @@ pub enum Found {
 
 // What a step finds, and the next cursor. At the end and where refused it is the cursor as it was.
 pub struct Stepped {
-    pub found: Found,
+    pub found: Given,
     pub cursor: Cursor,
 }
 
 // The number of an answer: 0, or the refusal's.
-pub fn number(f: Found) -> u8
+pub fn number(f: Given) -> u8
     ensures { λ r. ⌜ r ≡ foundNumber f ⌝ }
 {
     match f {
-        Found::Act(_) => 0,
-        Found::Moved => 0,
-        Found::End => 0,
-        Found::Refused(k, _) => k,
+        Given::Act(_) => 0,
+        Given::Moved => 0,
+        Given::End => 0,
+        Given::Refused(k, _) => k,
     }
 }
 
 // The place of an answer: 0, or the refusal's.
-pub fn place(f: Found) -> usize
+pub fn place(f: Given) -> usize
     ensures { λ r. ⌜ r ≡ foundPlace f ⌝ }
 {
     match f {
-        Found::Act(_) => 0,
-        Found::Moved => 0,
-        Found::End => 0,
-        Found::Refused(_, p) => p,
+        Given::Act(_) => 0,
+        Given::Moved => 0,
+        Given::End => 0,
+        Given::Refused(_, p) => p,
     }
 }
 
@@ -125,12 +125,12 @@ fn turn(c: Cursor, d: usize, next: usize, n: u8) -> Stepped
 {
     if n == 0 {
         return Stepped {
-            found: Found::Moved,
+            found: Given::Moved,
             cursor: pass(c, d - 1, next),
         };
     }
     Stepped {
-        found: Found::Moved,
+        found: Given::Moved,
         cursor: repeat(c, d, n),
     }
 }
@@ -140,12 +140,12 @@ fn at_loop(c: Cursor, d: usize, next: usize, n: u8) -> Stepped
 {
     if d < 8 {
         return Stepped {
-            found: Found::Moved,
+            found: Given::Moved,
             cursor: enter(c, d, next, n),
         };
     }
     Stepped {
-        found: Found::Refused(7, c.at),
+        found: Given::Refused(7, c.at),
         cursor: c,
     }
 }
@@ -156,7 +156,7 @@ fn at_done(c: Cursor, d: usize, next: usize) -> Stepped
 {
     if d == 0 {
         return Stepped {
-            found: Found::Refused(8, c.at),
+            found: Given::Refused(8, c.at),
             cursor: c,
         };
     }
@@ -169,12 +169,12 @@ fn at_stop(c: Cursor, d: usize, next: usize, n: u32) -> Stepped
 {
     if d == 0 {
         return Stepped {
-            found: Found::End,
+            found: Given::End,
             cursor: c,
         };
     }
     Stepped {
-        found: Found::Refused(8, c.at),
+        found: Given::Refused(8, c.at),
         cursor: c,
     }
 }
@@ -186,22 +186,22 @@ fn follow(c: Cursor, d: usize, next: usize, l: Line) -> Stepped
 {
     match l {
         Line::Header => Stepped {
-            found: Found::Moved,
+            found: Given::Moved,
             cursor: pass(c, d, next),
         },
         Line::Machine => Stepped {
-            found: Found::Moved,
+            found: Given::Moved,
             cursor: pass(c, d, next),
         },
         Line::One(a) => Stepped {
-            found: Found::Act(a),
+            found: Given::Act(a),
             cursor: pass(c, d, next),
         },
         Line::Loop(n) => at_loop(c, d, next, n),
         Line::Done => at_done(c, d, next),
         Line::Stop(n) => at_stop(c, d, next, n),
         Line::Bad(k) => Stepped {
-            found: Found::Refused(k, c.at),
+            found: Given::Refused(k, c.at),
             cursor: c,
         },
     }
@@ -213,11 +213,11 @@ fn refusal(c: Cursor, r: Reading) -> Stepped
 {
     match r {
         Reading::Item(_, _) => Stepped {
-            found: Found::End,
+            found: Given::End,
             cursor: c,
         },
         Reading::Refused(k, p) => Stepped {
-            found: Found::Refused(k, p),
+            found: Given::Refused(k, p),
             cursor: c,
         },
     }

@@ -20,13 +20,13 @@ use Rattle.log_line.specs.declared.Line.the-variants.{One, Loop, Done, Stop}
 use Rattle.log_line.specs.Said.{lineOf}
 use Rattle.log_line.specs.Printed.{ended, lineText, Allowed, Printable, NoFeed, empty, byte}
 use Rattle.log_line.proofs.LineLaws.{printed-read, one-line}
-use Rattle.log_judge.specs.Tree.{Tree, end, act, loop, times, text, Within}
+use Rattle.log_rules.specs.Tree.{Tree, end, act, loop, times, text, Within}
 use Rattle.log_passing.proofs.ActLaws.{Every}
 use Rattle.log_passing.proofs.TextLaws.{loop-long}
-use Rattle.log_folding.specs.Ahead.{leading, inFront, sameLine, beginsWith, copies}
-use Rattle.log_folding.specs.Folding.{shorter, suits}
+use Rattle.log_fold_rules.specs.Ahead.{leading, inFront, sameLine, beginsWith, copies}
+use Rattle.log_fold_rules.specs.Folding.{shorter, suits}
 use Rattle.log_fold.specs.Moves.{copiesOf, suitsOf}
-use Rattle.log_folding.proofs.AheadLaws.{behind, ahead, begins-are, every-leading, within-rest}
+use Rattle.log_fold_rules.proofs.AheadLaws.{behind, ahead, begins-are, every-leading, within-rest}
 
 -- TWO LINES IN FRONT OF TEXTS
 

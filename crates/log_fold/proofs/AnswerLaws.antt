@@ -10,15 +10,15 @@ use lib.Seq.{take-at}
 use Rattle.arith.specs.Pick.{pick}
 use native.Mathlib.Omega.{arith}
 use Rattle.text_print.specs.Printed.{Put}
-use Rattle.log_judge.specs.declared.Checked.{Checked}
-use Rattle.log_judge.specs.Tree.{turns}
-use Rattle.log_judge.specs.Whole.{treeOf, checkOf}
+use Rattle.log_rules.specs.declared.Checked.{Checked}
+use Rattle.log_rules.specs.Tree.{turns}
+use Rattle.log_rules.specs.Whole.{treeOf, checkOf}
 use Rattle.log_passing.proofs.Passing.{clear, passes}
 use Rattle.log_fold.specs.declared.Folded.{Folded}
 use Rattle.log_fold.specs.Answer.{foldRefusal, foldDone, foldOf, writtenOver, foldLent}
-use Rattle.log_folding.specs.Promise.{Folds}
-use Rattle.log_folding.proofs.Passes.{folds}
-use Rattle.log_folding.specs.Folding.{foldedLog}
+use Rattle.log_fold_rules.specs.Promise.{Folds}
+use Rattle.log_fold_rules.proofs.Passes.{folds}
+use Rattle.log_fold_rules.specs.Folding.{foldedLog}
 use Rattle.log_fold.proofs.PassLaws.{over-is}
 
 module _ (log out : List ℕ) (k : Checked) (e : k ≡ checkOf log) where

@@ -9,12 +9,12 @@ use lib.ListN.{length}
 use lib.Dec.{leb, ltb, eqb}
 use Rattle.arith.specs.Pick.{pick, both}
 use Rattle.text.specs.Decimal.{decimalText}
-use Rattle.log_judge.specs.declared.Reading.{Reading}
-use Rattle.log_judge.specs.declared.Reading.the-variants.{Item, Refused}
+use Rattle.log_rules.specs.declared.Reading.{Reading}
+use Rattle.log_rules.specs.declared.Reading.the-variants.{Item, Refused}
 use Rattle.log_line.specs.declared.Line.{Line}
 use Rattle.log_line.specs.declared.Line.the-variants.{Header, Machine, One, Loop, Done, Stop, Bad}
-use Rattle.log_judge.specs.Reading.{readAt}
-use Rattle.log_judge.proofs.PlaceLaws.{had-at, next-le, next-pos}
+use Rattle.log_rules.specs.Reading.{readAt}
+use Rattle.log_rules.proofs.PlaceLaws.{had-at, next-le, next-pos}
 use Rattle.log_fold.specs.Moves.{plainMove, loopMove, actLine, actEndBy, actEnd, copiesAt, suitsOf, chosenIn, loopText, moveText}
 
 -- the tests of a loop

@@ -11,16 +11,16 @@ use Rattle.log_line.specs.Printed.{ended, lineText}
 use Rattle.text_print.specs.Printed.{placed, printed, Put}
 use Rattle.text_print.proofs.PieceLaws.{put-last, put-size}
 use Rattle.text_print.proofs.StoreLaws.{sets-append}
-use Rattle.log_judge.specs.Head.{headText, machineOf, startOf}
-use Rattle.log_judge.specs.Tree.{clocks, turns, text, logText}
-use Rattle.log_judge.specs.Whole.{treeOf, checkOf}
-use Rattle.log_judge.proofs.Derived.{Reads, stops}
+use Rattle.log_rules.specs.Head.{headText, machineOf, startOf}
+use Rattle.log_rules.specs.Tree.{clocks, turns, text, logText}
+use Rattle.log_rules.specs.Whole.{treeOf, checkOf}
+use Rattle.log_rules.proofs.Derived.{Reads, stops}
 use Rattle.log_passing.proofs.Passing.{clear, passing, stands}
 use Rattle.log_fold.specs.declared.Move.{Move}
 use Rattle.log_fold.specs.Answer.{writtenOver}
-use Rattle.log_folding.specs.Folding.{folded, foldedTree, foldedLog}
+use Rattle.log_fold_rules.specs.Folding.{folded, foldedTree, foldedLog}
 use Rattle.log_fold.specs.Moves.{moveOf, moveText}
-use Rattle.log_folding.proofs.Passes.{folds}
+use Rattle.log_fold_rules.proofs.Passes.{folds}
 use Rattle.log_fold.proofs.PlaceLaws.{reads-on}
 use Rattle.log_fold.proofs.StepLaws.{Left, lines, none, Moved, moved}
 

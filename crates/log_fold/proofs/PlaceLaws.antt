@@ -14,17 +14,17 @@ use Rattle.log_line.specs.declared.Act.{Act}
 use Rattle.log_line.specs.declared.Line.{Line}
 use Rattle.log_line.specs.declared.Line.the-variants.{One, Loop, Done, Stop}
 use Rattle.log_line.specs.Printed.{lineText, Printable}
-use Rattle.log_judge.specs.declared.Reading.the-variants.{Item}
-use Rattle.log_judge.specs.Reading.{readAt}
-use Rattle.log_judge.specs.Tree.{Tree, end, act, loop, text, Within}
-use Rattle.log_judge.proofs.PlaceLaws.{had-at, had-text, next-pos, next-le, bytes-long}
-use Rattle.log_judge.proofs.Derived.{Ending, closes, stops, Reads, an-act, a-loop, a-done, a-stop}
+use Rattle.log_rules.specs.declared.Reading.the-variants.{Item}
+use Rattle.log_rules.specs.Reading.{readAt}
+use Rattle.log_rules.specs.Tree.{Tree, end, act, loop, text, Within}
+use Rattle.log_rules.proofs.PlaceLaws.{had-at, had-text, next-pos, next-le, bytes-long}
+use Rattle.log_rules.proofs.Derived.{Ending, closes, stops, Reads, an-act, a-loop, a-done, a-stop}
 use Rattle.log_passing.proofs.Passing.{tailOf, text-of, within-of}
 use Rattle.log_fold.specs.declared.Move.{Move}
-use Rattle.log_folding.specs.Ahead.{leading, inFront, copiesThere}
-use Rattle.log_folding.specs.Folding.{suits, Choice, plain, fold, choiceIn, choice}
+use Rattle.log_fold_rules.specs.Ahead.{leading, inFront, copiesThere}
+use Rattle.log_fold_rules.specs.Folding.{suits, Choice, plain, fold, choiceIn, choice}
 use Rattle.log_fold.specs.Moves.{plainMove, loopMove, actEnd, copiesAt, suitsOf, chosenIn}
-use Rattle.log_folding.proofs.AheadLaws.{behind, ahead, every-leading, every-take}
+use Rattle.log_fold_rules.proofs.AheadLaws.{behind, ahead, every-leading, every-take}
 use Rattle.log_fold.proofs.AlikeLaws.{text-run, copies-alike, suits-alike}
 
 -- PLACES

@@ -7,21 +7,21 @@ use lib.ListN.{length, take, drop, length-append}
 use Rattle.log_line.specs.declared.Act.{Act}
 use Rattle.log_line.specs.declared.Line.the-variants.{One, Loop, Done, Stop}
 use Rattle.log_line.specs.Printed.{lineText, Printable}
-use Rattle.log_judge.specs.declared.Reading.the-variants.{Item}
-use Rattle.log_judge.specs.Reading.{readAt}
-use Rattle.log_judge.specs.Tree.{Tree, end, act, loop, times, text, Within}
-use Rattle.log_judge.specs.Block.{closed, readBlock, blockAnswer}
-use Rattle.log_judge.proofs.PlaceLaws.{had-at}
-use Rattle.log_judge.proofs.Derived.{closes, stops, Reads, an-act, a-loop, a-stop, block-of}
+use Rattle.log_rules.specs.declared.Reading.the-variants.{Item}
+use Rattle.log_rules.specs.Reading.{readAt}
+use Rattle.log_rules.specs.Tree.{Tree, end, act, loop, times, text, Within}
+use Rattle.log_rules.specs.Block.{closed, readBlock, blockAnswer}
+use Rattle.log_rules.proofs.PlaceLaws.{had-at}
+use Rattle.log_rules.proofs.Derived.{closes, stops, Reads, an-act, a-loop, a-stop, block-of}
 use Rattle.log_passing.proofs.TextLaws.{act-text, loop-text}
 use Rattle.log_passing.proofs.Passing.{had-split, text-of, within-of}
 use Rattle.log_fold.specs.declared.Move.{Move}
-use Rattle.log_folding.specs.Ahead.{leading, inFront, copiesThere}
-use Rattle.log_folding.specs.Folding.{Choice, plain, fold, choice, made, folded}
+use Rattle.log_fold_rules.specs.Ahead.{leading, inFront, copiesThere}
+use Rattle.log_fold_rules.specs.Folding.{Choice, plain, fold, choice, made, folded}
 use Rattle.log_fold.specs.Moves.{plainMove, loopMove, chosenIn, moveOf, loopText, moveText}
-use Rattle.log_folding.proofs.AheadLaws.{behind}
-use Rattle.log_folding.proofs.KeptLaws.{Suits, choice-is, whole, times-are, enough, product}
-use Rattle.log_folding.proofs.LeastLaws.{goes-on}
+use Rattle.log_fold_rules.proofs.AheadLaws.{behind}
+use Rattle.log_fold_rules.proofs.KeptLaws.{Suits, choice-is, whole, times-are, enough, product}
+use Rattle.log_fold_rules.proofs.LeastLaws.{goes-on}
 use Rattle.log_fold.proofs.MoveLaws.{move-plain, move-looped}
 use Rattle.log_fold.proofs.AlikeLaws.{times-text}
 use Rattle.log_fold.proofs.PlaceLaws.{line-on, reads-on, size, size-none, span, reads-behind, toMove, part-of, chosen-alike}

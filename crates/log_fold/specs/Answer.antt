@@ -4,9 +4,9 @@ use mathlib.Core.List.{List, _++_}
 use lib.ListN.{length, drop}
 use lib.Dec.{eqb, ltb}
 use Rattle.arith.specs.Pick.{pick}
-use Rattle.log_judge.specs.Whole.{checkOf}
+use Rattle.log_rules.specs.Whole.{checkOf}
 use Rattle.log_fold.specs.declared.Folded.{Folded}
-use Rattle.log_folding.specs.Folding.{foldedLog}
+use Rattle.log_fold_rules.specs.Folding.{foldedLog}
 
 abbrev pub foldRefusal : ℕ → ℕ → Folded
 foldRefusal k p = record { number = k; place = p; length = 0 }

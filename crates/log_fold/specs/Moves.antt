@@ -11,12 +11,12 @@ use Rattle.text.specs.Decimal.{decimalText}
 use Rattle.log_line.specs.declared.Line.{Line}
 use Rattle.log_line.specs.declared.Line.the-variants.{Header, Machine, One, Loop, Done, Stop, Bad}
 use Rattle.log_line.specs.Printed.{lineText}
-use Rattle.log_judge.specs.declared.Reading.{Reading}
-use Rattle.log_judge.specs.declared.Reading.the-variants.{Item, Refused}
-use Rattle.log_judge.specs.declared.Block.{Block}
-use Rattle.log_judge.specs.declared.Block.the-variants.{Closed, Stopped}
-use Rattle.log_judge.specs.Reading.{readAt}
-use Rattle.log_judge.specs.Block.{readBlock, blockAnswer}
+use Rattle.log_rules.specs.declared.Reading.{Reading}
+use Rattle.log_rules.specs.declared.Reading.the-variants.{Item, Refused}
+use Rattle.log_rules.specs.declared.Block.{Block}
+use Rattle.log_rules.specs.declared.Block.the-variants.{Closed, Stopped}
+use Rattle.log_rules.specs.Reading.{readAt}
+use Rattle.log_rules.specs.Block.{readBlock, blockAnswer}
 use Rattle.log_fold.specs.declared.Move.{Move}
 
 abbrev pub plainMove : ℕ → Move

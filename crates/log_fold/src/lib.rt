@@ -1,11 +1,11 @@
 // A log with copies of lines folded into loops.
 use log_block::read_block;
 use log_check::check;
-use log_judge::Block;
-use log_judge::Reading;
 use log_line::Line;
 use log_read::read;
 use log_read::start;
+use log_rules::Block;
+use log_rules::Reading;
 use log_writer::put_line;
 use text_print::fixed;
 use text_print::width;
@@ -13,11 +13,11 @@ ghost use mathlib.Core.Path.{_≡_};
 ghost use Prim.Native.Nat.{_+_, _*_, _-_, _≤_, _<_};
 ghost use lib.ListN.{length, take};
 ghost use Rattle.text_print.specs.Printed.{Put};
-ghost use Rattle.log_judge.specs.Head.{startOf};
-ghost use Rattle.log_judge.specs.Tree.{turns};
-ghost use Rattle.log_judge.specs.Whole.{treeOf, checkOf};
-ghost use Rattle.log_folding.specs.Folding.{foldedLog};
-ghost use Rattle.log_folding.specs.Promise.{Folds};
+ghost use Rattle.log_rules.specs.Head.{startOf};
+ghost use Rattle.log_rules.specs.Tree.{turns};
+ghost use Rattle.log_rules.specs.Whole.{treeOf, checkOf};
+ghost use Rattle.log_fold_rules.specs.Folding.{foldedLog};
+ghost use Rattle.log_fold_rules.specs.Promise.{Folds};
 ghost use Rattle.log_fold.specs.Answer.{foldRefusal, foldOf, foldLent};
 ghost use Rattle.log_fold.specs.Moves.{plainMove, loopMove, actLine, actEnd, runEnd, Mark, Marked, copiesIn, copiesAt, suitsOf, chosenIn, blockEnd, lineMove, moveOf, loopText, moveText};
 

@@ -12,8 +12,8 @@ use lib.Seq.{getD-append-add}
 use lib.Dec.{leb, ltb}
 use Rattle.log_line.specs.declared.Act.{Act}
 use Rattle.log_line.specs.declared.Act.the-variants.{Wait}
-use Rattle.log_judge.specs.Tree.{Tree, loop, acts, times}
-use Rattle.log_judge.proofs.TotalLaws.{length-times}
+use Rattle.log_rules.specs.Tree.{Tree, loop, acts, times}
+use Rattle.log_rules.proofs.TotalLaws.{length-times}
 
 -- past the first list
 getD-past : (xs ys : List Act) (k : ℕ) → length xs ≤ k → getD (xs ++ ys) k (Wait 0) ≡ getD ys (k - length xs) (Wait 0)

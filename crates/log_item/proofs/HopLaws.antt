@@ -15,17 +15,17 @@ use Rattle.log_line.specs.declared.Act.{Act}
 use Rattle.log_line.specs.declared.Act.the-variants.{Wait}
 use Rattle.log_line.specs.declared.Line.{Line}
 use Rattle.log_line.specs.declared.Line.the-variants.{Header, Machine, One, Loop, Done, Stop, Bad}
-use Rattle.log_judge.specs.declared.Reading.{Reading}
-use Rattle.log_judge.specs.declared.Reading.the-variants.{Item}
-use Rattle.log_judge.specs.declared.Block.{Block}
-use Rattle.log_judge.specs.declared.Block.the-variants.{Closed, Stopped}
-use Rattle.log_judge.specs.Reading.{readAt}
-use Rattle.log_judge.specs.Tree.{Tree, loop, acts, times}
-use Rattle.log_judge.specs.Block.{Got, closed, stopped, refused, readBlock, gotTree, totals, blockAnswer}
-use Rattle.log_judge.proofs.PlaceLaws.{had-at, next-pos, next-le}
-use Rattle.log_judge.proofs.TotalLaws.{length-times}
-use Rattle.log_judge.proofs.Descent.{got-behind}
-use Rattle.log_judge.proofs.Derived.{Ending, closes, stops, Reads, an-act, a-loop, a-done, a-stop, Derived, derived, got, block-of}
+use Rattle.log_rules.specs.declared.Reading.{Reading}
+use Rattle.log_rules.specs.declared.Reading.the-variants.{Item}
+use Rattle.log_rules.specs.declared.Block.{Block}
+use Rattle.log_rules.specs.declared.Block.the-variants.{Closed, Stopped}
+use Rattle.log_rules.specs.Reading.{readAt}
+use Rattle.log_rules.specs.Tree.{Tree, loop, acts, times}
+use Rattle.log_rules.specs.Block.{Got, closed, stopped, refused, readBlock, gotTree, totals, blockAnswer}
+use Rattle.log_rules.proofs.PlaceLaws.{had-at, next-pos, next-le}
+use Rattle.log_rules.proofs.TotalLaws.{length-times}
+use Rattle.log_rules.proofs.Descent.{got-behind}
+use Rattle.log_rules.proofs.Derived.{Ending, closes, stops, Reads, an-act, a-loop, a-done, a-stop, Derived, derived, got, block-of}
 use Rattle.log_item.specs.declared.Hop.{Hop}
 use Rattle.log_item.specs.declared.Hop.the-variants.{Here, On, Lost}
 use Rattle.log_item.specs.Walk.{actsAt, stayOf, insideOf, hereOf, Hops}
@@ -126,7 +126,7 @@ here-is log i d r (Here a) t h = h
 here-is log i d r (On i′ d′ r′) t h = absurd (miss (0 ∷ 2 ∷ []) 1 tt t)
 here-is log i d r Lost t h = absurd h
 
-pub inside-lost : (b : Block) (n from d r : ℕ) → OneOf (1 ∷ 2 ∷ []) (tagOf Rattle.log_judge.proofs.Block.the-type b) → Lost ≡ insideOf b n from d r
+pub inside-lost : (b : Block) (n from d r : ℕ) → OneOf (1 ∷ 2 ∷ []) (tagOf Rattle.log_rules.proofs.Block.the-type b) → Lost ≡ insideOf b n from d r
 inside-lost (Closed p q t) n from d r o = absurd (miss (1 ∷ 2 ∷ []) 0 tt o)
 inside-lost (Stopped p q m t) n from d r o = refl
 inside-lost (Block.Refused k p) n from d r o = refl

@@ -10,11 +10,11 @@ use Rattle.arith.proofs.PickLaws.{pick-each}
 use Rattle.log_line.specs.declared.Act.{Act}
 use Rattle.log_line.specs.declared.Act.the-variants.{Wait}
 use Rattle.log_line.specs.Printed.{Allowed}
-use Rattle.log_judge.specs.Tree.{acts, actClocks}
-use Rattle.log_judge.specs.Whole.{treeOf, checkOf}
-use Rattle.log_judge.proofs.Limits.{check-limits}
-use Rattle.log_item.specs.declared.Found.{Found}
-use Rattle.log_item.specs.declared.Found.the-variants.{Is, Refused}
+use Rattle.log_rules.specs.Tree.{acts, actClocks}
+use Rattle.log_rules.specs.Whole.{treeOf, checkOf}
+use Rattle.log_rules.proofs.Limits.{check-limits}
+use Rattle.log_item.specs.declared.Picked.{Picked}
+use Rattle.log_item.specs.declared.Picked.the-variants.{Is, Refused}
 use Rattle.log_item.specs.Items.{nth, itemOf}
 use Rattle.log_passing.proofs.ActLaws.{Every, every-acts}
 use Rattle.log_passing.proofs.Passing.{stands}
@@ -25,7 +25,7 @@ every-at (a ∷ l) zero h g = g .0
 every-at (a ∷ l) (suc k) h g = every-at l k (omega arith) (g .1)
 
 -- an item is within the limits; a refusal's number is in the table, and its place in the log
-abbrev pub FoundIn : Found → Type 0
+abbrev pub FoundIn : Picked → Type 0
 FoundIn (Is a) = Allowed a
 FoundIn (Refused k p) = (k ≤ 19) × (p ≤ 60000)
 

@@ -7,12 +7,12 @@ use native.Mathlib.Omega.{arith}
 use borrow.Author.Tests.{eq-eqb, ne-eqb, lt-ltb, le-ltb}
 use lib.ListN.{length, getD}
 use Rattle.log_line.specs.declared.Act.the-variants.{Wait}
-use Rattle.log_judge.specs.declared.Checked.{Checked}
-use Rattle.log_judge.specs.Head.{startOf}
-use Rattle.log_judge.specs.Tree.{Tree, acts, clocks, turns, logText, Within}
-use Rattle.log_judge.specs.Whole.{treeOf, checkOf}
-use Rattle.log_judge.proofs.CheckLaws.{acts-le}
-use Rattle.log_item.specs.declared.Found.the-variants.{Is, Refused}
+use Rattle.log_rules.specs.declared.Checked.{Checked}
+use Rattle.log_rules.specs.Head.{startOf}
+use Rattle.log_rules.specs.Tree.{Tree, acts, clocks, turns, logText, Within}
+use Rattle.log_rules.specs.Whole.{treeOf, checkOf}
+use Rattle.log_rules.proofs.CheckLaws.{acts-le}
+use Rattle.log_item.specs.declared.Picked.the-variants.{Is, Refused}
 use Rattle.log_item.specs.Items.{nth, itemOf}
 use Rattle.log_item.specs.Walk.{actsAt}
 use Rattle.log_passing.proofs.Passing.{clear, passes, passing, printed}

@@ -8,10 +8,10 @@ use lib.Dec.{eqb, ltb}
 use Rattle.arith.specs.Pick.{pick}
 use Rattle.log_line.specs.declared.Act.{Act}
 use Rattle.log_line.specs.declared.Act.the-variants.{Wait}
-use Rattle.log_judge.specs.declared.Block.{Block}
-use Rattle.log_judge.specs.declared.Block.the-variants.{Closed, Stopped, Refused}
-use Rattle.log_judge.specs.Tree.{acts}
-use Rattle.log_judge.specs.Block.{readBlock, gotTree}
+use Rattle.log_rules.specs.declared.Block.{Block}
+use Rattle.log_rules.specs.declared.Block.the-variants.{Closed, Stopped, Refused}
+use Rattle.log_rules.specs.Tree.{acts}
+use Rattle.log_rules.specs.Block.{readBlock, gotTree}
 use Rattle.log_item.specs.declared.Hop.{Hop}
 use Rattle.log_item.specs.declared.Hop.the-variants.{Here, On, Lost}
 

@@ -1,18 +1,18 @@
 // Item k of a log, found with no loop unrolled.
-use log_judge::Block;
-use log_judge::Reading;
 use log_line::Act;
 use log_line::Line;
+use log_rules::Block;
+use log_rules::Reading;
 ghost use mathlib.Core.Path.{_≡_};
 ghost use Prim.Native.Nat.{_≤_, _<_};
 ghost use lib.ListN.{length, getD};
 ghost use Rattle.log_line.specs.declared.Act.the-variants.{Wait};
-ghost use Rattle.log_judge.specs.Block.{SmallBlock};
+ghost use Rattle.log_rules.specs.Block.{SmallBlock};
 ghost use Rattle.log_item.specs.Items.{itemNumber, itemPlace, itemOf};
 ghost use Rattle.log_item.specs.Walk.{actsAt, stayOf, insideOf, hereOf, Hops};
 
 // Item k: an act, or a refusal's number and place.
-pub enum Found {
+pub enum Picked {
     Is(Act),
     Refused(u8, usize),
 }
@@ -25,22 +25,22 @@ pub enum Hop {
 }
 
 // The number of an answer: 0, or the refusal's.
-pub fn number(f: Found) -> u8
+pub fn number(f: Picked) -> u8
     ensures { λ n. ⌜ n ≡ itemNumber f ⌝ }
 {
     match f {
-        Found::Is(_) => 0,
-        Found::Refused(k, _) => k,
+        Picked::Is(_) => 0,
+        Picked::Refused(k, _) => k,
     }
 }
 
 // The place of an answer: 0, or the refusal's.
-pub fn place(f: Found) -> usize
+pub fn place(f: Picked) -> usize
     ensures { λ p. ⌜ p ≡ itemPlace f ⌝ }
 {
     match f {
-        Found::Is(_) => 0,
-        Found::Refused(_, p) => p,
+        Picked::Is(_) => 0,
+        Picked::Refused(_, p) => p,
     }
 }
 
@@ -120,15 +120,15 @@ fn find(log: &[u8], at: usize, k: u64) -> Act
 }
 
 // Item k, counted from 0.
-pub fn item(log: &[u8], k: u64) -> Found
+pub fn item(log: &[u8], k: u64) -> Picked
     ensures { λ r. ⌜ r ≡ itemOf (now (log .entry)) k ⌝ }
 {
     let c = log_check::check(log);
     if c.number != 0 {
-        return Found::Refused(c.number, c.place);
+        return Picked::Refused(c.number, c.place);
     }
     if c.items <= k {
-        return Found::Refused(11, 0);
+        return Picked::Refused(11, 0);
     }
-    Found::Is(find(log, log_read::start(log), k))
+    Picked::Is(find(log, log_read::start(log), k))
 }

@@ -6,7 +6,7 @@ use native.Mathlib.Omega.{arith}
 use native.Mathlib.Nat.{zero-mul, suc-mul, add-comm}
 use Rattle.log_line.specs.declared.Act.{Act}
 use Rattle.log_line.specs.Printed.{Allowed}
-use Rattle.log_judge.specs.Tree.{Tree, end, act, loop, acts, times, actClocks, clocks, Within}
+use Rattle.log_rules.specs.Tree.{Tree, end, act, loop, acts, times, actClocks, clocks, Within}
 
 -- every act of a list is within the limits
 abbrev pub Every : List Act → Type 0

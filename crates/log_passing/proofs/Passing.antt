@@ -14,25 +14,25 @@ use Rattle.log_line.specs.declared.Line.{Line}
 use Rattle.log_line.specs.declared.Line.the-variants.{Header, Machine, One, Loop, Done, Stop, Bad}
 use Rattle.log_line.specs.Said.{lineOf}
 use Rattle.log_line.specs.Printed.{lineText, Printable}
-use Rattle.log_spot.specs.declared.Stand.the-variants.{First, Among}
-use Rattle.log_spot.specs.declared.Found.{Found}
-use Rattle.log_spot.specs.declared.Found.the-variants.{Right, Wrong}
-use Rattle.log_spot.specs.Fault.{spotOf}
-use Rattle.log_spot.specs.declared.Stand.{Stand as Standing}
-use Rattle.log_spot.proofs.Standing.{bounded, first-header}
-use Rattle.log_judge.specs.declared.Reading.the-variants.{Item}
-use Rattle.log_judge.specs.Lines.{linesOf, bytesAt, nextLine}
-use Rattle.log_judge.specs.Head.{headText, machineOf, startOf}
-use Rattle.log_judge.specs.Reading.{standing, readIn, readAt}
-use Rattle.log_judge.specs.Judge.{Verdict, right, wrong, Stand, first, second, among, over, foundAt, verdict, behind, ending, unless, judge, judged}
-use Rattle.log_judge.specs.Tree.{Tree, clocks, turns, text, logText, Within}
-use Rattle.log_judge.specs.Whole.{innermost, treeOf, Stopping, stoppingOf, checkRefusal, passedCheck, heavy, weighed, unlessWrong, checkOf}
-use Rattle.log_judge.specs.Block.{Got, closed, stopped, refused, readBlock}
-use Rattle.log_judge.proofs.PlaceLaws.{Had, had-at, had-text, line-split, read-some}
-use Rattle.log_judge.proofs.Derived.{Ending, closes, stops, Reads, an-act, a-loop, a-done, a-stop, Derived, derived, inside-loop}
-use Rattle.log_judge.proofs.JudgeLaws.{judgeAt, after}
-use Rattle.log_judge.proofs.HeadLaws.{first-next, ntsc-start, pal-start, head-split, read-second}
-use Rattle.log_judge.proofs.CheckLaws.{blocks-of, stop-of, over-at, judged-first, behind-head}
+use Rattle.log_fault.specs.declared.Stand.the-variants.{First, Among}
+use Rattle.log_fault.specs.declared.Spotted.{Spotted}
+use Rattle.log_fault.specs.declared.Spotted.the-variants.{Right, Wrong}
+use Rattle.log_fault.specs.Fault.{spotOf}
+use Rattle.log_fault.specs.declared.Stand.{Stand as Standing}
+use Rattle.log_fault.proofs.Standing.{bounded, first-header}
+use Rattle.log_rules.specs.declared.Reading.the-variants.{Item}
+use Rattle.log_rules.specs.Lines.{linesOf, bytesAt, nextLine}
+use Rattle.log_rules.specs.Head.{headText, machineOf, startOf}
+use Rattle.log_rules.specs.Reading.{standing, readIn, readAt}
+use Rattle.log_rules.specs.Judge.{Verdict, right, wrong, Stand, first, second, among, over, foundAt, verdict, behind, ending, unless, judge, judged}
+use Rattle.log_rules.specs.Tree.{Tree, clocks, turns, text, logText, Within}
+use Rattle.log_rules.specs.Whole.{innermost, treeOf, Stopping, stoppingOf, checkRefusal, passedCheck, heavy, weighed, unlessWrong, checkOf}
+use Rattle.log_rules.specs.Block.{Got, closed, stopped, refused, readBlock}
+use Rattle.log_rules.proofs.PlaceLaws.{Had, had-at, had-text, line-split, read-some}
+use Rattle.log_rules.proofs.Derived.{Ending, closes, stops, Reads, an-act, a-loop, a-done, a-stop, Derived, derived, inside-loop}
+use Rattle.log_rules.proofs.JudgeLaws.{judgeAt, after}
+use Rattle.log_rules.proofs.HeadLaws.{first-next, ntsc-start, pal-start, head-split, read-second}
+use Rattle.log_rules.proofs.CheckLaws.{blocks-of, stop-of, over-at, judged-first, behind-head}
 use Rattle.log_passing.proofs.TextLaws.{judged-text, machine-text, tree-text, stop-is}
 
 -- A REFUSAL HAS A NUMBER
@@ -41,7 +41,7 @@ abbrev Numbered : Verdict → Type 0
 Numbered right = Unit {0}
 Numbered (wrong k p) = 0 < k
 
-placed-numbered : (st : Standing) (at : ℕ) (l : List ℕ) (f : Found) → spotOf st l ≡ f → Numbered (foundAt at f)
+placed-numbered : (st : Standing) (at : ℕ) (l : List ℕ) (f : Spotted) → spotOf st l ≡ f → Numbered (foundAt at f)
 unfolding foundAt
 placed-numbered st at l (Right m) e = tt
 placed-numbered st at l (Wrong k i) e = let h = bounded st l k i e .low in omega arith
@@ -148,7 +148,7 @@ module _ (log : List ℕ) (c : Clear log) where
       go [] h = absurd (not-right h)
       go (b ∷ s) h = omega arith
 
-  first-line : (f : Found) → spotOf First (bytesAt log 0) ≡ f → unless (foundAt 0 f) (judgeAt log second (nextLine log 0)) ≡ right
+  first-line : (f : Spotted) → spotOf First (bytesAt log 0) ≡ f → unless (foundAt 0 f) (judgeAt log second (nextLine log 0)) ≡ right
       → spotOf First (bytesAt log 0) ≡ Right Header
   unfolding foundAt unless
   first-line (Right l) e h = e ∙ ap Right (first-header (bytesAt log 0) l e)

@@ -15,19 +15,19 @@ use Rattle.log_line.specs.declared.Line.{Line}
 use Rattle.log_line.specs.declared.Line.the-variants.{Header, Machine, One, Loop, Done, Stop}
 use Rattle.log_line.specs.Printed.{actText, ended, lineText, Printable, NoFeed, empty, byte}
 use Rattle.log_line.proofs.LineLaws.{printed-read, one-line}
-use Rattle.log_spot.specs.declared.Stand.the-variants.{First, Among}
-use Rattle.log_spot.specs.declared.Found.{Found}
-use Rattle.log_spot.specs.declared.Found.the-variants.{Right, Wrong}
-use Rattle.log_spot.specs.Fault.{spotOf}
-use Rattle.log_front.specs.Fronts.{allowed}
-use Rattle.log_spot.specs.Allowed.{keysOf}
-use Rattle.log_spot.proofs.FaultLaws.{line-right}
-use Rattle.log_spot.proofs.Standing.{Goes, act as acts-on, opens as opened-on, closes as closes-on, ends as ends-on, goes-may}
-use Rattle.log_judge.specs.Lines.{onto, linesOf}
-use Rattle.log_judge.specs.Judge.{right, first, second, among, foundAt, verdict, leaves, behind, ending, unless, judge, judged}
-use Rattle.log_judge.specs.Head.{headText, machineOf}
-use Rattle.log_judge.specs.Tree.{Tree, end, act, loop, text, logText, Within}
-use Rattle.log_judge.specs.Whole.{grow, blocks, innermost, treeOf, stopHere, stopFrom, stoppingOf}
+use Rattle.log_fault.specs.declared.Stand.the-variants.{First, Among}
+use Rattle.log_fault.specs.declared.Spotted.{Spotted}
+use Rattle.log_fault.specs.declared.Spotted.the-variants.{Right, Wrong}
+use Rattle.log_fault.specs.Fault.{spotOf}
+use Rattle.log_begins.specs.Fronts.{allowed}
+use Rattle.log_fault.specs.Allowed.{keysOf}
+use Rattle.log_fault.proofs.FaultLaws.{line-right}
+use Rattle.log_fault.proofs.Standing.{Goes, act as acts-on, opens as opened-on, closes as closes-on, ends as ends-on, goes-may}
+use Rattle.log_rules.specs.Lines.{onto, linesOf}
+use Rattle.log_rules.specs.Judge.{right, first, second, among, foundAt, verdict, leaves, behind, ending, unless, judge, judged}
+use Rattle.log_rules.specs.Head.{headText, machineOf}
+use Rattle.log_rules.specs.Tree.{Tree, end, act, loop, text, logText, Within}
+use Rattle.log_rules.specs.Whole.{grow, blocks, innermost, treeOf, stopHere, stopFrom, stoppingOf}
 
 -- ONE LINE
 

@@ -1,2 +1,2 @@
 // A log that passes: it is the text of exactly one machine and tree with its `stop`, and every such text passes. Laws about the definitions of
-// `log_judge`, no code.
+// `log_rules`, no code.

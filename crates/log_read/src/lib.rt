@@ -1,11 +1,11 @@
 // One line of a log, read at any place.
-use log_judge::Reading;
-use log_spot::Found;
-use log_spot::Stand;
+use log_fault::Spotted;
+use log_fault::Stand;
+use log_rules::Reading;
 ghost use mathlib.Core.Path.{_≡_};
-ghost use Rattle.log_judge.specs.Lines.{nextLine};
-ghost use Rattle.log_judge.specs.Head.{machineOf, startOf};
-ghost use Rattle.log_judge.specs.Reading.{readingNumber, readingPlace, taken, Reaches, standing, readIn, readAt};
+ghost use Rattle.log_rules.specs.Lines.{nextLine};
+ghost use Rattle.log_rules.specs.Head.{machineOf, startOf};
+ghost use Rattle.log_rules.specs.Reading.{readingNumber, readingPlace, taken, Reaches, standing, readIn, readAt};
 
 // The number of a reading: 0, or the refusal's.
 pub fn number(r: Reading) -> u8
@@ -60,13 +60,13 @@ pub fn start(log: &[u8]) -> usize
 }
 
 // A line that is right is an item; the place of a fault is behind the line's own.
-fn item_of(at: usize, next: usize, f: Found) -> Reading
+fn item_of(at: usize, next: usize, f: Spotted) -> Reading
     requires { ⌜ Reaches at 60000 f ⌝ }
     ensures { λ r. ⌜ r ≡ taken at next f ⌝ }
 {
     match f {
-        Found::Right(l) => Reading::Item(l, next),
-        Found::Wrong(k, i) => Reading::Refused(k, at + i),
+        Spotted::Right(l) => Reading::Item(l, next),
+        Spotted::Wrong(k, i) => Reading::Refused(k, at + i),
     }
 }
 
@@ -81,7 +81,7 @@ pub fn read_in(log: &[u8], at: usize, stand: Stand) -> Reading
         return Reading::Refused(18, log.len());
     }
     let e = line_end(log, at);
-    item_of(at, e, log_spot::spot(&log[at..e], stand))
+    item_of(at, e, log_fault::spot(&log[at..e], stand))
 }
 
 // The line that begins at a place, where no depth is known.

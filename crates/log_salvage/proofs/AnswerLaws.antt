@@ -9,11 +9,11 @@ use lib.Dec.{eqb, ltb}
 use lib.ListN.{length, take, drop}
 use lib.Seq.{take-at}
 use Rattle.arith.specs.Pick.{pick, either}
-use Rattle.log_judge.specs.Whole.{heavy, checkOf}
-use Rattle.log_mending.specs.Mending.{mended, mendedTree}
-use Rattle.log_mending.specs.Promise.{Mends}
-use Rattle.log_mending.proofs.Promised.{promised}
-use Rattle.log_mending.proofs.Unchanged.{unchanged}
+use Rattle.log_rules.specs.Whole.{heavy, checkOf}
+use Rattle.log_salvage_rules.specs.Mending.{mended, mendedTree}
+use Rattle.log_salvage_rules.specs.Promise.{Mends}
+use Rattle.log_salvage_rules.proofs.Promised.{promised}
+use Rattle.log_salvage_rules.proofs.Unchanged.{unchanged}
 use Rattle.log_passing.proofs.Passing.{clear}
 use Rattle.log_salvage.specs.declared.Passed.{Passed}
 use Rattle.log_salvage.specs.declared.Salvaged.{Salvaged}

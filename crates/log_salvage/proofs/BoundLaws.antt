@@ -6,9 +6,9 @@ use native.Mathlib.Omega.{arith}
 use lib.ListN.{length, getD}
 use Rattle.log_line.specs.declared.Line.{Line}
 use Rattle.log_line.specs.declared.Line.the-variants.{Header, Machine, One, Loop, Done, Stop, Bad}
-use Rattle.log_mending.specs.declared.Fate.{Fate}
-use Rattle.log_mending.specs.declared.Fate.the-variants.{Keep, Drop, Ninth, NinthDone}
-use Rattle.log_mending.specs.Mending.{deeper}
+use Rattle.log_salvage_rules.specs.declared.Fate.{Fate}
+use Rattle.log_salvage_rules.specs.declared.Fate.the-variants.{Keep, Drop, Ninth, NinthDone}
+use Rattle.log_salvage_rules.specs.Mending.{deeper}
 use Rattle.log_salvage.specs.declared.Place.{Place}
 use Rattle.log_salvage.specs.declared.Tally.{Tally}
 use Rattle.log_salvage.specs.declared.Sifted.{Sifted}

@@ -12,7 +12,7 @@ use lib.Seq.{getD-set-same, getD-set-other, set-out}
 use Rattle.log_line.specs.declared.Act.{Act}
 use Rattle.log_line.specs.declared.Line.{Line}
 use Rattle.log_line.specs.declared.Line.the-variants.{Header, Machine, One, Loop, Done, Stop, Bad}
-use Rattle.log_judge.specs.Tree.{actClocks}
+use Rattle.log_rules.specs.Tree.{actClocks}
 use Rattle.log_salvage.specs.declared.Tally.{Tally}
 use Rattle.log_salvage.specs.Steps.{moreBy, openedBy, tallyLine, noTally, Small, Opens}
 use Rattle.log_salvage.specs.Writing.{Often, Cut}

@@ -13,14 +13,14 @@ use Rattle.text.proofs.KeyLaws.{starts-length}
 use Rattle.text_print.specs.Printed.{printed}
 use Rattle.log_line.specs.declared.Line.the-variants.{Header, Done, Stop}
 use Rattle.log_line.specs.Printed.{lineText, ended as fed}
-use Rattle.log_judge.specs.Lines.{linesOf}
-use Rattle.log_judge.specs.Tree.{Tree, clocks, turns}
-use Rattle.log_judge.specs.Whole.{treeOf, heavy}
+use Rattle.log_rules.specs.Lines.{linesOf}
+use Rattle.log_rules.specs.Tree.{Tree, clocks, turns}
+use Rattle.log_rules.specs.Whole.{treeOf, heavy}
 use Rattle.log_passing.proofs.Passing.{heavy-not}
-use Rattle.log_mending.specs.Entries.{Entry, added, entryWords, listWords}
-use Rattle.log_mending.specs.Mending.{Kept, keptTree, sift, begun, sifted, adding, closedBy, closed, ended, mended, endedTree, mendedTree}
-use Rattle.log_mending.proofs.SiftLaws.{Going, Left, goes, stays}
-use Rattle.log_mending.proofs.Mends.{begun-going, sifted-left}
+use Rattle.log_salvage_rules.specs.Entries.{Entry, added, entryWords, listWords}
+use Rattle.log_salvage_rules.specs.Mending.{Kept, keptTree, sift, begun, sifted, adding, closedBy, closed, ended, mended, endedTree, mendedTree}
+use Rattle.log_salvage_rules.proofs.SiftLaws.{Going, Left, goes, stays}
+use Rattle.log_salvage_rules.proofs.Mends.{begun-going, sifted-left}
 use Rattle.log_salvage.specs.declared.Pen.{Pen}
 use Rattle.log_salvage.specs.declared.Tally.{Tally}
 use Rattle.log_salvage.specs.declared.Sifted.{Sifted}

@@ -7,11 +7,11 @@ use native.Mathlib.Omega.{arith}
 use borrow.Author.Tests.{leb-true, leb-false, lt-leb}
 use lib.Dec.{leb}
 use lib.ListN.{length, take, drop, drop-of-length-le}
-use Rattle.log_judge.specs.Lines.{linesOf, lineLen, bytesAt, nextLine}
-use Rattle.log_judge.proofs.PlaceLaws.{bytes-long, next-pos, next-le}
-use Rattle.log_judge.proofs.JudgeLaws.{lines-at}
-use Rattle.log_mending.specs.Mending.{Kept, fateOf, behindLine, none, sift}
-use Rattle.log_mending.proofs.SiftLaws.{Going, step-left, still}
+use Rattle.log_rules.specs.Lines.{linesOf, lineLen, bytesAt, nextLine}
+use Rattle.log_rules.proofs.PlaceLaws.{bytes-long, next-pos, next-le}
+use Rattle.log_rules.proofs.JudgeLaws.{lines-at}
+use Rattle.log_salvage_rules.specs.Mending.{Kept, fateOf, behindLine, none, sift}
+use Rattle.log_salvage_rules.proofs.SiftLaws.{Going, step-left, still}
 use Rattle.log_salvage.specs.declared.Sifted.{Sifted}
 use Rattle.log_salvage.specs.Writing.{Sifts, fateBy, Bound, Stepped}
 use Rattle.log_salvage.proofs.SiftsLaws.{sifts-step}

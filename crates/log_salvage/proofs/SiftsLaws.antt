@@ -8,17 +8,17 @@ use native.Mathlib.Omega.{arith}
 use lib.ListN.{length, length-append}
 use Rattle.log_line.specs.declared.Line.{Line}
 use Rattle.log_line.specs.declared.Line.the-variants.{Header, Machine, One, Loop, Done, Stop, Bad}
-use Rattle.log_spot.specs.declared.Stand.the-variants.{Among}
-use Rattle.log_spot.specs.declared.Found.the-variants.{Right}
-use Rattle.log_spot.specs.Fault.{spotOf}
-use Rattle.log_spot.proofs.FaultLaws.{right-line}
-use Rattle.log_spot.proofs.Standing.{lets, Lets, turn, opens as opened-on, closes as closes-on, ends as ends-on}
-use Rattle.log_judge.specs.Tree.{clocks, turns, actClocks}
-use Rattle.log_mending.specs.declared.Fate.{Fate}
-use Rattle.log_mending.specs.declared.Fate.the-variants.{Keep, Drop, Ninth, NinthDone}
-use Rattle.log_mending.specs.Entries.{listWords}
-use Rattle.log_mending.specs.Mending.{Kept, keptTree, fateOf, deeper, isStop, dropping, behindLine}
-use Rattle.log_mending.proofs.SiftLaws.{Going}
+use Rattle.log_fault.specs.declared.Stand.the-variants.{Among}
+use Rattle.log_fault.specs.declared.Spotted.the-variants.{Right}
+use Rattle.log_fault.specs.Fault.{spotOf}
+use Rattle.log_fault.proofs.FaultLaws.{right-line}
+use Rattle.log_fault.proofs.Standing.{lets, Lets, turn, opens as opened-on, closes as closes-on, ends as ends-on}
+use Rattle.log_rules.specs.Tree.{clocks, turns, actClocks}
+use Rattle.log_salvage_rules.specs.declared.Fate.{Fate}
+use Rattle.log_salvage_rules.specs.declared.Fate.the-variants.{Keep, Drop, Ninth, NinthDone}
+use Rattle.log_salvage_rules.specs.Entries.{listWords}
+use Rattle.log_salvage_rules.specs.Mending.{Kept, keptTree, fateOf, deeper, isStop, dropping, behindLine}
+use Rattle.log_salvage_rules.proofs.SiftLaws.{Going}
 use Rattle.log_salvage.specs.declared.Place.{Place}
 use Rattle.log_salvage.specs.declared.Tally.{Tally}
 use Rattle.log_salvage.specs.declared.Sifted.{Sifted}

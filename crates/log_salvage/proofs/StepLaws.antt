@@ -11,15 +11,15 @@ use Rattle.arith.proofs.PickLaws.{both-left, both-right, pick-both}
 use Rattle.log_line.specs.declared.Line.{Line}
 use Rattle.log_line.specs.declared.Line.the-variants.{Header, Machine, One, Loop, Done, Stop, Bad}
 use Rattle.log_line.specs.Said.{lineOf}
-use Rattle.log_spot.specs.declared.Stand.the-variants.{Among}
-use Rattle.log_spot.specs.declared.Found.{Found}
-use Rattle.log_spot.specs.declared.Found.the-variants.{Right, Wrong}
-use Rattle.log_spot.specs.Fault.{spotOf}
-use Rattle.log_spot.proofs.FaultLaws.{right-line, zero-one, Eight, done, stop, eight-line, line-stop}
-use Rattle.log_spot.proofs.Standing.{told, tell, goes-may, lets, Lets, turn, opens as opened-on, ends as ends-on}
-use Rattle.log_judge.specs.Tree.{clocks}
-use Rattle.log_mending.specs.declared.Fate.the-variants.{Keep, Drop, Ninth, NinthDone}
-use Rattle.log_mending.specs.Mending.{Kept, keptTree, stopFate, rightFate, foundFate, lineFate, fateOf, isStop}
+use Rattle.log_fault.specs.declared.Stand.the-variants.{Among}
+use Rattle.log_fault.specs.declared.Spotted.{Spotted}
+use Rattle.log_fault.specs.declared.Spotted.the-variants.{Right, Wrong}
+use Rattle.log_fault.specs.Fault.{spotOf}
+use Rattle.log_fault.proofs.FaultLaws.{right-line, zero-one, Eight, done, stop, eight-line, line-stop}
+use Rattle.log_fault.proofs.Standing.{told, tell, goes-may, lets, Lets, turn, opens as opened-on, ends as ends-on}
+use Rattle.log_rules.specs.Tree.{clocks}
+use Rattle.log_salvage_rules.specs.declared.Fate.the-variants.{Keep, Drop, Ninth, NinthDone}
+use Rattle.log_salvage_rules.specs.Mending.{Kept, keptTree, stopFate, rightFate, foundFate, lineFate, fateOf, isStop}
 use Rattle.log_salvage.specs.declared.Place.{Place}
 use Rattle.log_salvage.specs.Steps.{stopBy, rightBy, wrongBy, foundBy, OpensBy}
 
@@ -35,7 +35,7 @@ module _ (p : Place) (l : List ℕ) (c : ℕ) (last : Bool) where
   right-opens Machine h = tt
   right-opens (Bad n) h = tt
 
-  found-opens : (f : Found) → spotOf (Among (p .second) (p .depth)) l ≡ f → OpensBy (p .depth) (foundBy f p c last)
+  found-opens : (f : Spotted) → spotOf (Among (p .second) (p .depth)) l ≡ f → OpensBy (p .depth) (foundBy f p c last)
   unfolding foundBy
   found-opens (Right x) e = right-opens x (lets (p .second) (p .depth) l x e)
   found-opens (Wrong r i) e = pick-both (OpensBy (p .depth)) (eqb r 7) tt (pick-both (OpensBy (p .depth)) (both (eqb r 8) (ltb 0 (p .depth))) tt tt)
@@ -123,7 +123,7 @@ module _ (k : Kept) (l : List ℕ) (c : ℕ) (known : Known k c) (last : Bool) w
   wrong-same r i e Done x = rw (not-stop r i e (ap isStop x))
   wrong-same r i e (Bad n) x = rw (not-stop r i e (ap isStop x))
 
-  found-same : (p : Place) → p .depth ≡ k .depth → p .ninths ≡ k .ninths → (f : Found) → spotOf (Among (k .second) (k .depth)) l ≡ f → foundBy f p c last ≡ lineFate k last f (lineOf l)
+  found-same : (p : Place) → p .depth ≡ k .depth → p .ninths ≡ k .ninths → (f : Spotted) → spotOf (Among (k .second) (k .depth)) l ≡ f → foundBy f p c last ≡ lineFate k last f (lineOf l)
   unfolding foundBy
   found-same p d n (Right x) e = ap (λ (j : ℕ). rightBy x j c last) n ∙ (right-same x e ∙ ap (lineFate k last (Right x)) (sym (told (Among (k .second) (k .depth)) l x e .says)))
   found-same p d n (Wrong r i) e = ap (λ (j : ℕ). wrongBy r j last) d ∙ wrong-same r i e (lineOf l) refl
@@ -134,7 +134,7 @@ module _ (k : Kept) (l : List ℕ) (c : ℕ) (known : Known k c) (last : Bool) w
       ap₂ (λ (b : Bool) (j : ℕ). foundBy (spotOf (Among b j) l) p c last) s d ∙ found-same p d n (spotOf (Among (k .second) (k .depth)) l) refl
 
 -- what is kept is right
-pub kept-right : (f : Found) (p : Place) (c : ℕ) (last : Bool) (m : Line) → foundBy f p c last ≡ Keep m → f ≡ Right m
+pub kept-right : (f : Spotted) (p : Place) (c : ℕ) (last : Bool) (m : Line) → foundBy f p c last ≡ Keep m → f ≡ Right m
 unfolding foundBy
 kept-right (Wrong r i) p c last m e = wrongly (eqb r 7) (both (eqb r 8) (ltb 0 (p .depth))) e
   where

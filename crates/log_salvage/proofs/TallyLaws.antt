@@ -12,12 +12,12 @@ use Rattle.log_line.specs.declared.Act.{Act}
 use Rattle.log_line.specs.declared.Line.{Line}
 use Rattle.log_line.specs.declared.Line.the-variants.{Header, Machine, One, Loop, Done, Stop, Bad}
 use Rattle.log_line.specs.Printed.{lineText, Printable}
-use Rattle.log_judge.specs.Lines.{linesOf}
-use Rattle.log_judge.specs.Tree.{Tree, end, act, loop}
-use Rattle.log_judge.specs.Whole.{grow, blocks, innermost, treeOf}
+use Rattle.log_rules.specs.Lines.{linesOf}
+use Rattle.log_rules.specs.Tree.{Tree, end, act, loop}
+use Rattle.log_rules.specs.Whole.{grow, blocks, innermost, treeOf}
 use Rattle.log_passing.proofs.TextLaws.{blocks-line}
-use Rattle.log_mending.specs.Mending.{keptTree}
-use Rattle.log_mending.proofs.RunLaws.{stop-blocks}
+use Rattle.log_salvage_rules.specs.Mending.{keptTree}
+use Rattle.log_salvage_rules.proofs.RunLaws.{stop-blocks}
 use Rattle.log_salvage.specs.Writing.{weighed, Counts}
 
 -- what is counted behind a line of a block that is done w times over: an act so much, a loop so much a turn

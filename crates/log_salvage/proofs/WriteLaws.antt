@@ -9,7 +9,7 @@ use lib.Seq.{sets, length-sets, sets-eq}
 use Rattle.arith.proofs.PickLaws.{pick-both}
 use Rattle.text_print.specs.Printed.{fits, printed}
 use Rattle.text_print.proofs.StoreLaws.{sets-append, written, kept, printed-in}
-use Rattle.log_mending.specs.Entries.{Entry, dropped, added, entryWords, listWords}
+use Rattle.log_salvage_rules.specs.Entries.{Entry, dropped, added, entryWords, listWords}
 use Rattle.log_salvage.specs.Answer.{writtenOver}
 use Rattle.log_salvage.specs.Writing.{Over}
 

@@ -4,9 +4,9 @@ use mathlib.Core.List.{List, _++_}
 use lib.ListN.{length, drop}
 use lib.Dec.{eqb, ltb}
 use Rattle.arith.specs.Pick.{pick, either}
-use Rattle.log_judge.specs.Whole.{heavy}
-use Rattle.log_mending.specs.Entries.{listWords}
-use Rattle.log_mending.specs.Mending.{mended, mendedTree}
+use Rattle.log_rules.specs.Whole.{heavy}
+use Rattle.log_salvage_rules.specs.Entries.{listWords}
+use Rattle.log_salvage_rules.specs.Mending.{mended, mendedTree}
 use Rattle.log_salvage.specs.declared.Salvaged.{Salvaged}
 
 -- "Refusals, at 0: 5, then 9 if the repaired log is over those totals, then 30 if it is longer than the buffer or 60,000 bytes, then 31 if the list has no

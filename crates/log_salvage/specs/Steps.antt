@@ -8,13 +8,13 @@ use lib.Dec.{eqb, ltb}
 use Rattle.arith.specs.Pick.{pick, both}
 use Rattle.log_line.specs.declared.Line.{Line}
 use Rattle.log_line.specs.declared.Line.the-variants.{Header, Machine, One, Loop, Done, Stop, Bad}
-use Rattle.log_spot.specs.declared.Found.{Found}
-use Rattle.log_spot.specs.declared.Found.the-variants.{Right, Wrong}
-use Rattle.log_judge.specs.Tree.{actClocks}
-use Rattle.log_mending.specs.declared.Fate.{Fate}
-use Rattle.log_mending.specs.declared.Fate.the-variants.{Keep, Drop, Ninth, NinthDone}
-use Rattle.log_mending.specs.Entries.{Entry, dropped, added}
-use Rattle.log_mending.specs.Mending.{deeper, isStop}
+use Rattle.log_fault.specs.declared.Spotted.{Spotted}
+use Rattle.log_fault.specs.declared.Spotted.the-variants.{Right, Wrong}
+use Rattle.log_rules.specs.Tree.{actClocks}
+use Rattle.log_salvage_rules.specs.declared.Fate.{Fate}
+use Rattle.log_salvage_rules.specs.declared.Fate.the-variants.{Keep, Drop, Ninth, NinthDone}
+use Rattle.log_salvage_rules.specs.Entries.{Entry, dropped, added}
+use Rattle.log_salvage_rules.specs.Mending.{deeper, isStop}
 use Rattle.log_salvage.specs.declared.Place.{Place}
 use Rattle.log_salvage.specs.declared.Tally.{Tally}
 use Rattle.log_salvage.specs.declared.Sifted.{Sifted}
@@ -36,7 +36,7 @@ rightBy (Bad n) ninths clocks last = Keep (Bad n)
 abbrev pub wrongBy : ℕ → ℕ → Bool → Fate
 wrongBy r depth last = pick (eqb r 7) Ninth (pick (both (eqb r 8) (ltb 0 depth)) (Drop (pick last 10 19)) (Drop r))
 
-unfoldable pub foundBy : Found → Place → ℕ → Bool → Fate
+unfoldable pub foundBy : Spotted → Place → ℕ → Bool → Fate
 foundBy (Right l) p clocks last = rightBy l (p .ninths) clocks last
 foundBy (Wrong r i) p clocks last = wrongBy r (p .depth) last
 

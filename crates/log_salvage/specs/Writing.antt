@@ -5,20 +5,20 @@ use mathlib.Core.List.{List, [], _∷_, _++_}
 use mathlib.Core.Bool.{Bool, true, false}
 use lib.ListN.{length, getD}
 use lib.Seq.{sets}
-use Rattle.log_judge.specs.Lines.{linesOf}
-use Rattle.log_judge.specs.Tree.{Tree, clocks, turns}
-use Rattle.log_judge.specs.Whole.{blocks, innermost, heavy}
-use Rattle.log_mending.specs.Entries.{listWords}
-use Rattle.log_mending.specs.Mending.{Kept, mended, mendedTree}
+use Rattle.log_rules.specs.Lines.{linesOf}
+use Rattle.log_rules.specs.Tree.{Tree, clocks, turns}
+use Rattle.log_rules.specs.Whole.{blocks, innermost, heavy}
+use Rattle.log_salvage_rules.specs.Entries.{listWords}
+use Rattle.log_salvage_rules.specs.Mending.{Kept, mended, mendedTree}
 use Rattle.log_salvage.specs.declared.Place.{Place}
 use Rattle.log_salvage.specs.declared.Tally.{Tally}
 use Rattle.log_salvage.specs.declared.Pen.{Pen}
 use Rattle.log_salvage.specs.declared.Sifted.{Sifted}
 use Rattle.log_salvage.specs.declared.Passed.{Passed}
 use Rattle.log_salvage.specs.Steps.{Small, foundBy, placeBehind, tallyBehind, keptBy, entriesBy}
-use Rattle.log_spot.specs.declared.Stand.the-variants.{Among}
-use Rattle.log_spot.specs.Fault.{spotOf}
-use Rattle.log_mending.specs.declared.Fate.{Fate}
+use Rattle.log_fault.specs.declared.Stand.the-variants.{Among}
+use Rattle.log_fault.specs.Fault.{spotOf}
+use Rattle.log_salvage_rules.specs.declared.Fate.{Fate}
 use Rattle.text_print.specs.Printed.{printed}
 
 -- a text was written over the front, if it fits there

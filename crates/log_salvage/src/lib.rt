@@ -1,11 +1,11 @@
 // A damaged log repaired into lent bytes, with a list of what was done in lent words. One pass decides line by line; it is made twice, first with
 // nothing lent to it, which measures, so that a refused call writes nothing.
+use log_fault::Spotted;
+use log_fault::Stand;
 use log_line::Act;
 use log_line::Line;
-use log_mending::Fate;
 use log_read::line_end;
-use log_spot::Found;
-use log_spot::Stand;
+use log_salvage_rules::Fate;
 ghost use mathlib.Core.Path.{_≡_};
 ghost use mathlib.Core.List.{List, [], _∷_};
 ghost use Prim.Native.Nat.{ℕ, _+_, _-_, _*_, _≤_, _<_};
@@ -13,13 +13,13 @@ ghost use lib.Dec.{ltb};
 ghost use lib.ListN.{length, take, drop};
 ghost use Rattle.arith.specs.Pick.{pick};
 ghost use Rattle.text_print.specs.Printed.{printed};
-ghost use Rattle.log_judge.specs.Tree as Tree;
-ghost use Rattle.log_judge.specs.Tree.{actClocks};
-ghost use Rattle.log_mending.specs.Entries.{listWords};
-ghost use Rattle.log_judge.specs.Lines.{linesOf};
-ghost use Rattle.log_mending.specs.Mending.{Kept, keptTree, deeper, isStop, sift, sifted, closedBy, ended};
-ghost use Rattle.log_mending.specs.Promise.{Mends};
-ghost use Rattle.log_mending.proofs.SiftLaws.{Going};
+ghost use Rattle.log_rules.specs.Tree as Tree;
+ghost use Rattle.log_rules.specs.Tree.{actClocks};
+ghost use Rattle.log_salvage_rules.specs.Entries.{listWords};
+ghost use Rattle.log_rules.specs.Lines.{linesOf};
+ghost use Rattle.log_salvage_rules.specs.Mending.{Kept, keptTree, deeper, isStop, sift, sifted, closedBy, ended};
+ghost use Rattle.log_salvage_rules.specs.Promise.{Mends};
+ghost use Rattle.log_salvage_rules.proofs.SiftLaws.{Going};
 ghost use Rattle.log_salvage.specs.Answer.{salvageRefusal, salvageOf, salvageText, salvageList};
 ghost use Rattle.log_salvage.specs.Steps.{stopBy, rightBy, wrongBy, foundBy, placeBehind, moreBy, openedBy, tallyLine, tallyBehind, Small, Opens, OpensBy, keptBy, entriesBy, headEntries, begunBy};
 ghost use Rattle.log_salvage.specs.Writing.{Written, Sifts, fateBy, Bound, Stepped, Adds, Passes};
@@ -158,12 +158,12 @@ fn wrong_fate(k: u8, depth: u64, last: bool) -> Fate
 }
 
 // What is done with a line of which this is found.
-fn fate_of(f: Found, p: Place, clocks: u64, last: bool) -> Fate
+fn fate_of(f: Spotted, p: Place, clocks: u64, last: bool) -> Fate
     ensures { λ r. ⌜ r ≡ foundBy f p clocks last ⌝ }
 {
     match f {
-        Found::Right(l) => right_fate(l, p.ninths, clocks, last),
-        Found::Wrong(k, _) => wrong_fate(k, p.depth, last),
+        Spotted::Right(l) => right_fate(l, p.ninths, clocks, last),
+        Spotted::Wrong(k, _) => wrong_fate(k, p.depth, last),
     }
 }
 
@@ -340,7 +340,7 @@ fn step(line: &[u8], at: usize, last: bool, out: &mut [u8], list: &mut [u32], s:
     let p = s.place;
     let t = s.tally;
     let pen = s.pen;
-    let found = log_spot::spot(line, Stand::Among(p.second, p.depth));
+    let found = log_fault::spot(line, Stand::Among(p.second, p.depth));
     let f = fate_of(found, p, t.clocks, last);
     let bytes = put(out, pen.bytes, kept(line, f));
     let entries = note_fate(list, pen.entries, at, f);

@@ -23,9 +23,9 @@ fn tell(log: &[u8]) {
 // A byte more than a log may have, so that a longer one is seen.
 pub(crate) fn check() {
     let mut log = [0u8; 60001];
-    let r = perch_io::read_all(STDIN_FILENO, &mut log);
+    let r = program_io::read_all(STDIN_FILENO, &mut log);
     if r.failed {
-        perch_io::say(b"perch: standard input can't be read\n");
+        program_io::say(b"perch: standard input can't be read\n");
         return;
     }
     let n = r.count;

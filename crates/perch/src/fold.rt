@@ -8,7 +8,7 @@ fn tell(log: &[u8]) {
     let mut out = [0u8; 60000];
     let o = perch_fold::fold(log, &mut out);
     match o {
-        Outcome::Done(n) => perch_io::write_front(STDOUT_FILENO, &out, n),
+        Outcome::Done(n) => program_io::write_front(STDOUT_FILENO, &out, n),
         Outcome::Refused(number, place) => refuse(number, place),
     }
 }
@@ -16,9 +16,9 @@ fn tell(log: &[u8]) {
 // A byte more than a log may have, so that a longer one is seen.
 pub(crate) fn fold() {
     let mut log = [0u8; 60001];
-    let r = perch_io::read_all(STDIN_FILENO, &mut log);
+    let r = program_io::read_all(STDIN_FILENO, &mut log);
     if r.failed {
-        perch_io::say(b"perch: standard input can't be read\n");
+        program_io::say(b"perch: standard input can't be read\n");
         return;
     }
     let n = r.count;

@@ -8,11 +8,11 @@ fn tell(file: &[u8]) {
     let mut log = [0u8; 60000];
     let b = perch_import::import_file(file, &mut log);
     match b {
-        Brought::Done(n) => perch_io::write_front(STDOUT_FILENO, &log, n),
+        Brought::Done(n) => program_io::write_front(STDOUT_FILENO, &log, n),
         Brought::Refused(number, place) => refuse(number, place),
-        Brought::NoVgm => perch_io::say(b"perch: no VGM file: it doesn't begin with `Vgm `\n"),
-        Brought::Cut => perch_io::say(b"perch: the VGM file ends inside its header\n"),
-        Brought::Outside => perch_io::say(
+        Brought::NoVgm => program_io::say(b"perch: no VGM file: it doesn't begin with `Vgm `\n"),
+        Brought::Cut => program_io::say(b"perch: the VGM file ends inside its header\n"),
+        Brought::Outside => program_io::say(
             b"perch: the VGM file's header says no place for its commands\n",
         ),
     }
@@ -21,13 +21,13 @@ fn tell(file: &[u8]) {
 // A byte more than is read of a file, so that a longer one is seen.
 pub(crate) fn import() {
     let mut file = [0u8; 524289];
-    let r = perch_io::read_all(STDIN_FILENO, &mut file);
+    let r = program_io::read_all(STDIN_FILENO, &mut file);
     if r.failed {
-        perch_io::say(b"perch: standard input can't be read\n");
+        program_io::say(b"perch: standard input can't be read\n");
         return;
     }
     if 524288 < r.count {
-        perch_io::say(b"perch: a VGM file of more than 512 KiB is not read\n");
+        program_io::say(b"perch: a VGM file of more than 512 KiB is not read\n");
         return;
     }
     let n = r.count;

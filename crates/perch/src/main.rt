@@ -2,7 +2,7 @@
 mod check;
 mod fold;
 mod import;
-mod meter;
+mod meters;
 mod refused;
 mod salvage;
 mod sheet;
@@ -10,25 +10,25 @@ mod why;
 
 // The verbs, a line each with their arguments.
 fn usage() {
-    perch_io::say(b"usage: perch VERB\n");
-    perch_io::say(
+    program_io::say(b"usage: perch VERB\n");
+    program_io::say(
         b"  check       a log on standard input: whether it passes, or where it is at fault\n",
     );
-    perch_io::say(
+    program_io::say(
         b"  fold        a log on standard input: the same log with its repeats as loops\n",
     );
-    perch_io::say(b"  import      a VGM file on standard input: the log that it comes to\n");
-    perch_io::say(
+    program_io::say(b"  import      a VGM file on standard input: the log that it comes to\n");
+    program_io::say(
         b"  salvage     a damaged log on standard input: the log repaired, and what was dropped and added\n",
     );
-    perch_io::say(
+    program_io::say(
         b"  why CLOCK   a log on standard input: why the squares and the noise are silent there\n",
     );
-    perch_io::say(
+    program_io::say(
         b"  meter       a log on standard input: whether it is silent, steady or moving, and between which levels\n",
     );
-    perch_io::say(b"  meter waits the same, and that of each of its waits\n");
-    perch_io::say(
+    program_io::say(b"  meter waits the same, and that of each of its waits\n");
+    program_io::say(
         b"  sheet LEVEL ADDRESS LENGTH\n              the level after each byte of a sample in sample.bin\n",
     );
 }
@@ -56,11 +56,11 @@ fn run(verb: &[u8], words: usize) {
         return;
     }
     if arith::both_of(words == 2, text::exact(verb, b"meter")) {
-        meter::meter(false);
+        meters::meter(false);
         return;
     }
     if arith::both_of(words == 3, text::exact(verb, b"meter")) {
-        meter::asked();
+        meters::asked();
         return;
     }
     if text::exact(verb, b"sheet") {

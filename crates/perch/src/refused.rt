@@ -5,9 +5,9 @@ use libc::STDERR_FILENO;
 pub(crate) fn refuse(number: u8, place: usize) {
     let mut text = [0u8; 40];
     let n = perch_import::refusal(number, place, &mut text);
-    perch_io::write_front(STDERR_FILENO, &text, n);
+    program_io::write_front(STDERR_FILENO, &text, n);
     let mut words = [0u8; 60];
     let m = perch_reasons::reason(&mut words, 0, number);
-    perch_io::write_front(STDERR_FILENO, &words, m);
-    perch_io::say(b"\n");
+    program_io::write_front(STDERR_FILENO, &words, m);
+    program_io::say(b"\n");
 }

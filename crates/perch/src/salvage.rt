@@ -11,7 +11,7 @@ use perch_salvage::Outcome;
 fn line(log: &[u8], new: &[u8], first: u32, second: u8) {
     let mut text = [0u8; 160];
     let n = perch_salvage::entry(log, new, first, second, &mut text);
-    perch_io::write_front(STDERR_FILENO, &text, n);
+    program_io::write_front(STDERR_FILENO, &text, n);
 }
 
 // A reason's number: the low byte of a word.
@@ -37,7 +37,7 @@ fn tell(log: &[u8]) {
     let o = perch_salvage::salvage(log, &mut out, &mut list);
     match o {
         Outcome::Done(n, entries) => {
-            perch_io::write_front(STDOUT_FILENO, &out, n);
+            program_io::write_front(STDOUT_FILENO, &out, n);
             lines(log, &out, &list, entries);
         }
         Outcome::Refused(number, place) => refuse(number, place),
@@ -47,9 +47,9 @@ fn tell(log: &[u8]) {
 // A byte more than a log may have, so that a longer one is seen.
 pub(crate) fn salvage() {
     let mut log = [0u8; 60001];
-    let r = perch_io::read_all(STDIN_FILENO, &mut log);
+    let r = program_io::read_all(STDIN_FILENO, &mut log);
     if r.failed {
-        perch_io::say(b"perch: standard input can't be read\n");
+        program_io::say(b"perch: standard input can't be read\n");
         return;
     }
     let n = r.count;

@@ -8,7 +8,7 @@ use perch_sheet::Args;
 
 // What the words have to be.
 fn expected() {
-    perch_io::say(
+    program_io::say(
         b"perch: expected sheet LEVEL ADDRESS LENGTH: decimals with no leading zero, the address four lower-case hex digits, as in sheet 64 c000 20\n",
     );
 }
@@ -30,9 +30,9 @@ fn tell(memory: &[u8], level: u32, address: u32, size: u32) {
 // A byte more than sample memory has, so that a longer file is seen.
 fn draw(level: u32, address: u32, size: u32) {
     let mut memory = [0u8; 32769];
-    let r = perch_io::read_file(b"sample.bin", &mut memory);
+    let r = program_io::read_file(b"sample.bin", &mut memory);
     if r.failed {
-        perch_io::say(b"perch: sample.bin can't be read\n");
+        program_io::say(b"perch: sample.bin can't be read\n");
         return;
     }
     let n = r.count;

@@ -24,9 +24,9 @@ fn tell(log: &[u8], memory: &[u8], clock: u64) {
 // With the sample memory: a byte more than it has, so that a longer one is seen.
 fn with_sample(log: &[u8], clock: u64) {
     let mut memory = [0u8; 32769];
-    let r = perch_io::read_file(b"sample.bin", &mut memory);
+    let r = program_io::read_file(b"sample.bin", &mut memory);
     if r.failed {
-        perch_io::say(b"perch: sample.bin can't be read\n");
+        program_io::say(b"perch: sample.bin can't be read\n");
         return;
     }
     let n = r.count;
@@ -36,9 +36,9 @@ fn with_sample(log: &[u8], clock: u64) {
 // A byte more than a log may have, so that a longer one is seen.
 fn at_clock(clock: u64) {
     let mut log = [0u8; 60001];
-    let r = perch_io::read_all(STDIN_FILENO, &mut log);
+    let r = program_io::read_all(STDIN_FILENO, &mut log);
     if r.failed {
-        perch_io::say(b"perch: standard input can't be read\n");
+        program_io::say(b"perch: standard input can't be read\n");
         return;
     }
     let n = r.count;
@@ -52,7 +52,7 @@ pub(crate) fn why() {
     let c = text::decimal_in(&word[..n], 0, 2000000000);
     match c {
         Number::Is(clock) => at_clock(clock as u64),
-        Number::None => perch_io::say(
+        Number::None => program_io::say(
             b"perch: why CLOCK: a decimal from 0 to 2000000000 with no leading zero\n",
         ),
     }

@@ -13,12 +13,12 @@ use Rattle.text.specs.Ascii.{bytes}
 use Rattle.text_print.specs.Printed.{placed, printed}
 use Rattle.text_print.proofs.StoreLaws.{placed-in, printed-in}
 use Rattle.play_text.proofs.TextLaws.{decimal-ten}
-use Rattle.log_judge.specs.declared.Checked.{Checked}
-use Rattle.log_judge.specs.Whole.{checkOf}
-use Rattle.perch_place.specs.Place.{lineNumber, column}
+use Rattle.log_rules.specs.declared.Checked.{Checked}
+use Rattle.log_rules.specs.Whole.{checkOf}
+use Rattle.text_place.specs.Place.{lineNumber, column}
 use Rattle.perch_check.specs.Report.{numberLine, machineLine, passedText, refusedLine, reasonLine, refusedText, outcomeText, checkText}
 use Rattle.perch_reasons.proofs.Sizes.{reason-size}
-use Rattle.perch_place.proofs.Sizes.{UpTo, line-size, mark-size, text-taken}
+use Rattle.text_place.proofs.Sizes.{UpTo, line-size, mark-size, text-taken}
 
 machine-size : (pal : Bool) → UpTo 12 (machineLine pal)
 unfolding machineLine

@@ -6,11 +6,11 @@ use lib.Dec.{eqb}
 use Rattle.arith.specs.Pick.{pick}
 use Rattle.text.specs.Ascii.{bytes}
 use Rattle.text.specs.Decimal.{decimalText}
-use Rattle.log_judge.specs.declared.Checked.{Checked}
-use Rattle.log_judge.specs.Whole.{checkOf}
-use Rattle.perch_place.specs.Place.{lineNumber, column}
+use Rattle.log_rules.specs.declared.Checked.{Checked}
+use Rattle.log_rules.specs.Whole.{checkOf}
+use Rattle.text_place.specs.Place.{lineNumber, column}
 use Rattle.perch_reasons.specs.Reasons.{reasonText}
-use Rattle.perch_place.specs.Shown.{shownLine, markLine}
+use Rattle.text_place.specs.Shown.{shownLine, markLine}
 
 -- a key and a number
 unfoldable pub numberLine : List ℕ → ℕ → List ℕ

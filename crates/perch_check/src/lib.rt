@@ -5,11 +5,11 @@ ghost use lib.ListN.{length};
 ghost use lib.Seq.{sets};
 ghost use Rattle.text_print.specs.Printed.{printed, placed};
 ghost use Rattle.perch_check.specs.Report.{numberLine, machineLine, passedText, refusedLine, reasonLine, refusedText, checkText};
-use perch_place::column;
-use perch_place::line_number;
-use perch_place::mark_line;
-use perch_place::shown_line;
 use perch_reasons::reason;
+use text_place::column;
+use text_place::line_number;
+use text_place::mark_line;
+use text_place::shown_line;
 
 // A key and a number.
 fn number_line(out: &mut [u8], at: usize, key: &[u8], n: u64) -> usize

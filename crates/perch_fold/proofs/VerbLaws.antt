@@ -5,10 +5,10 @@ use Prim.Native.Nat.{ℕ, _≤_}
 use native.Mathlib.Omega.{arith}
 use borrow.Author.Tests.{eq-eqb, ne-eqb, le-ltb}
 use lib.ListN.{length}
-use Rattle.log_judge.specs.Whole.{checkOf}
+use Rattle.log_rules.specs.Whole.{checkOf}
 use Rattle.log_passing.proofs.Passing.{clear}
 use Rattle.log_fold.specs.declared.Folded.{Folded}
-use Rattle.log_folding.specs.Folding.{foldedLog}
+use Rattle.log_fold_rules.specs.Folding.{foldedLog}
 use Rattle.log_fold.specs.Answer.{foldRefusal, foldOf}
 use Rattle.perch_fold.specs.declared.Outcome.the-variants.{Refused, Done}
 use Rattle.perch_fold.specs.Verb.{outcomeFrom, outcomeOf}

@@ -12,8 +12,8 @@ use Rattle.arith.specs.Pick.{both, either}
 use Rattle.arith.proofs.PickLaws.{pick-both, pick-each, both-right}
 use Rattle.text.specs.Ascii.{bytes}
 use Rattle.text.specs.Decimal.{decimalText}
-use Rattle.log_measure.specs.Import.{importOf}
-use Rattle.log_measure.proofs.FaultLaws.{answer-limits}
+use Rattle.vgm_measure.specs.Import.{importOf}
+use Rattle.vgm_measure.proofs.FaultLaws.{answer-limits}
 use Rattle.perch_import.specs.declared.Part.{Part}
 use Rattle.perch_import.specs.declared.Part.the-variants as part
 use Rattle.perch_import.specs.File.{word, dataStart, commandsAt, refusedText}

@@ -7,8 +7,8 @@ use lib.ListN.{length, getD, drop}
 use Rattle.arith.specs.Pick.{pick, both, either}
 use Rattle.text.specs.Ascii.{bytes}
 use Rattle.text.specs.Decimal.{decimalText}
-use Rattle.log_measure.specs.declared.Imported.{Imported}
-use Rattle.log_measure.specs.Import.{importOf, bufferOf}
+use Rattle.vgm_measure.specs.declared.Imported.{Imported}
+use Rattle.vgm_measure.specs.Import.{importOf, bufferOf}
 use Rattle.perch_import.specs.declared.Part.{Part}
 use Rattle.perch_import.specs.declared.Part.the-variants as part
 use Rattle.perch_import.specs.declared.Brought.{Brought}

@@ -4,9 +4,9 @@ ghost use mathlib.Core.Path.{_≡_};
 ghost use Prim.Native.Nat.{_+_, _≤_, _<_};
 ghost use lib.ListN.{length, getD, drop};
 ghost use Rattle.text_print.specs.Printed.{printed, placed, Put};
-ghost use Rattle.log_measure.specs.Import.{importOf, bufferOf};
+ghost use Rattle.vgm_measure.specs.Import.{importOf, bufferOf};
 ghost use Rattle.perch_import.specs.File.{word, dataStart, commandsAt, placeFrom, broughtFrom, broughtOf, leftIn, refusedText};
-use log_measure::Imported;
+use vgm_measure::Imported;
 
 // The command part of a file: from where on it stands, or why there is none: it is no VGM file, its header is cut short, or its header points out of the file.
 pub enum Part {
@@ -106,7 +106,7 @@ fn import_from(file: &[u8], start: usize, out: &mut [u8]) -> Brought
     ensures { λ r. ⌜ r ≡ broughtFrom start (importOf (drop start (now (file .entry))) (length (now (out .entry)))) ⌝ }
     ensures { λ r. ⌜ now (out .exit) ≡ bufferOf (drop start (now (file .entry))) (now (out .entry)) ⌝ }
 {
-    let a = log_import::import(&file[start..], out);
+    let a = vgm_import::import(&file[start..], out);
     brought_from(start, a)
 }
 

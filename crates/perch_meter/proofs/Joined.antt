@@ -5,8 +5,8 @@ use mathlib.Core.List.{List, _++_}
 use native.Mathlib.Omega.{arith}
 use borrow.Author.Tests.{eq-eqb}
 use lib.ListN.{length}
-use Rattle.log_judge.specs.Whole.{checkOf}
-use Rattle.machine.specs.Saying.{Gives, ends, goes, gives}
+use Rattle.log_rules.specs.Whole.{checkOf}
+use Rattle.reading.specs.Saying.{Gives, ends, goes, gives}
 use Rattle.chip.specs.Range.{Bytes}
 use Rattle.play_meter.specs.declared.Answer.{Answer}
 use Rattle.play_meter.specs.declared.waits.Gauge.{Gauge}

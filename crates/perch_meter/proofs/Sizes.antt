@@ -13,9 +13,9 @@ use Rattle.arith.proofs.PickLaws.{pick-both}
 use Rattle.text_print.specs.Printed.{printed, placed}
 use Rattle.text_print.proofs.StoreLaws.{placed-in, printed-in}
 use Rattle.play_text.proofs.TextLaws.{decimal-ten}
-use Rattle.perch_place.proofs.Sizes.{UpTo, text-taken}
-use Rattle.run_meter.specs.declared.Measured.{Measured}
-use Rattle.run_meter.specs.declared.Measured.the-variants.{Refused, NoLevels, Silent, Steady, Moving}
+use Rattle.text_place.proofs.Sizes.{UpTo, text-taken}
+use Rattle.meter.specs.declared.Measured.{Measured}
+use Rattle.meter.specs.declared.Measured.the-variants.{Refused, NoLevels, Silent, Steady, Moving}
 use Rattle.play_meter.specs.declared.Answer.{Answer}
 use Rattle.play_meter.specs.declared.waits.Next.{Next}
 use Rattle.play_meter.specs.Meters.{logMeter}

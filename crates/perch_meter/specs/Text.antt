@@ -6,12 +6,12 @@ use lib.Dec.{eqb}
 use Rattle.arith.specs.Pick.{pick}
 use Rattle.text.specs.Ascii.{bytes}
 use Rattle.text.specs.Decimal.{decimalText}
-use Rattle.log_judge.specs.Head.{machineOf}
-use Rattle.log_judge.specs.Tree.{acts}
-use Rattle.log_judge.specs.Whole.{treeOf}
+use Rattle.log_rules.specs.Head.{machineOf}
+use Rattle.log_rules.specs.Tree.{acts}
+use Rattle.log_rules.specs.Whole.{treeOf}
 use Rattle.chip.specs.Range.{powerOn}
-use Rattle.run_meter.specs.declared.Measured.{Measured}
-use Rattle.run_meter.specs.declared.Measured.the-variants.{Refused, NoLevels, Silent, Steady, Moving}
+use Rattle.meter.specs.declared.Measured.{Measured}
+use Rattle.meter.specs.declared.Measured.the-variants.{Refused, NoLevels, Silent, Steady, Moving}
 use Rattle.play_meter.specs.declared.Answer.{Answer}
 use Rattle.play_meter.specs.declared.waits.Gauge.{Gauge}
 use Rattle.play_meter.specs.declared.waits.Next.{Next}

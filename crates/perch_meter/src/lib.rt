@@ -4,9 +4,9 @@ ghost use Prim.Native.Nat.{_+_, _≤_};
 ghost use lib.ListN.{length};
 ghost use Rattle.text_print.specs.Printed.{printed, placed, Put};
 ghost use Rattle.perch_meter.specs.Text.{numbered, movingWord, meterWord, allLine, refusedLine, outcomeText, meterText, waitLine, nextText, isOver};
+use meter::Measured;
 use play_meter::Answer;
 use play_meter::waits::Next;
-use run_meter::Measured;
 
 // A key and a number.
 fn numbered_word(out: &mut [u8], at: usize, key: &[u8], n: u64) -> usize

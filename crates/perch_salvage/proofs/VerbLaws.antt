@@ -12,14 +12,14 @@ use Rattle.arith.specs.Pick.{pick, either}
 use Rattle.text.specs.Decimal.{decimalText}
 use Rattle.text_print.specs.Printed.{placed, printed}
 use Rattle.text_print.proofs.StoreLaws.{placed-in, printed-in}
-use Rattle.log_judge.specs.Whole.{heavy, checkOf}
+use Rattle.log_rules.specs.Whole.{heavy, checkOf}
 use Rattle.log_passing.proofs.Passing.{clear}
-use Rattle.log_mending.specs.Mending.{mended, mendedTree}
-use Rattle.log_mending.proofs.Few.{few}
+use Rattle.log_salvage_rules.specs.Mending.{mended, mendedTree}
+use Rattle.log_salvage_rules.proofs.Few.{few}
 use Rattle.log_salvage.specs.declared.Salvaged.{Salvaged}
 use Rattle.log_salvage.specs.Answer.{numberOf}
 use Rattle.log_salvage.proofs.AnswerLaws.{passing-answer}
-use Rattle.perch_place.proofs.Sizes.{text-taken}
+use Rattle.text_place.proofs.Sizes.{text-taken}
 use Rattle.perch_reasons.specs.Reasons.{reasonText}
 use Rattle.perch_reasons.proofs.Sizes.{reason-size}
 use Rattle.perch_salvage.specs.declared.Outcome.the-variants.{Refused, Done}

@@ -7,7 +7,7 @@ use Rattle.arith.specs.Pick.{pick}
 use Rattle.text.specs.Ascii.{bytes}
 use Rattle.text.specs.Decimal.{decimalText}
 use Rattle.log_salvage.specs.declared.Salvaged.{Salvaged}
-use Rattle.perch_place.specs.Place.{lineAt, lineNumber}
+use Rattle.text_place.specs.Place.{lineAt, lineNumber}
 use Rattle.perch_reasons.specs.Reasons.{reasonText}
 use Rattle.log_salvage.specs.Answer.{salvageOf}
 use Rattle.perch_salvage.specs.declared.Outcome.{Outcome}

@@ -5,7 +5,7 @@ ghost use lib.ListN.{length};
 ghost use Rattle.text_print.specs.Printed.{printed, placed, Put};
 ghost use Rattle.log_salvage.specs.Answer.{salvageText, salvageList};
 ghost use Rattle.text.specs.Ascii.{bytes};
-ghost use Rattle.perch_place.specs.Place.{lineNumber};
+ghost use Rattle.text_place.specs.Place.{lineNumber};
 ghost use Rattle.perch_reasons.specs.Reasons.{reasonText};
 ghost use Rattle.perch_salvage.specs.Verb.{outcomeOf, keyedText, entryText};
 
@@ -78,7 +78,7 @@ fn dropped(log: &[u8], start: u32, reason: u8, out: &mut [u8]) -> usize
 {
     let mut words = [0u8; 60];
     let n = perch_reasons::reason(&mut words, 0, reason);
-    let line = perch_place::line_number(log, start as usize);
+    let line = text_place::line_number(log, start as usize);
     keyed(b"dropped=", start, reason, line, &words[..n], out)
 }
 
@@ -89,13 +89,13 @@ pub fn entry(log: &[u8], new: &[u8], first: u32, second: u8, out: &mut [u8]) -> 
 {
     if second == 0 {
         let place = first as usize;
-        let line = perch_place::line_number(new, place);
+        let line = text_place::line_number(new, place);
         return keyed(
             b"added=",
             first,
             second,
             line,
-            perch_place::line_at(new, place),
+            text_place::line_at(new, place),
             out,
         );
     }

@@ -9,9 +9,9 @@ use borrow.Author.Tests.{eqb-true}
 use Rattle.arith.proofs.PickLaws.{pick-each}
 use Rattle.text_print.proofs.StoreLaws.{length-four}
 use Rattle.play_text.proofs.TextLaws.{decimal-three, decimal-ten}
-use Rattle.chip_output.specs.Output.{levelMoved}
-use Rattle.chip_reader.specs.Reader.{byteAt, nextAddress}
-use Rattle.chip_output.proofs.RangeLaws.{level-moved-most}
+use Rattle.chip_dmc_output.specs.Output.{levelMoved}
+use Rattle.chip_dmc_reader.specs.Reader.{byteAt, nextAddress}
+use Rattle.chip_dmc_output.proofs.RangeLaws.{level-moved-most}
 use Rattle.chip_sheet.specs.Byte.{lowSteps, eightSteps}
 use Rattle.chip_sheet.specs.Sheet.{sheetLevels}
 use Rattle.chip_sheet.proofs.Refusals.{done}

@@ -13,8 +13,8 @@ use Rattle.text.specs.Ascii.{bytes}
 use Rattle.text_print.specs.Printed.{printed, placed, Put}
 use Rattle.text_print.proofs.StoreLaws.{sets-append}
 use Rattle.text_print.proofs.PieceLaws.{put-last}
-use Rattle.perch_place.proofs.Pieces.{room-first, room-rest, put-then}
-use Rattle.chip_reader.specs.Reader.{nextAddress}
+use Rattle.text_place.proofs.Pieces.{room-first, room-rest, put-then}
+use Rattle.chip_dmc_reader.specs.Reader.{nextAddress}
 use Rattle.chip_sheet.specs.Sheet.{sheetLevels, sheetAnswer, sheetBuffer}
 use Rattle.chip_sheet.specs.declared.Written.{Written}
 use Rattle.chip_sheet.proofs.Levels.{levels-long}

@@ -6,7 +6,7 @@ use Rattle.arith.specs.Pick.{pick}
 use Rattle.text.specs.Ascii.{bytes}
 use Rattle.text.specs.Decimal.{decimalText}
 use Rattle.text.specs.Hex.{hexText}
-use Rattle.chip_reader.specs.Reader.{nextAddress}
+use Rattle.chip_dmc_reader.specs.Reader.{nextAddress}
 use Rattle.chip_sheet.specs.Sheet.{sheetLevels, sheetNumber}
 
 -- "the address in hex and the level": `c000:12`

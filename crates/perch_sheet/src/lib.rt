@@ -31,7 +31,7 @@ fn level_lines(out: &mut [u8], at: usize, address: u16, levels: &[u8]) -> usize
     let mut i = 0;
     while i < levels.len() {
         place = level_line(out, place, a, levels[i]);
-        a = chip_reader::address_after(a);
+        a = chip_dmc_reader::address_after(a);
         i += 1;
     }
     place

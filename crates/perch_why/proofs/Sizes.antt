@@ -12,13 +12,13 @@ use Rattle.arith.proofs.PickLaws.{pick-both}
 use Rattle.text_print.specs.Printed.{placed, printed}
 use Rattle.text_print.proofs.StoreLaws.{placed-in, printed-in}
 use Rattle.play_text.proofs.TextLaws.{decimal-ten}
-use Rattle.perch_place.proofs.Sizes.{UpTo, text-taken}
+use Rattle.text_place.proofs.Sizes.{UpTo, text-taken}
 use Rattle.chip.specs.declared.State.{State}
 use Rattle.chip_why.specs.Why.{whyAnswer}
 use Rattle.chip_why.specs.declared.Reason.{Reason}
 use Rattle.chip_why.specs.declared.Reason.the-variants.{Refused, NotEnabled, LengthZero, PeriodLow, TargetHigh, StepLow, VolumeZero, Sounds}
-use Rattle.play_to.specs.declared.At.{At}
-use Rattle.play_to.specs.Reached.{stateAt}
+use Rattle.play_at.specs.declared.At.{At}
+use Rattle.play_at.specs.Reached.{stateAt}
 use Rattle.perch_why.specs.Text.{stepWord, numbered, reasonWord, channelLine, channelLines, clockLine, refusedLine, outcomeText, whyText}
 
 word-size : (noise : Bool) (r : Reason) → UpTo 18 (reasonWord noise r)

@@ -10,8 +10,8 @@ use Rattle.chip.specs.declared.State.{State}
 use Rattle.chip_why.specs.Why.{whyAnswer}
 use Rattle.chip_why.specs.declared.Reason.{Reason}
 use Rattle.chip_why.specs.declared.Reason.the-variants.{Refused, NotEnabled, LengthZero, PeriodLow, TargetHigh, StepLow, VolumeZero, Sounds}
-use Rattle.play_to.specs.declared.At.{At}
-use Rattle.play_to.specs.Reached.{stateAt}
+use Rattle.play_at.specs.declared.At.{At}
+use Rattle.play_at.specs.Reached.{stateAt}
 
 -- what stands still: a square's duty step, or bit 0 of the noise
 unfoldable pub stepWord : Bool → List ℕ

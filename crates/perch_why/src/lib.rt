@@ -4,11 +4,11 @@ ghost use mathlib.Core.List.{_++_};
 ghost use Prim.Native.Nat.{_+_, _≤_};
 ghost use lib.ListN.{length};
 ghost use Rattle.text_print.specs.Printed.{printed, placed, Put};
-ghost use Rattle.play_to.specs.Reached.{stateAt};
+ghost use Rattle.play_at.specs.Reached.{stateAt};
 ghost use Rattle.perch_why.specs.Text.{stepWord, numbered, reasonWord, channelLine, channelLines, clockLine, refusedLine, outcomeText, whyText};
 use chip::State;
 use chip_why::Reason;
-use play_to::At;
+use play_at::At;
 
 // What stands still: a square's duty step, or bit 0 of the noise.
 fn step_word(out: &mut [u8], at: usize, noise: bool) -> usize
@@ -118,7 +118,7 @@ fn whole(out: &mut [u8], log: &[u8], memory: &[u8], clock: u64) -> usize
     requires { ⌜ 128 ≤ length (now out) ⌝ }
     ensures { λ r. ⌜ Put (now (out .entry)) 0 (whyText (now (log .entry)) (now (memory .entry)) clock) (now (out .exit)) r ⌝ }
 {
-    let t = play_to::state_at(log, memory, clock);
+    let t = play_at::state_at(log, memory, clock);
     let a = text_print::fixed(out, 0, b"why=1\n");
     outcome(out, a, t)
 }

@@ -3,7 +3,7 @@ ghost use mathlib.Core.Path.{_≡_};
 ghost use Prim.Native.Nat.{_/_, _%_, _^_};
 ghost use lib.ListN.{take};
 ghost use Rattle.log_fold.specs.Answer.{foldLent};
-ghost use Rattle.log_folding.specs.Promise.{Folds};
+ghost use Rattle.log_fold_rules.specs.Promise.{Folds};
 ghost use Rattle.c_fold.specs.Packed.{foldPacked};
 
 // Rewrites a log over the front of the text with copies of lines folded into loops; the value is its length. The folded log passes the check, stands

@@ -2,8 +2,8 @@
 ghost use mathlib.Core.Path.{_≡_};
 ghost use Prim.Native.Nat.{_/_, _%_, _^_};
 ghost use lib.ListN.{length, take};
-ghost use Rattle.log_measure.specs.Import.{bufferOf};
-ghost use Rattle.log_import.specs.Stamps.{Stands};
+ghost use Rattle.vgm_measure.specs.Import.{bufferOf};
+ghost use Rattle.vgm_import.specs.Stamps.{Stands};
 ghost use Rattle.c_import.specs.Packed.{importPacked};
 
 // Brings the command part of a VGM file in as a log over the front of the text; the value is the log's length. A log that is written passes the

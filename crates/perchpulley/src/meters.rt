@@ -1,7 +1,7 @@
 // The meter for C and Rust: what a stretch of levels is, and a level as its exact fraction.
 ghost use mathlib.Core.Path.{_≡_};
 ghost use Rattle.chip_mixer.specs.Fraction.{fractionOf};
-ghost use Rattle.run_meter.specs.Measure.{measureOf};
+ghost use Rattle.meter.specs.Measure.{measureOf};
 ghost use Rattle.c_meter.specs.Packed.{meterPacked, recordsPacked};
 
 // What a list of levels is. Refused: 29.

@@ -2,7 +2,7 @@
 ghost use mathlib.Core.Path.{_≡_};
 ghost use Prim.Native.Nat.{_/_, _%_, _^_};
 ghost use lib.ListN.{length, take};
-ghost use Rattle.log_mending.specs.Promise.{Mends};
+ghost use Rattle.log_salvage_rules.specs.Promise.{Mends};
 ghost use Rattle.log_salvage.specs.Answer.{salvageText, salvageList};
 ghost use Rattle.c_salvage.specs.Packed.{salvagePacked};
 

@@ -11,13 +11,13 @@ use lib.ListN.{length, take, drop, length-append}
 use lib.Seq.{sets, sets-eq, length-sets, take-at, drop-at, drop-drop, length-take-le}
 use borrow.Author.Tests.{eqb-true, eqb-false, leb-true, leb-false}
 use Rattle.arith.specs.Pick.{pick, both}
-use Rattle.machine.specs.Saying.{over, refused}
+use Rattle.reading.specs.Saying.{over, refused}
 use Rattle.chip.specs.Range.{inRange}
 use Rattle.play_text.specs.declared.Entry.{Entry}
 use Rattle.play_text.specs.Entries.{entriesText}
 use Rattle.play_text.proofs.TextLaws.{entries-append, entries-none, entries-empty}
-use Rattle.play_model.specs.declared.Player.{Player}
-use Rattle.play_model.specs.Turns.{Go, turnOf, Goes, here, quietly, saying}
+use Rattle.play_rules.specs.declared.Player.{Player}
+use Rattle.play_rules.specs.Turns.{Go, turnOf, Goes, here, quietly, saying}
 use Rattle.play_step.specs.declared.Taken.{Taken}
 use Rattle.play_step.proofs.TakenLaws.{Moved, Took}
 use Rattle.play.specs.declared.Played.{Played}

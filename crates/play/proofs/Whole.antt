@@ -9,20 +9,20 @@ use lib.Dec.{leb}
 use lib.ListN.{length, take, length-append}
 use borrow.Author.Tests.{eq-eqb, leb-true}
 use Rattle.arith.specs.Pick.{pick}
-use Rattle.log_judge.specs.Head.{machineOf}
-use Rattle.log_judge.specs.Tree.{acts}
-use Rattle.log_judge.specs.Whole.{treeOf, checkOf}
+use Rattle.log_rules.specs.Head.{machineOf}
+use Rattle.log_rules.specs.Tree.{acts}
+use Rattle.log_rules.specs.Whole.{treeOf, checkOf}
 use Rattle.chip_api.specs.Answer.{isMemory}
 use Rattle.chip.specs.Range.{inRange}
 use Rattle.chip.proofs.RangeLaws.{power-on-in}
 use Rattle.play_text.specs.declared.Entry.{Entry}
 use Rattle.play_text.specs.Entries.{entriesText}
 use Rattle.play_text.proofs.TextLaws.{entries-append, entries-none, entries-empty}
-use Rattle.play_model.specs.declared.Player.{Player}
-use Rattle.play_model.specs.Sound.{entriesOf}
-use Rattle.play_model.specs.Turns.{freshPlayer, turnOf}
-use Rattle.play_model.proofs.Saying.{Told, fresh-told}
-use Rattle.play_model.proofs.TellLaws.{Left, left, never-refused, over-none}
+use Rattle.play_rules.specs.declared.Player.{Player}
+use Rattle.play_rules.specs.Sound.{entriesOf}
+use Rattle.play_rules.specs.Turns.{freshPlayer, turnOf}
+use Rattle.play_rules.proofs.Saying.{Told, fresh-told}
+use Rattle.play_rules.proofs.TellLaws.{Left, left, never-refused, over-none}
 use Rattle.play.specs.declared.Played.{Played}
 use Rattle.play.specs.Playing.{Piece, Answered, PlayedOn}
 use Rattle.play_begin.specs.Whole.{playNumber, playText}

@@ -3,7 +3,7 @@
 use mathlib.Core.Bool.{false}
 use lib.Dec.{eqb}
 use Rattle.arith.specs.Pick.{pick, both}
-use Rattle.play_model.specs.declared.Player.{Player}
+use Rattle.play_rules.specs.declared.Player.{Player}
 use Rattle.play_step.specs.declared.Taken.{Taken}
 use Rattle.play.specs.declared.Played.{Played}
 

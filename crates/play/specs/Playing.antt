@@ -5,13 +5,13 @@ use mathlib.Core.Logic.{_⊎_}
 use mathlib.Core.Bool.{Bool, true, false}
 use mathlib.Core.List.{List, []}
 use lib.ListN.{length, take, drop}
-use Rattle.machine.specs.Saying.{over, refused}
+use Rattle.reading.specs.Saying.{over, refused}
 use Rattle.chip.specs.Range.{inRange}
 use Rattle.chip_api.specs.Answer.{isMemory}
 use Rattle.play_text.specs.Entries.{entriesText}
 use Rattle.play_text.specs.declared.Entry.{Entry}
-use Rattle.play_model.specs.Turns.{turnOf, Goes}
-use Rattle.play_model.specs.declared.Player.{Player}
+use Rattle.play_rules.specs.Turns.{turnOf, Goes}
+use Rattle.play_rules.specs.declared.Player.{Player}
 use Rattle.play.specs.declared.Played.{Played}
 
 -- WHAT A CALL OF `play_on` WRITES. How full a piece gets is left free: `entries` are its lines, `turns` how far the player went.

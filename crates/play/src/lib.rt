@@ -6,7 +6,7 @@ ghost use lib.ListN.{length};
 ghost use Rattle.chip.specs.Range.{inRange};
 ghost use Rattle.play.specs.Loop.{answerOf};
 ghost use Rattle.play.specs.Playing.{Answered, PlayedOn};
-use play_model::Player;
+use play_rules::Player;
 use play_step::Taken;
 
 // The answer of `play_on`: the player behind the lines, their bytes, and whether all is over.

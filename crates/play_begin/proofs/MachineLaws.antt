@@ -7,12 +7,12 @@ use lib.Dec.{eqb}
 use lib.ListN.{length}
 use borrow.Author.Tests.{eq-eqb, eqb-true}
 use Rattle.arith.specs.Pick.{pick}
-use Rattle.log_judge.specs.Head.{machineOf}
-use Rattle.log_judge.specs.Whole.{checkOf}
-use Rattle.log_judge.specs.declared.Checked.{Checked}
+use Rattle.log_rules.specs.Head.{machineOf}
+use Rattle.log_rules.specs.Whole.{checkOf}
+use Rattle.log_rules.specs.declared.Checked.{Checked}
 use Rattle.log_passing.proofs.Passing.{clear, passes}
-use Rattle.play_model.specs.Turns.{freshPlayer, endedPlayer}
-use Rattle.play_model.specs.declared.Player.{Player}
+use Rattle.play_rules.specs.Turns.{freshPlayer, endedPlayer}
+use Rattle.play_rules.specs.declared.Player.{Player}
 use Rattle.play_begin.specs.declared.Begun.{Begun}
 use Rattle.play_begin.specs.Whole.{playNumber, playPlace, begunOf}
 

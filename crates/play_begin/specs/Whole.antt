@@ -4,12 +4,12 @@ use mathlib.Core.List.{List}
 use lib.Dec.{eqb}
 use Rattle.arith.specs.Pick.{pick}
 use Rattle.chip_api.specs.Answer.{isMemory}
-use Rattle.log_judge.specs.Head.{machineOf}
-use Rattle.log_judge.specs.Tree.{acts}
-use Rattle.log_judge.specs.Whole.{treeOf, checkOf}
+use Rattle.log_rules.specs.Head.{machineOf}
+use Rattle.log_rules.specs.Tree.{acts}
+use Rattle.log_rules.specs.Whole.{treeOf, checkOf}
 use Rattle.play_text.specs.Entries.{entriesText, refusalText}
-use Rattle.play_model.specs.Sound.{entriesOf}
-use Rattle.play_model.specs.Turns.{freshPlayer, endedPlayer}
+use Rattle.play_rules.specs.Sound.{entriesOf}
+use Rattle.play_rules.specs.Turns.{freshPlayer, endedPlayer}
 use Rattle.play_begin.specs.declared.Begun.{Begun}
 
 -- 1 at 0 for a sample memory that isn't 32,768 bytes, then the log's own number and place

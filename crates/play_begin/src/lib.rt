@@ -2,9 +2,9 @@
 ghost use mathlib.Core.Path.{_≡_};
 ghost use lib.Dec.{eqb};
 ghost use Rattle.arith.specs.Pick.{pick};
-ghost use Rattle.play_model.specs.Turns.{freshPlayer, endedPlayer};
+ghost use Rattle.play_rules.specs.Turns.{freshPlayer, endedPlayer};
 ghost use Rattle.play_begin.specs.Whole.{begunOf};
-use play_model::Player;
+use play_rules::Player;
 
 // The answer of `begin`.
 pub struct Begun {

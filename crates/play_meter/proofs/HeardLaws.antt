@@ -15,10 +15,10 @@ use Rattle.chip.specs.Level.{stateLevel}
 use Rattle.chip.specs.declared.State.{State}
 use Rattle.play_text.specs.declared.Entry.{Entry}
 use Rattle.play_text.specs.declared.Entry.the-variants.{Level}
-use Rattle.play_model.specs.Sound.{heard, waited, readLine}
-use Rattle.run_meter.specs.declared.Span.{Span}
-use Rattle.run_meter.specs.Levels.{lowest, highest}
-use Rattle.run_meter.specs.Spans.{spanOver}
+use Rattle.play_rules.specs.Sound.{heard, waited, readLine}
+use Rattle.meter.specs.declared.Span.{Span}
+use Rattle.meter.specs.Levels.{lowest, highest}
+use Rattle.meter.specs.Spans.{spanOver}
 use Rattle.play_meter.specs.Meters.{levelsOf}
 use Rattle.play_meter.specs.Walking.{changed}
 

@@ -15,11 +15,11 @@ use Rattle.chip_api.specs.Answer.{isMemory}
 use Rattle.log_cursor.specs.Stepping.{stepOf, told}
 use Rattle.log_cursor.specs.declared.Cursor.{Cursor}
 use Rattle.log_line.specs.declared.Act.the-variants.{Wait}
-use Rattle.machine.specs.Saying.{over}
-use Rattle.play_model.specs.Sound.{waited}
-use Rattle.run_meter.specs.declared.Measured.{Measured}
-use Rattle.run_meter.specs.Spans.{spanAt, toldOf}
-use Rattle.run_meter.proofs.Answers.{told-is}
+use Rattle.reading.specs.Saying.{over}
+use Rattle.play_rules.specs.Sound.{waited}
+use Rattle.meter.specs.declared.Measured.{Measured}
+use Rattle.meter.specs.Spans.{spanAt, toldOf}
+use Rattle.meter.proofs.Answers.{told-is}
 use Rattle.play_meter.specs.declared.Moment.{Moment}
 use Rattle.play_meter.specs.declared.waits.Gauge.{Gauge}
 use Rattle.play_meter.specs.declared.waits.Next.{Next}

@@ -9,20 +9,20 @@ use lib.ListN.{length, take, drop}
 use lib.Seq.{take-at}
 use Rattle.arith.specs.Iterate.{iterate}
 use Rattle.arith.specs.Pick.{pick}
-use Rattle.machine.specs.Reading.{Mark, Progress, start, same, stopped, unrecorded, recorded, worked, reading, plain}
-use Rattle.machine.proofs.ReadingLaws.{plain-went}
+use Rattle.reading.specs.Reading.{Mark, Progress, start, same, stopped, unrecorded, recorded, worked, reading, plain}
+use Rattle.reading.proofs.ReadingLaws.{plain-went}
 use Rattle.chip.specs.Clock.{chipClock}
 use Rattle.chip.specs.Range.{inRange, Bytes}
 use Rattle.chip.specs.declared.State.{State}
-use Rattle.run_answer.specs.Run.{chipMachine, flat, over, readBy, answered, answer, lent}
+use Rattle.run_answer.specs.Run.{chipClockwork, flat, over, readBy, answered, answer, lent}
 use Rattle.run_answer.specs.declared.Ran.{Ran}
 use Rattle.run_answer.proofs.AnswerLaws.{number-none}
-use Rattle.run_meter.specs.declared.Span.{Span}
-use Rattle.run_meter.specs.Levels.{lowest, highest}
-use Rattle.run_meter.specs.Records.{levelsIn, recordLevels}
-use Rattle.run_meter.specs.Spans.{spanOver}
-use Rattle.play_to.specs.Walking.{portion}
-use Rattle.play_to.proofs.ClockLaws.{nearer}
+use Rattle.meter.specs.declared.Span.{Span}
+use Rattle.meter.specs.Levels.{lowest, highest}
+use Rattle.meter.specs.Records.{levelsIn, recordLevels}
+use Rattle.meter.specs.Spans.{spanOver}
+use Rattle.play_at.specs.Walking.{portion}
+use Rattle.play_at.proofs.ClockLaws.{nearer}
 use Rattle.play_meter.specs.Walking.{changed, meterMoment, clocksOn}
 use Rattle.play_meter.proofs.HeardLaws.{span-append, changed-add}
 
@@ -54,11 +54,11 @@ module _ (memory : List ℕ) where
     done : q .done ≡ p .done + clocks
     heard : levels (q .marks) ≡ levels (p .marks) ++ changed memory clocks (p .state)
 
-  went-worked : (p q : Progress State) → Went (worked (chipMachine memory) p) q → Went p q
+  went-worked : (p q : Progress State) → Went (worked (chipClockwork memory) p) q → Went p q
   unfolding worked changed
-  went-worked p q w = by (same (chipMachine memory) (p .state)) refl w
+  went-worked p q w = by (same (chipClockwork memory) (p .state)) refl w
     where
-      by : (t : Bool) → same (chipMachine memory) (p .state) ≡ t → Went (pick t (unrecorded (chipMachine memory) p) (recorded (chipMachine memory) p)) q → Went p q
+      by : (t : Bool) → same (chipClockwork memory) (p .state) ≡ t → Went (pick t (unrecorded (chipClockwork memory) p) (recorded (chipClockwork memory) p)) q → Went p q
       by true e w = record { clocks = suc (w .clocks); done = omega (arith, w .done); heard = w .heard ∙ rw e refl }
       by false e w =
           record {
@@ -67,21 +67,21 @@ module _ (memory : List ℕ) where
             heard = w .heard ∙ rw (map-append, append-assoc, e) refl;
           }
 
-  reading-went : (n : ℕ) (p : Progress State) → Went p (reading (chipMachine memory) n p)
+  reading-went : (n : ℕ) (p : Progress State) → Went p (reading (chipClockwork memory) n p)
   unfolding reading changed
   reading-went zero p = record { clocks = 0; done = omega arith; heard = sym (append-nil (levels (p .marks))) }
-  reading-went (suc n) p = by (stopped (chipMachine memory) p) (went-worked p (reading (chipMachine memory) n (worked (chipMachine memory) p)) (reading-went n (worked (chipMachine memory) p)))
+  reading-went (suc n) p = by (stopped (chipClockwork memory) p) (went-worked p (reading (chipClockwork memory) n (worked (chipClockwork memory) p)) (reading-went n (worked (chipClockwork memory) p)))
     where
-      by : (t : Bool) → Went p (reading (chipMachine memory) n (worked (chipMachine memory) p)) → Went p (pick t p (reading (chipMachine memory) n (worked (chipMachine memory) p)))
+      by : (t : Bool) → Went p (reading (chipClockwork memory) n (worked (chipClockwork memory) p)) → Went p (pick t p (reading (chipClockwork memory) n (worked (chipClockwork memory) p)))
       by true w = record { clocks = 0; done = omega arith; heard = sym (append-nil (levels (p .marks))) }
       by false w = w
 
   -- THE RECORDS OF A READING are the levels that its clocks brought
-  plain-heard : (room n : ℕ) (s : State) → levels (plain (chipMachine memory) room n s .marks) ≡ changed memory (plain (chipMachine memory) room n s .done) s
+  plain-heard : (room n : ℕ) (s : State) → levels (plain (chipClockwork memory) room n s .marks) ≡ changed memory (plain (chipClockwork memory) room n s .done) s
   unfolding plain
   plain-heard room n s =
       let w = reading-went n (start room s) in
-      let e : w .clocks ≡ reading (chipMachine memory) n (start room s) .done = omega (arith, w .done) in
+      let e : w .clocks ≡ reading (chipClockwork memory) n (start room s) .done = omega (arith, w .done) in
       w .heard ∙ ap (λ (k : ℕ). changed memory k s) e
 
 -- a run of a part of the clocks left, and the levels of its records
@@ -93,7 +93,7 @@ pub record Onward (memory : List ℕ) (s : State) (span : Span) (left : ℕ) (r 
 
 module _ (memory : List ℕ) (s : State) (span : Span) (left : ℕ) (words after : List ℕ) (r : Ran) (long : length memory ≡ 32768) (fine : inRange s ≡ true) where
   abbrev read : Progress State
-  read = plain (chipMachine memory) (length words / 2) (portion left) s
+  read = plain (chipClockwork memory) (length words / 2) (portion left) s
 
   ran : r ≡ answer memory s (portion left) words → r ≡ record { number = 0; state = read .state; done = read .done; records = length (read .marks) }
   unfolding answer answered readBy
@@ -107,7 +107,7 @@ module _ (memory : List ℕ) (s : State) (span : Span) (left : ℕ) (words after
   run-levels e f = rw (ran e, kept f) (records-levels (read .marks) words ∙ plain-heard memory (length words / 2) (portion left) s)
 
   run-state : r ≡ answer memory s (portion left) words → r .state ≡ iterate (chipClock memory) (r .done) s
-  run-state e = rw (ran e) (plain-went (chipMachine memory) (length words / 2) (portion left) s)
+  run-state e = rw (ran e) (plain-went (chipClockwork memory) (length words / 2) (portion left) s)
 
   pub onward : Bytes memory → 2 ≤ length words → 0 < left → r ≡ answer memory s (portion left) words → after ≡ lent memory s (portion left) words
       → Onward memory s span left r after

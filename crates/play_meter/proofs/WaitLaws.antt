@@ -12,16 +12,16 @@ use Rattle.bus.specs.declared.Access.the-variants as bus
 use Rattle.log_line.specs.declared.Act.{Act}
 use Rattle.log_line.specs.declared.Act.the-variants.{Wait, Access}
 use Rattle.log_line.specs.Printed.{Allowed}
-use Rattle.log_judge.specs.Head.{machineOf}
-use Rattle.log_judge.specs.Tree.{acts, actClocks}
-use Rattle.log_judge.specs.Whole.{treeOf, checkOf}
+use Rattle.log_rules.specs.Head.{machineOf}
+use Rattle.log_rules.specs.Tree.{acts, actClocks}
+use Rattle.log_rules.specs.Whole.{treeOf, checkOf}
 use Rattle.log_passing.proofs.ActLaws.{Every, every-acts, clocksIn, clocks-listed}
 use Rattle.log_passing.proofs.Passing.{clear, stands}
 use Rattle.log_cursor.specs.declared.Cursor.{Cursor}
 use Rattle.log_cursor.specs.Stepping.{stepOf, told}
 use Rattle.log_cursor.proofs.Whole.{cursor-gives}
-use Rattle.machine.specs.Saying.{over, on, says, Gives, ends, goes, gives}
-use Rattle.machine.proofs.SayingLaws.{by-says, by-on, by-over}
+use Rattle.reading.specs.Saying.{over, on, says, Gives, ends, goes, gives}
+use Rattle.reading.proofs.SayingLaws.{by-says, by-on, by-over}
 use Rattle.chip.specs.Clock.{chipClock}
 use Rattle.chip.specs.Range.{inRange, powerOn, Bytes}
 use Rattle.chip.specs.declared.State.{State}

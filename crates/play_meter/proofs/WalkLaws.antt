@@ -13,27 +13,27 @@ use Rattle.arith.specs.Pick.{pick}
 use Rattle.bus.specs.declared.Access as busAccess
 use Rattle.log_line.specs.declared.Act.{Act}
 use Rattle.log_line.specs.declared.Act.the-variants.{Wait, Access}
-use Rattle.log_judge.specs.Head.{machineOf}
-use Rattle.log_judge.specs.Tree.{acts, actClocks}
-use Rattle.log_judge.specs.Whole.{treeOf, checkOf}
-use Rattle.log_judge.specs.declared.Checked.{Checked}
+use Rattle.log_rules.specs.Head.{machineOf}
+use Rattle.log_rules.specs.Tree.{acts, actClocks}
+use Rattle.log_rules.specs.Whole.{treeOf, checkOf}
+use Rattle.log_rules.specs.declared.Checked.{Checked}
 use Rattle.log_cursor.specs.declared.Cursor.{Cursor}
 use Rattle.log_cursor.specs.Stepping.{beginning, stepOf, told}
-use Rattle.log_cursor.specs.declared.Found.{Found}
+use Rattle.log_cursor.specs.declared.Given.{Given}
 use Rattle.log_cursor.proofs.Whole.{cursor-gives}
-use Rattle.machine.specs.Saying.{over, on, Gives, ends, goes, gives}
-use Rattle.machine.proofs.SayingLaws.{within}
+use Rattle.reading.specs.Saying.{over, on, Gives, ends, goes, gives}
+use Rattle.reading.proofs.SayingLaws.{within}
 use Rattle.chip.specs.Clock.{chipClock}
 use Rattle.chip.specs.Level.{stateLevel}
 use Rattle.chip.specs.Range.{inRange, powerOn}
 use Rattle.chip.specs.declared.State.{State}
 use Rattle.chip.proofs.RangeLaws.{power-on-in}
 use Rattle.chip_access.specs.Access.{accessState}
-use Rattle.play_model.specs.Sound.{heard, entriesFrom, entriesOf}
-use Rattle.run_meter.specs.declared.Span.{Span}
-use Rattle.run_meter.specs.Levels.{lowest, highest}
-use Rattle.run_meter.specs.Spans.{spanAt, spanOver, toldOf}
-use Rattle.run_meter.proofs.Answers.{told-is}
+use Rattle.play_rules.specs.Sound.{heard, entriesFrom, entriesOf}
+use Rattle.meter.specs.declared.Span.{Span}
+use Rattle.meter.specs.Levels.{lowest, highest}
+use Rattle.meter.specs.Spans.{spanAt, spanOver, toldOf}
+use Rattle.meter.proofs.Answers.{told-is}
 use Rattle.play_meter.specs.declared.Moment.{Moment}
 use Rattle.play_meter.specs.Meters.{levelsOf, actsMeter, refusedAnswer, logMeter}
 use Rattle.play_meter.specs.Walking.{changed, meterMoment, clocksOn, heardBy, accessOn, actOn, foundOn, spanFor, spanOf, MeterWalking}
@@ -102,7 +102,7 @@ module _ (log memory : List ℕ) where
   -- by what the cursor's step says
   step-on : {cursor : Cursor} {rest : List Act} {left : ℕ} → Gives (stepOf log) cursor rest left → (t : ℕ) (m : Moment)
       → spanFor memory rest t (m .state) (m .span) ≡ spanOf log memory
-      → (x : Found) → x ≡ told (stepOf log cursor .said) → (next : Moment) → next ≡ foundOn memory x m → inRange (next .state) ≡ true
+      → (x : Given) → x ≡ told (stepOf log cursor .said) → (next : Moment) → next ≡ foundOn memory x m → inRange (next .state) ≡ true
       → Onward log memory (stepOf log cursor .state) next left
   unfolding foundOn
   step-on (ends f e p) t m same x fx next en fine =
@@ -125,7 +125,7 @@ module _ (log memory : List ℕ) where
       }
 
   pub walk-on : (cursor : Cursor) (m : Moment) (left : ℕ) → MeterWalking log memory cursor m left
-      → (x : Found) → x ≡ told (stepOf log cursor .said) → (next : Moment) → next ≡ foundOn memory x m → inRange (next .state) ≡ true
+      → (x : Given) → x ≡ told (stepOf log cursor .said) → (next : Moment) → next ≡ foundOn memory x m → inRange (next .state) ≡ true
       → Onward log memory (stepOf log cursor .state) next left
   walk-on cursor m left w = step-on (w .gives) (w .time) m (w .same)
 

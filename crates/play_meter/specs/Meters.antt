@@ -8,9 +8,9 @@ use Rattle.arith.specs.Iterate.{iterate}
 use Rattle.arith.specs.Pick.{pick}
 use Rattle.log_line.specs.declared.Act.{Act}
 use Rattle.log_line.specs.declared.Act.the-variants.{Wait, Access}
-use Rattle.log_judge.specs.Head.{machineOf}
-use Rattle.log_judge.specs.Tree.{acts}
-use Rattle.log_judge.specs.Whole.{treeOf, checkOf}
+use Rattle.log_rules.specs.Head.{machineOf}
+use Rattle.log_rules.specs.Tree.{acts}
+use Rattle.log_rules.specs.Whole.{treeOf, checkOf}
 use Rattle.chip.specs.Clock.{chipClock}
 use Rattle.chip.specs.Level.{stateLevel}
 use Rattle.chip.specs.declared.State.{State}
@@ -18,10 +18,10 @@ use Rattle.chip_access.specs.Access.{accessState}
 use Rattle.chip_api.specs.Answer.{isMemory}
 use Rattle.play_text.specs.declared.Entry.{Entry}
 use Rattle.play_text.specs.declared.Entry.the-variants.{Play, Level, Read, Stop}
-use Rattle.play_model.specs.Sound.{waited, entriesOf}
-use Rattle.run_meter.specs.declared.Measured.{Measured}
-use Rattle.run_meter.specs.declared.Measured.the-variants.{NoLevels}
-use Rattle.run_meter.specs.Measure.{measureOf}
+use Rattle.play_rules.specs.Sound.{waited, entriesOf}
+use Rattle.meter.specs.declared.Measured.{Measured}
+use Rattle.meter.specs.declared.Measured.the-variants.{NoLevels}
+use Rattle.meter.specs.Measure.{measureOf}
 use Rattle.play_meter.specs.declared.Answer.{Answer}
 
 -- the levels of the player's level lines

@@ -1,4 +1,4 @@
--- The waits of a log as a machine that says them, one step of the log's cursor at a time, for any gauge and any bytes.
+-- The waits of a log as a teller that says them, one step of the log's cursor at a time, for any gauge and any bytes.
 use Prim.Native.Nat.{ℕ, _+_}
 use mathlib.Core.Bool.{Bool}
 use mathlib.Core.List.{List}
@@ -7,11 +7,11 @@ use Rattle.arith.specs.Iterate.{iterate}
 use Rattle.arith.specs.Pick.{pick, both}
 use Rattle.log_line.specs.declared.Act.{Act}
 use Rattle.log_line.specs.declared.Act.the-variants.{Wait, Access}
-use Rattle.log_judge.specs.Head.{machineOf}
+use Rattle.log_rules.specs.Head.{machineOf}
 use Rattle.log_cursor.specs.declared.Cursor.{Cursor}
-use Rattle.log_cursor.specs.declared.Found.{Found}
+use Rattle.log_cursor.specs.declared.Given.{Given}
 use Rattle.log_cursor.specs.Stepping.{beginning, stepOf, told}
-use Rattle.machine.specs.Saying.{Said, over, on, says, refused, Turn}
+use Rattle.reading.specs.Saying.{Said, over, on, says, refused, Turn}
 use Rattle.chip.specs.Clock.{chipClock}
 use Rattle.chip.specs.Range.{inRange, powerOn}
 use Rattle.chip.specs.declared.State.{State}
@@ -43,11 +43,11 @@ actPass memory g c (Wait n) =
 actPass memory g c (Access x) = go on (gaugeOf (g .time) (accessState x (g .state)) c)
 
 -- what a step of the cursor found; a line at fault ends the waits
-unfoldable pub foundPass : List ℕ → Gauge → Cursor → Found → Go
-foundPass memory g c (Found.Act a) = actPass memory g c a
-foundPass memory g c Found.Moved = go on (gaugeOf (g .time) (g .state) c)
-foundPass memory g c Found.End = go over (gaugeOf (g .time) (g .state) c)
-foundPass memory g c (Found.Refused k p) = go over (gaugeOf (g .time) (g .state) c)
+unfoldable pub foundPass : List ℕ → Gauge → Cursor → Given → Go
+foundPass memory g c (Given.Act a) = actPass memory g c a
+foundPass memory g c Given.Moved = go on (gaugeOf (g .time) (g .state) c)
+foundPass memory g c Given.End = go over (gaugeOf (g .time) (g .state) c)
+foundPass memory g c (Given.Refused k p) = go over (gaugeOf (g .time) (g .state) c)
 
 -- 1: "sample memory isn't 32,768 bytes"; 2: "a state field is outside its range"; 9: "over 2,000,000,000 clocks"
 unfoldable pub ready : List ℕ → Gauge → Bool

@@ -9,21 +9,21 @@ use Rattle.arith.specs.Pick.{pick}
 use Rattle.bus.specs.declared.Access as busAccess
 use Rattle.log_line.specs.declared.Act.{Act}
 use Rattle.log_line.specs.declared.Act.the-variants.{Wait, Access}
-use Rattle.log_judge.specs.Head.{machineOf}
-use Rattle.log_judge.specs.Tree.{acts}
-use Rattle.log_judge.specs.Whole.{treeOf}
+use Rattle.log_rules.specs.Head.{machineOf}
+use Rattle.log_rules.specs.Tree.{acts}
+use Rattle.log_rules.specs.Whole.{treeOf}
 use Rattle.log_cursor.specs.declared.Cursor.{Cursor}
-use Rattle.log_cursor.specs.declared.Found.{Found}
+use Rattle.log_cursor.specs.declared.Given.{Given}
 use Rattle.log_cursor.specs.Stepping.{stepOf}
-use Rattle.machine.specs.Saying.{Gives}
+use Rattle.reading.specs.Saying.{Gives}
 use Rattle.chip.specs.Clock.{chipClock}
 use Rattle.chip.specs.Level.{stateLevel}
 use Rattle.chip.specs.Range.{inRange, powerOn}
 use Rattle.chip.specs.declared.State.{State}
 use Rattle.chip_access.specs.Access.{accessState}
-use Rattle.play_model.specs.Sound.{entriesFrom}
-use Rattle.run_meter.specs.declared.Span.{Span}
-use Rattle.run_meter.specs.Spans.{spanAt, spanOver}
+use Rattle.play_rules.specs.Sound.{entriesFrom}
+use Rattle.meter.specs.declared.Span.{Span}
+use Rattle.meter.specs.Spans.{spanAt, spanOver}
 use Rattle.play_meter.specs.declared.Moment.{Moment}
 use Rattle.play_meter.specs.Meters.{levelsOf}
 
@@ -55,11 +55,11 @@ actOn memory (Wait n) m = clocksOn memory n (m .state) (m .span)
 actOn memory (Access x) m = accessOn x m
 
 -- what a step of the cursor found: at the log's end all is over
-unfoldable pub foundOn : List ℕ → Found → Moment → Moment
-foundOn memory (Found.Act a) m = actOn memory a m
-foundOn memory Found.Moved m = meterMoment false (m .state) (m .span)
-foundOn memory Found.End m = meterMoment true (m .state) (m .span)
-foundOn memory (Found.Refused k p) m = meterMoment true (m .state) (m .span)
+unfoldable pub foundOn : List ℕ → Given → Moment → Moment
+foundOn memory (Given.Act a) m = actOn memory a m
+foundOn memory Given.Moved m = meterMoment false (m .state) (m .span)
+foundOn memory Given.End m = meterMoment true (m .state) (m .span)
+foundOn memory (Given.Refused k p) m = meterMoment true (m .state) (m .span)
 
 -- the lowest and the highest of what was heard and of the lines that the acts still bring
 unfoldable pub spanFor : List ℕ → List Act → ℕ → State → Span → Span

@@ -4,17 +4,17 @@ ghost use mathlib.Core.Bool.{true, false};
 ghost use Prim.Native.Nat.{_≤_};
 ghost use lib.ListN.{length};
 ghost use Rattle.chip.specs.Range.{inRange};
-ghost use Rattle.log_judge.specs.Head.{machineOf};
-ghost use Rattle.log_judge.specs.Tree.{acts};
-ghost use Rattle.log_judge.specs.Whole.{treeOf, checkOf};
+ghost use Rattle.log_rules.specs.Head.{machineOf};
+ghost use Rattle.log_rules.specs.Tree.{acts};
+ghost use Rattle.log_rules.specs.Whole.{treeOf, checkOf};
 ghost use Rattle.play_meter.specs.Meters.{actsMeter, refusedAnswer, logMeter};
 ghost use Rattle.play_meter.specs.Walking.{meterMoment, clocksOn, heardBy, accessOn, actOn, foundOn};
 use bus::Access;
 use chip::State;
-use log_cursor::Found;
+use log_cursor::Given;
 use log_line::Act;
-use run_meter::Measured;
-use run_meter::Span;
+use meter::Measured;
+use meter::Span;
 
 pub mod waits;
 
@@ -64,7 +64,7 @@ fn clocks_on(s: State, span: Span, memory: &[u8], n: u64, words: &mut [u32]) -> 
     let mut left = n;
     while 0 < left {
         let r = run::uncounted(state, memory, arith::least_u64(left, 1000000), words);
-        heard = run_meter::records::with_records(heard, words, 0, r.records as usize);
+        heard = meter::records::with_records(heard, words, 0, r.records as usize);
         left -= arith::wide_u32(r.done);
         state = r.state;
     }
@@ -78,7 +78,7 @@ fn heard_by(span: Span, before: u16, after: u16) -> Span
     if after == before {
         span
     } else {
-        run_meter::with_level(span, after as u32)
+        meter::with_level(span, after as u32)
     }
 }
 
@@ -111,7 +111,7 @@ fn act_on(m: Moment, memory: &[u8], a: Act, words: &mut [u32]) -> Moment
 }
 
 // What a step of the cursor found.
-fn found_on(m: Moment, memory: &[u8], f: Found, words: &mut [u32]) -> Moment
+fn found_on(m: Moment, memory: &[u8], f: Given, words: &mut [u32]) -> Moment
     requires { ⌜ (length (now memory) ≡ 32768) × (inRange (m .state) ≡ true) ⌝ }
     requires { ⌜ 2 ≤ length (now words) ⌝ }
     ensures { λ r. ⌜ r ≡ foundOn (now (memory .entry)) f m ⌝ }
@@ -120,10 +120,10 @@ fn found_on(m: Moment, memory: &[u8], f: Found, words: &mut [u32]) -> Moment
     let s = m.state;
     let span = m.span;
     match f {
-        Found::Act(a) => act_on(m, memory, a, words),
-        Found::Moved => moment_of(false, s, span),
-        Found::End => moment_of(true, s, span),
-        Found::Refused(_, _) => moment_of(true, s, span),
+        Given::Act(a) => act_on(m, memory, a, words),
+        Given::Moved => moment_of(false, s, span),
+        Given::End => moment_of(true, s, span),
+        Given::Refused(_, _) => moment_of(true, s, span),
     }
 }
 
@@ -135,7 +135,7 @@ fn walk(log: &[u8], memory: &[u8], words: &mut [u32]) -> Measured
 {
     let mut cursor = log_cursor::start();
     let first = chip::power_on(log_read::is_pal(log));
-    let mut m = moment_of(false, first, run_meter::at_level(first.level() as u32));
+    let mut m = moment_of(false, first, meter::at_level(first.level() as u32));
     let mut left: u32 = 2000002;
     while 0 < left {
         let s = log_cursor::step(log, cursor);
@@ -144,12 +144,12 @@ fn walk(log: &[u8], memory: &[u8], words: &mut [u32]) -> Measured
         m = found_on(m, memory, f, words);
         if m.over {
             let span = m.span;
-            return run_meter::told(span);
+            return meter::told(span);
         }
         left -= 1;
     }
     let span = m.span;
-    run_meter::told(span)
+    meter::told(span)
 }
 
 // The meter of what a log sounds like, from power-on of its machine. Refused: 1 at 0, and then what the log's check refuses.

@@ -5,14 +5,14 @@ ghost use Prim.Native.Nat.{_≤_};
 ghost use lib.ListN.{length};
 ghost use Rattle.chip.specs.Range.{inRange};
 ghost use Rattle.chip_access.specs.Access.{accessState};
-ghost use Rattle.machine.specs.Saying.{over, on};
+ghost use Rattle.reading.specs.Saying.{over, on};
 ghost use Rattle.play_meter.specs.Passing.{gaugeOf, gaugeStart, go, actPass, foundPass, ready, passOf, passed};
 use bus::Access;
 use chip::State;
 use log_cursor::Cursor;
-use log_cursor::Found;
+use log_cursor::Given;
 use log_line::Act;
-use run_meter::Measured;
+use meter::Measured;
 
 // A moment of a log: the clocks done, the state and the place in the log.
 pub struct Gauge {
@@ -62,14 +62,14 @@ fn pass_wait(g: Gauge, c: Cursor, memory: &[u8], n: u32, words: &mut [u32]) -> P
     let s = g.state;
     let m = super::clocks_on(
         s,
-        run_meter::at_level(s.level() as u32),
+        meter::at_level(s.level() as u32),
         memory,
         arith::wide_u32(n),
         words,
     );
     let far = m.state;
     let span = m.span;
-    let meter = run_meter::told(span);
+    let meter = meter::told(span);
     let after = gauge_of(g.time + arith::wide_u32(n), far, c);
     Passed {
         next: Next::Wait(g.time, n, meter),
@@ -128,16 +128,16 @@ fn ended(g: Gauge, c: Cursor) -> Passed
 }
 
 // What a step of the cursor found.
-fn pass_found(g: Gauge, c: Cursor, memory: &[u8], f: Found, words: &mut [u32]) -> Passed
+fn pass_found(g: Gauge, c: Cursor, memory: &[u8], f: Given, words: &mut [u32]) -> Passed
     requires { ⌜ (length (now memory) ≡ 32768) × (inRange (g .state) ≡ true) × (g .time ≤ 2000000000) ⌝ }
     requires { ⌜ 2 ≤ length (now words) ⌝ }
     ensures { λ r. ⌜ r ≡ passed (foundPass (now (memory .entry)) g c f) ⌝ }
 {
     match f {
-        Found::Act(a) => pass_act(g, c, memory, a, words),
-        Found::Moved => moved(g, c),
-        Found::End => ended(g, c),
-        Found::Refused(_, _) => ended(g, c),
+        Given::Act(a) => pass_act(g, c, memory, a, words),
+        Given::Moved => moved(g, c),
+        Given::End => ended(g, c),
+        Given::Refused(_, _) => ended(g, c),
     }
 }
 

@@ -13,8 +13,8 @@ use Rattle.bus.specs.declared.Access.the-variants.{Write}
 use Rattle.log_line.specs.declared.Act.{Act}
 use Rattle.log_line.specs.declared.Act.the-variants.{Wait, Access}
 use Rattle.log_line.specs.Printed.{Allowed}
-use Rattle.log_judge.specs.Head.{machineOf}
-use Rattle.log_judge.specs.Whole.{checkOf}
+use Rattle.log_rules.specs.Head.{machineOf}
+use Rattle.log_rules.specs.Whole.{checkOf}
 use Rattle.chip.specs.Clock.{chipClock}
 use Rattle.chip.specs.Level.{stateLevel}
 use Rattle.chip.specs.Range.{powerOn}
@@ -22,9 +22,9 @@ use Rattle.chip.specs.declared.State.{State}
 use Rattle.chip_access.specs.Access.{accessState}
 use Rattle.play_text.specs.declared.Entry.{Entry}
 use Rattle.play_text.specs.declared.Entry.the-variants.{Play, Level, Stop}
-use Rattle.play_model.specs.Sound.{heard, waited, readLine, entriesFrom, entriesOf}
-use Rattle.play_to.specs.Reached.{atOf, reached, stateAt}
-use Rattle.play_to.specs.declared.At.{At}
+use Rattle.play_rules.specs.Sound.{heard, waited, readLine, entriesFrom, entriesOf}
+use Rattle.play_at.specs.Reached.{atOf, reached, stateAt}
+use Rattle.play_at.specs.declared.At.{At}
 use Rattle.run_order.specs.Order.{Apart}
 use Rattle.run_order.proofs.WriteLaws.{writes-swap}
 use Rattle.play_order.specs.Order.{toLevel, SameBut, ends, line, by-way, LinesSwap}

@@ -7,8 +7,8 @@ use lib.ListN.{length}
 use Rattle.log_line.specs.declared.Act.{Act}
 use Rattle.log_line.specs.declared.Line.{Line}
 use Rattle.log_line.specs.declared.Line.the-variants.{Header, Machine, One, Loop, Done, Stop, Bad}
-use Rattle.log_judge.specs.Tree.{Tree, end, act, loop, times, acts, actClocks, clocks, turns}
-use Rattle.log_judge.specs.Whole.{grow, innermost}
+use Rattle.log_rules.specs.Tree.{Tree, end, act, loop, times, acts, actClocks, clocks, turns}
+use Rattle.log_rules.specs.Whole.{grow, innermost}
 
 module _ (a b : Act) where
   -- trees that are the same but for a and b, which may have changed places

@@ -9,13 +9,13 @@ use Rattle.bus.specs.declared.Access.the-variants.{Write}
 use Rattle.log_line.specs.declared.Act.the-variants.{Access}
 use Rattle.log_line.specs.declared.Line.the-variants.{One}
 use Rattle.log_line.specs.Printed.{lineText}
-use Rattle.log_judge.specs.Head.{machineOf}
-use Rattle.log_judge.specs.Tree.{acts}
-use Rattle.log_judge.specs.Whole.{treeOf, checkOf}
+use Rattle.log_rules.specs.Head.{machineOf}
+use Rattle.log_rules.specs.Tree.{acts}
+use Rattle.log_rules.specs.Whole.{treeOf, checkOf}
 use Rattle.play_text.specs.declared.Entry.{Entry}
 use Rattle.play_text.specs.declared.Entry.the-variants.{Level}
-use Rattle.play_model.specs.Sound.{entriesOf}
-use Rattle.play_to.specs.Reached.{stateAt}
+use Rattle.play_rules.specs.Sound.{entriesOf}
+use Rattle.play_at.specs.Reached.{stateAt}
 use Rattle.run_order.specs.Order.{Apart}
 
 -- the line `write=RRRR:VV`, with its line feed

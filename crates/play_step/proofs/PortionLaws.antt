@@ -10,9 +10,9 @@ use lib.ListN.{length, getD, take, drop, length-append, take-append-drop}
 use lib.Seq.{sets, length-take-le}
 use borrow.Author.Tests.{ne-eqb, eqb-true, lt-leb, leb-true, leb-false, ltb-true, ltb-false}
 use Rattle.arith.specs.Pick.{pick}
-use Rattle.machine.specs.Reading.{Mark, Progress, start, plain}
+use Rattle.reading.specs.Reading.{Mark, Progress, start, plain}
 use Rattle.run_answer.specs.declared.Ran.{Ran}
-use Rattle.run_answer.specs.Run.{chipMachine, roomOf, flat, over, number, readBy, refusal, answered, answer, lent}
+use Rattle.run_answer.specs.Run.{chipClockwork, roomOf, flat, over, number, readBy, refusal, answered, answer, lent}
 use Rattle.run_answer.proofs.WordLaws.{length-flat}
 use Rattle.chip.specs.declared.State.{State}
 use Rattle.chip.proofs.RangeLaws.{level-most}
@@ -23,10 +23,10 @@ use Rattle.play_text.specs.Lines.{linesIn, linesEnd}
 use Rattle.play_levels.specs.Levels.{levelEntries}
 use Rattle.play_text.proofs.LineLaws.{lines-in, lines-end, lines-out, lines-stay}
 use Rattle.play_text.proofs.TextLaws.{level-size, entries-none}
-use Rattle.play_model.specs.declared.Player.{Player}
-use Rattle.play_model.specs.Portion.{entryAt, lastOf}
-use Rattle.play_model.specs.Turns.{playerOf}
-use Rattle.play_model.proofs.RoomLaws.{Below, plain-most, plain-room, plain-below}
+use Rattle.play_rules.specs.declared.Player.{Player}
+use Rattle.play_rules.specs.Portion.{entryAt, lastOf}
+use Rattle.play_rules.specs.Turns.{playerOf}
+use Rattle.play_rules.proofs.RoomLaws.{Below, plain-most, plain-room, plain-below}
 use Rattle.play_step.specs.declared.Taken.{Taken}
 use Rattle.play_step.specs.Steps.{roomFor, lastIn, portionOf, portionText, portionTaken}
 
@@ -107,32 +107,32 @@ module _ (memory : List ℕ) (room : ℕ) (p : Player) where
   unfolding portionOf
   portion-few = by (eqb (number memory (p .state) (p .wait)) 0)
     where
-      by : (t : Bool) → length (pick t (plain (chipMachine memory) room (p .wait) (p .state)) (start room (p .state)) .marks) ≤ room
-      by true = let q = plain-room (chipMachine memory) room (p .wait) (p .state) in omega arith
+      by : (t : Bool) → length (pick t (plain (chipClockwork memory) room (p .wait) (p .state)) (start room (p .state)) .marks) ≤ room
+      by true = let q = plain-room (chipClockwork memory) room (p .wait) (p .state) in omega arith
       by false = omega arith
 
   portion-below : Below 32767 (R .marks)
   unfolding portionOf
   portion-below = by (eqb (number memory (p .state) (p .wait)) 0)
     where
-      by : (t : Bool) → Below 32767 (pick t (plain (chipMachine memory) room (p .wait) (p .state)) (start room (p .state)) .marks)
-      by true = plain-below (chipMachine memory) room (p .wait) (p .state) 32767 level-most
+      by : (t : Bool) → Below 32767 (pick t (plain (chipClockwork memory) room (p .wait) (p .state)) (start room (p .state)) .marks)
+      by true = plain-below (chipClockwork memory) room (p .wait) (p .state) 32767 level-most
       by false = tt
 
   portion-most : R .done ≤ p .wait
   unfolding portionOf
   portion-most = by (eqb (number memory (p .state) (p .wait)) 0)
     where
-      by : (t : Bool) → pick t (plain (chipMachine memory) room (p .wait) (p .state)) (start room (p .state)) .done ≤ p .wait
-      by true = plain-most (chipMachine memory) room (p .wait) (p .state)
+      by : (t : Bool) → pick t (plain (chipClockwork memory) room (p .wait) (p .state)) (start room (p .state)) .done ≤ p .wait
+      by true = plain-most (chipClockwork memory) room (p .wait) (p .state)
       by false = omega arith
 
 -- a portion that isn't refused fits
 pub portion-size : (memory : List ℕ) (p : Player) (room size at : ℕ) → at + 23 * room ≤ size
-    → at + length (portionText p (plain (chipMachine memory) room (p .wait) (p .state))) ≤ size
+    → at + length (portionText p (plain (chipClockwork memory) room (p .wait) (p .state))) ≤ size
 portion-size memory p room size at h =
-    let a = marks-size (p .time) (plain (chipMachine memory) room (p .wait) (p .state) .marks) (plain-below (chipMachine memory) room (p .wait) (p .state) 32767 level-most) in
-    let q = plain-room (chipMachine memory) room (p .wait) (p .state) in
+    let a = marks-size (p .time) (plain (chipClockwork memory) room (p .wait) (p .state) .marks) (plain-below (chipClockwork memory) room (p .wait) (p .state) 32767 level-most) in
+    let q = plain-room (chipClockwork memory) room (p .wait) (p .state) in
     omega arith
 
 -- WHAT A RUN OF A WAIT BRINGS, over the first words of 512
@@ -150,8 +150,8 @@ module _ (memory : List ℕ) (p : Player) (at : ℕ) (out words : List ℕ) (lon
   ran-is = e ∙ rw room-is (by (eqb (number memory (p .state) (p .wait)) 0) refl)
     where
       by : (t : Bool) → eqb (number memory (p .state) (p .wait)) 0 ≡ t
-          → pick t (record { number = 0; state = plain (chipMachine memory) room (p .wait) (p .state) .state; done = plain (chipMachine memory) room (p .wait) (p .state) .done; records = length (plain (chipMachine memory) room (p .wait) (p .state) .marks) }) (refusal (number memory (p .state) (p .wait)) (p .state))
-          ≡ record { number = number memory (p .state) (p .wait); state = pick t (plain (chipMachine memory) room (p .wait) (p .state)) (start room (p .state)) .state; done = pick t (plain (chipMachine memory) room (p .wait) (p .state)) (start room (p .state)) .done; records = length (pick t (plain (chipMachine memory) room (p .wait) (p .state)) (start room (p .state)) .marks) }
+          → pick t (record { number = 0; state = plain (chipClockwork memory) room (p .wait) (p .state) .state; done = plain (chipClockwork memory) room (p .wait) (p .state) .done; records = length (plain (chipClockwork memory) room (p .wait) (p .state) .marks) }) (refusal (number memory (p .state) (p .wait)) (p .state))
+          ≡ record { number = number memory (p .state) (p .wait); state = pick t (plain (chipClockwork memory) room (p .wait) (p .state)) (start room (p .state)) .state; done = pick t (plain (chipClockwork memory) room (p .wait) (p .state)) (start room (p .state)) .done; records = length (pick t (plain (chipClockwork memory) room (p .wait) (p .state)) (start room (p .state)) .marks) }
       by true h = rw (eqb-true (number memory (p .state) (p .wait)) 0 h)
       by false h = refl
 
@@ -160,7 +160,7 @@ module _ (memory : List ℕ) (p : Player) (at : ℕ) (out words : List ℕ) (lon
 
   -- the records, and words behind them
   abbrev P : Progress State
-  P = plain (chipMachine memory) room (p .wait) (p .state)
+  P = plain (chipClockwork memory) room (p .wait) (p .state)
 
   split : (t : Bool) → (x : List ℕ)
       × (pick t (flat (P .marks) ++ drop (length (flat (P .marks))) (take (2 * room) words)) (take (2 * room) words) ++ drop (2 * room) words

@@ -10,9 +10,9 @@ use lib.ListN.{length}
 use lib.Seq.{sets}
 use borrow.Author.Tests.{eq-eqb, eqb-true, eqb-false, leb-true, leb-false}
 use Rattle.arith.specs.Pick.{pick}
-use Rattle.machine.specs.Saying.{Said, over, on, says, refused}
-use Rattle.machine.specs.Reading.{Progress, plain}
-use Rattle.run_answer.specs.Run.{chipMachine, number}
+use Rattle.reading.specs.Saying.{Said, over, on, says, refused}
+use Rattle.reading.specs.Reading.{Progress, plain}
+use Rattle.run_answer.specs.Run.{chipClockwork, number}
 use Rattle.run_answer.proofs.AnswerLaws.{number-none}
 use Rattle.chip.specs.Range.{inRange, Bytes}
 use Rattle.chip.specs.declared.State.{State}
@@ -20,11 +20,11 @@ use Rattle.play_text.specs.declared.Entry.{Entry}
 use Rattle.play_text.specs.Entries.{entryText, entriesText}
 use Rattle.play_text.proofs.LineLaws.{lines-in, lines-end}
 use Rattle.play_text.proofs.TextLaws.{entries-none, entries-one}
-use Rattle.play_model.specs.declared.Player.{Player}
-use Rattle.play_model.specs.Portion.{entryAt}
-use Rattle.play_model.specs.Turns.{Go, go, playerOf, cursorTurn, phaseTurn, turnOf, Goes, here}
-use Rattle.play_model.proofs.TurnLaws.{turn-phase, turn-cursor, turn-three, turn-nine, Ends, Short, cursor-stays, phase-stays, cursor-short, phase-short}
-use Rattle.play_model.proofs.WaitLaws.{by-quiet, by-saying, waits, plain-ranged}
+use Rattle.play_rules.specs.declared.Player.{Player}
+use Rattle.play_rules.specs.Portion.{entryAt}
+use Rattle.play_rules.specs.Turns.{Go, go, playerOf, cursorTurn, phaseTurn, turnOf, Goes, here}
+use Rattle.play_rules.proofs.TurnLaws.{turn-phase, turn-cursor, turn-three, turn-nine, Ends, Short, cursor-stays, phase-stays, cursor-short, phase-short}
+use Rattle.play_rules.proofs.WaitLaws.{by-quiet, by-saying, waits, plain-ranged}
 use Rattle.play_turn.specs.declared.Told.{Told}
 use Rattle.play_turn.specs.declared.Told.the-variants.{Over, On, Says, Refused}
 use Rattle.play_turn.specs.declared.Went.{Went}
@@ -143,7 +143,7 @@ module _ (log memory : List ℕ) (p : Player) (before : List ℕ) (at : ℕ) whe
     room = roomFor (length before) at
 
     abbrev R : Progress State
-    R = plain (chipMachine memory) room (p .wait) (p .state)
+    R = plain (chipClockwork memory) room (p .wait) (p .state)
 
     is-plain : p .wait ≤ 1000000 → portionOf memory room p ≡ R
     unfolding portionOf
@@ -246,7 +246,7 @@ pub wait-kept : (memory : List ℕ) → Bytes memory → (room : ℕ) (p : Playe
 unfolding waitTaken portionOf
 wait-kept memory bytes room p at f = by (leb (p .wait) 1000000) (leb (p .time + p .wait) 2000000000) (eqb (number memory (p .state) (p .wait)) 0)
   where
-    by : (t u v : Bool) → inRange (pick t (pick u (portionTaken p at (pick v (plain (chipMachine memory) room (p .wait) (p .state)) (record { state = p .state; done = 0; room = room; marks = [] }))) (halted 9 p at)) (halted 3 p at) .player .state) ≡ true
+    by : (t u v : Bool) → inRange (pick t (pick u (portionTaken p at (pick v (plain (chipClockwork memory) room (p .wait) (p .state)) (record { state = p .state; done = 0; room = room; marks = [] }))) (halted 9 p at)) (halted 3 p at) .player .state) ≡ true
     by true true true = plain-ranged memory bytes room (p .wait) (p .state) f
     by true true false = f
     by true false v = f

@@ -6,14 +6,14 @@ use lib.ListN.{length, getD}
 use lib.Dec.{eqb, leb, ltb}
 use lib.Seq.{sets}
 use Rattle.arith.specs.Pick.{pick}
-use Rattle.machine.specs.Reading.{Progress, start, plain}
-use Rattle.run_answer.specs.Run.{chipMachine, number}
+use Rattle.reading.specs.Reading.{Progress, start, plain}
+use Rattle.run_answer.specs.Run.{chipClockwork, number}
 use Rattle.chip.specs.declared.State.{State}
 use Rattle.play_text.specs.Entries.{entryText, entriesText}
 use Rattle.play_text.specs.Lines.{linesIn, linesEnd}
-use Rattle.play_model.specs.declared.Player.{Player}
-use Rattle.play_model.specs.Portion.{entryAt, lastOf}
-use Rattle.play_model.specs.Turns.{playerOf, cursorTurn, phaseTurn}
+use Rattle.play_rules.specs.declared.Player.{Player}
+use Rattle.play_rules.specs.Portion.{entryAt, lastOf}
+use Rattle.play_rules.specs.Turns.{playerOf, cursorTurn, phaseTurn}
 use Rattle.play_turn.specs.declared.Told.{Told}
 use Rattle.play_turn.specs.declared.Told.the-variants.{Over, On, Says, Refused}
 use Rattle.play_turn.specs.Turned.{toldAs}
@@ -44,7 +44,7 @@ lastIn last n words = pick (eqb n 0) last (getD words (2 * n - 1) 0)
 -- a portion of a wait is the plain reading with so much room; with a memory or a state that a run refuses, nothing
 unfoldable pub portionOf : List ℕ → ℕ → Player → Progress State
 portionOf memory room p =
-    pick (eqb (number memory (p .state) (p .wait)) 0) (plain (chipMachine memory) room (p .wait) (p .state)) (start room (p .state))
+    pick (eqb (number memory (p .state) (p .wait)) 0) (plain (chipClockwork memory) room (p .wait) (p .state)) (start room (p .state))
 
 -- its records as lines
 abbrev pub portionText : Player → Progress State → List ℕ

@@ -5,10 +5,10 @@ ghost use Prim.Native.Nat.{_+_, _-_, _*_, _/_, _≤_, _<_};
 ghost use lib.ListN.{length, getD};
 ghost use lib.Seq.{sets};
 ghost use Rattle.chip.specs.Range.{inRange};
-ghost use Rattle.play_model.specs.Turns.{playerOf};
+ghost use Rattle.play_rules.specs.Turns.{playerOf};
 ghost use Rattle.play_step.specs.Steps.{takenOf, takenBytes, roomFor, lastIn, portionOf, portionText, portionTaken, waitTaken, waitText, stepTaken, stepBytes};
 use chip::State;
-use play_model::Player;
+use play_rules::Player;
 use play_turn::Told;
 use play_turn::Went;
 

@@ -7,7 +7,7 @@ use Rattle.arith.specs.Pick.{pick}
 use Rattle.bus.specs.declared.Access.the-variants as bus
 use Rattle.log_line.specs.declared.Act.{Act}
 use Rattle.log_line.specs.declared.Act.the-variants as line
-use Rattle.machine.specs.Saying.{Said, over, on, says, refused}
+use Rattle.reading.specs.Saying.{Said, over, on, says, refused}
 use Rattle.log_cursor.specs.declared.Cursor.{Cursor}
 use Rattle.log_cursor.specs.Stepping.{told}
 use Rattle.chip.specs.Level.{stateLevel}
@@ -16,8 +16,8 @@ use Rattle.chip.specs.declared.State.{State}
 use Rattle.chip_access.specs.Access.{accessed}
 use Rattle.chip_access.specs.declared.Outcome.{Outcome}
 use Rattle.play_text.specs.declared.Entry.the-variants.{Level, Read}
-use Rattle.play_model.specs.declared.Player.{Player}
-use Rattle.play_model.specs.Turns.{go, playerOf, levelTold, acted}
+use Rattle.play_rules.specs.declared.Player.{Player}
+use Rattle.play_rules.specs.Turns.{go, playerOf, levelTold, acted}
 use Rattle.play_turn.specs.declared.Went.{Went}
 use Rattle.play_turn.specs.Turned.{went, foundSaid, Keeps}
 

@@ -3,13 +3,13 @@
 use Prim.Native.Nat.{ℕ}
 use mathlib.Core.Path.{_≡_}
 use mathlib.Core.Bool.{true}
-use Rattle.machine.specs.Saying.{Said, over, on, says, refused}
+use Rattle.reading.specs.Saying.{Said, over, on, says, refused}
 use Rattle.log_line.specs.declared.Act.{Act}
-use Rattle.log_cursor.specs.declared.Found.{Found}
+use Rattle.log_cursor.specs.declared.Given.{Given}
 use Rattle.chip.specs.Range.{inRange}
 use Rattle.play_text.specs.declared.Entry.{Entry}
-use Rattle.play_model.specs.declared.Player.{Player}
-use Rattle.play_model.specs.Turns.{Go}
+use Rattle.play_rules.specs.declared.Player.{Player}
+use Rattle.play_rules.specs.Turns.{Go}
 use Rattle.play_turn.specs.declared.Told.{Told}
 use Rattle.play_turn.specs.declared.Told.the-variants.{Over, On, Says, Refused}
 use Rattle.play_turn.specs.declared.Went.{Went}
@@ -25,11 +25,11 @@ abbrev pub went : Go → Went
 went g = record { told = toldAs (g .said); player = g .state }
 
 -- what a step of the cursor found, as what is said
-abbrev pub foundSaid : Found → Said Act
-foundSaid (Found.Act a) = says a
-foundSaid Found.Moved = on
-foundSaid Found.End = over
-foundSaid (Found.Refused k p) = refused k p
+abbrev pub foundSaid : Given → Said Act
+foundSaid (Given.Act a) = says a
+foundSaid Given.Moved = on
+foundSaid Given.End = over
+foundSaid (Given.Refused k p) = refused k p
 
 -- a state in range stays in range
 abbrev pub Keeps : Player → Went → Type 0

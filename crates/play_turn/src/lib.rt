@@ -2,15 +2,15 @@
 ghost use mathlib.Core.Path.{_≡_};
 ghost use lib.Dec.{eqb};
 ghost use Rattle.arith.specs.Pick.{pick};
-ghost use Rattle.machine.specs.Saying.{says};
-ghost use Rattle.play_model.specs.Turns.{playerOf, go, levelTold, acted, stepSaid, cursorTurn, phaseTurn};
+ghost use Rattle.reading.specs.Saying.{says};
+ghost use Rattle.play_rules.specs.Turns.{playerOf, go, levelTold, acted, stepSaid, cursorTurn, phaseTurn};
 ghost use Rattle.play_turn.specs.Turned.{went, foundSaid, Keeps};
 use bus::Access;
 use chip::State;
 use log_cursor::Cursor;
-use log_cursor::Found;
+use log_cursor::Given;
 use log_line::Act;
-use play_model::Player;
+use play_rules::Player;
 use play_text::Entry;
 
 // What a turn says: that all is over; nothing; a line; or a refusal's number and place.
@@ -129,21 +129,21 @@ fn at_cursor(p: Player, phase: u8, c: Cursor) -> Player
 }
 
 // What a step of the cursor found.
-fn stepped_to(p: Player, f: Found, c: Cursor) -> Went
+fn stepped_to(p: Player, f: Given, c: Cursor) -> Went
     ensures { λ r. ⌜ r ≡ went (stepSaid p (foundSaid f) c) ⌝ }
     ensures { λ r. ⌜ Keeps p r ⌝ }
 {
     match f {
-        Found::Act(a) => at_act(p, a, c),
-        Found::Moved => Went {
+        Given::Act(a) => at_act(p, a, c),
+        Given::Moved => Went {
             told: Told::On,
             player: at_cursor(p, 2, c),
         },
-        Found::End => Went {
+        Given::End => Went {
             told: Told::Says(Entry::Stop(p.time)),
             player: at_cursor(p, 3, c),
         },
-        Found::Refused(k, q) => Went {
+        Given::Refused(k, q) => Went {
             told: Told::Refused(k, q),
             player: p,
         },

@@ -4,21 +4,21 @@
 // A byte more than the memory has, so that a longer one is seen.
 fn play(log: &[u8]) {
     let mut memory = [0u8; 32769];
-    let r = perch_io::read_file(b"sample.bin", &mut memory);
+    let r = program_io::read_file(b"sample.bin", &mut memory);
     if r.failed {
-        perch_io::say(b"player: sample.bin can't be read\n");
+        program_io::say(b"player: sample.bin can't be read\n");
         return;
     }
     let n = r.count;
-    play_shell::play(log, &memory[..n]);
+    play_stdout::play(log, &memory[..n]);
 }
 
 // A byte more than a log may have, so that a longer one is seen.
 fn main() {
     let mut log = [0u8; 60001];
-    let r = perch_io::read_all(libc::STDIN_FILENO, &mut log);
+    let r = program_io::read_all(libc::STDIN_FILENO, &mut log);
     if r.failed {
-        perch_io::say(b"player: standard input can't be read\n");
+        program_io::say(b"player: standard input can't be read\n");
         return;
     }
     let n = r.count;

@@ -5,17 +5,17 @@ ghost use Prim.Native.Nat.{ℕ, _+_, _-_, _/_, _≤_, _<_};
 ghost use lib.Dec.{eqb};
 ghost use lib.ListN.{length};
 ghost use Rattle.arith.specs.Pick.{pick};
-ghost use Rattle.leap_chip.specs.Frame.{beforeStep};
+ghost use Rattle.leap_law.specs.Frame.{beforeStep};
 ghost use Rattle.chip.specs.Range.{inRange};
 ghost use Rattle.run_answer.specs.Run.{answer, answered, lent, readBy, over, flat, stored};
 ghost use Rattle.run_dwell.specs.Dwell.{dwellLimit, countsWithin, dwellBy, dwellAnswered, dwellAnswer, dwellLent};
 ghost use Rattle.run_walk.specs.Walk.{Open, Walked};
-ghost use Rattle.run_stretch.specs.Stretch.{Standing, Worked, stretchEnd, Stretched};
+ghost use Rattle.run_loops.specs.Stretch.{Standing, Worked, stretchEnd, Stretched};
 use chip::State;
 use leap_stretch::Lags;
 use run_answer::Ran;
 use run_dwell::Counted;
-use run_stretch::Stretch;
+use run_loops::Stretch;
 use run_walk::Dwell;
 
 // The channels after some events, and the records written so far.
@@ -52,13 +52,13 @@ fn voices_on(
     ensures { λ r. ⌜ Worked (now (memory .entry)) s end base (first .now) records (now (words .entry)) (now (words .exit)) (r .lags) (r .records) ⌝ }
 {
     let room = words.len() / 2;
-    let until = run_stretch::voices_until(first, end);
+    let until = run_loops::voices_until(first, end);
     let others = leap_stretch::others_of(first);
     let each = 64 < first.triangle.still;
     let mut v = leap_stretch::voices_of(first);
     let mut level = first.level;
     let mut n = records;
-    while run_stretch::goes(v.next, until, n, room) {
+    while run_loops::goes(v.next, until, n, room) {
         let e = v.next as u32;
         let r = v.renewed(each, e);
         let after = r.level(others);
@@ -89,7 +89,7 @@ fn sounds_on(
     let room = words.len() / 2;
     let mut l = first;
     let mut n = records;
-    while run_stretch::goes(l.next, run_stretch::sounds_until(l, end), n, room) {
+    while run_loops::goes(l.next, run_loops::sounds_until(l, end), n, room) {
         let e = l.next as u32;
         let r = leap_stretch::renew_sounds(l, e);
         let m = mark(words, n, base + e, r.level, l.level);
@@ -133,7 +133,7 @@ fn stretch_on(
     let room = words.len() / 2;
     let mut l = leap_stretch::lags_of(s);
     let mut n = records;
-    while run_stretch::goes(l.next, end as u64 + 1, n, room) {
+    while run_loops::goes(l.next, end as u64 + 1, n, room) {
         let e = l.next as u32;
         let r = leap_stretch::renew(l, memory, e);
         let m = mark(words, n, base + e, r.level, l.level);
@@ -165,7 +165,7 @@ fn next_stretch(
     requires { ⌜ (records ≤ base) × (records ≤ length (now words) / 2) ⌝ }
     ensures { λ r. ⌜ Stretched (now (memory .entry)) s (stretchEnd left s) base records (now (words .entry)) (now (words .exit)) r ⌝ }
 {
-    let end = arith::least_u32(left - 1, leap_chip::before_step(s));
+    let end = arith::least_u32(left - 1, leap_law::before_step(s));
     stretch_on(s, memory, end, base, words, records)
 }
 

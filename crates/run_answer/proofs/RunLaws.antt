@@ -8,14 +8,14 @@ use lib.ListN.{length, set, length-append}
 use borrow.Author.Tests.{eq-eqb, ne-eqb}
 use Rattle.arith.specs.Iterate.{iterate}
 use Rattle.arith.proofs.IterateLaws.{iterate-zero}
-use Rattle.machine.specs.Reading.{Mark, Progress, start, reading, plain}
-use Rattle.machine.proofs.ReadingLaws.{Unchanged, reading-add, reading-few, reading-keeps, reading-quiet, reading-same, reading-mark, reading-stop}
+use Rattle.reading.specs.Reading.{Mark, Progress, start, reading, plain}
+use Rattle.reading.proofs.ReadingLaws.{Unchanged, reading-add, reading-few, reading-keeps, reading-quiet, reading-same, reading-mark, reading-stop}
 use Rattle.chip.specs.Clock.{chipClock}
 use Rattle.chip.specs.Level.{stateLevel}
 use Rattle.chip.specs.Range.{Bytes}
 use Rattle.chip.specs.declared.State.{State}
 use Rattle.chip.proofs.RangeLaws.{StateRanged, clock-kept}
-use Rattle.run_answer.specs.Run.{chipMachine, roomOf, stored, flat, over, readBy, answered}
+use Rattle.run_answer.specs.Run.{chipClockwork, roomOf, stored, flat, over, readBy, answered}
 use Rattle.run_answer.specs.Held.{Held}
 use Rattle.run_answer.proofs.WordLaws.{over-none, over-more, length-flat, length-over, stored-in}
 
@@ -45,30 +45,30 @@ module _ (memory : List ℕ) (s : State) (words₀ : List ℕ) where
     -- no more records than clocks
     pub held-few : n ≤ done
     held-few =
-        let few = reading-few (chipMachine memory) done (start (roomOf words₀) s) in
+        let few = reading-few (chipClockwork memory) done (start (roomOf words₀) s) in
         omega (arith, h .count, rw (h .read) at few)
 
     -- the state stays in range
     pub held-ranged : Bytes memory → StateRanged s → StateRanged state
     held-ranged bytes r =
-        rw (h .read) at (reading-keeps (chipMachine memory) StateRanged (clock-kept memory bytes) done (start (roomOf words₀) s) r)
+        rw (h .read) at (reading-keeps (chipClockwork memory) StateRanged (clock-kept memory bytes) done (start (roomOf words₀) s) r)
 
     abbrev here : Progress State
     here = record { state = state; done = done; room = roomOf words₀ - n; marks = h .marks }
 
     -- reading on from what is held
-    on : (k : ℕ) → reading (chipMachine memory) (done + k) (start (roomOf words₀) s) ≡ reading (chipMachine memory) k here
-    on k = reading-add (chipMachine memory) done k (start (roomOf words₀) s) ∙ ap (reading (chipMachine memory) k) (h .read)
+    on : (k : ℕ) → reading (chipClockwork memory) (done + k) (start (roomOf words₀) s) ≡ reading (chipClockwork memory) k here
+    on k = reading-add (chipClockwork memory) done k (start (roomOf words₀) s) ∙ ap (reading (chipClockwork memory) k) (h .read)
 
-    none : Unchanged (chipMachine memory) 0 state
+    none : Unchanged (chipClockwork memory) 0 state
     none k q = ap stateLevel (ap (λ (i : ℕ). iterate (chipClock memory) i state) (let e : k ≡ 0 = omega arith in e) ∙ iterate-zero (chipClock memory) state)
 
     -- g clocks that leave the level
-    pub held-leap : (g : ℕ) → Unchanged (chipMachine memory) g state → Held memory s words₀ words (iterate (chipClock memory) g state) (done + g) n
+    pub held-leap : (g : ℕ) → Unchanged (chipClockwork memory) g state → Held memory s words₀ words (iterate (chipClock memory) g state) (done + g) n
     held-leap g q =
         record {
           marks = h .marks;
-          read = on g ∙ reading-quiet (chipMachine memory) (λ s. refl) g here q;
+          read = on g ∙ reading-quiet (chipClockwork memory) (λ s. refl) g here q;
           count = h .count;
           most = h .most;
           stored = h .stored;
@@ -80,7 +80,7 @@ module _ (memory : List ℕ) (s : State) (words₀ : List ℕ) where
     held-same e =
         record {
           marks = h .marks;
-          read = on 1 ∙ reading-same (chipMachine memory) (λ s. refl) 0 here none (eq-eqb _ _ e) ∙ rw add-zero;
+          read = on 1 ∙ reading-same (chipClockwork memory) (λ s. refl) 0 here none (eq-eqb _ _ e) ∙ rw add-zero;
           count = h .count;
           most = h .most;
           stored = h .stored;
@@ -95,7 +95,7 @@ module _ (memory : List ℕ) (s : State) (words₀ : List ℕ) where
           marks = h .marks ++ (m ∷ []);
           read =
               let less : roomOf words₀ - n - 1 ≡ roomOf words₀ - (n + 1) = omega arith in
-              on 1 ∙ reading-mark (chipMachine memory) (λ s. refl) 0 here none (ne-eqb _ _ e) (omega arith) ∙ rw (add-zero, less);
+              on 1 ∙ reading-mark (chipClockwork memory) (λ s. refl) 0 here none (ne-eqb _ _ e) (omega arith) ∙ rw (add-zero, less);
           count = length-append (h .marks) (m ∷ []) ∙ omega (arith, h .count);
           most = omega arith;
           stored =
@@ -109,12 +109,12 @@ module _ (memory : List ℕ) (s : State) (words₀ : List ℕ) where
 
     -- a clock that needs a record and has no room: the reading ends here
     held-stuck : (count : ℕ) → (stateLevel (chipClock memory state) ≡ stateLevel state → ⊥) → roomOf words₀ ≤ n → done ≤ count
-        → reading (chipMachine memory) count (start (roomOf words₀) s) ≡ here
+        → reading (chipClockwork memory) count (start (roomOf words₀) s) ≡ here
     unfolding iterate
     held-stuck count e q b =
         let no-room : roomOf words₀ - n ≡ 0 = omega arith in
         let split : count ≡ done + (0 + (count - done)) = omega arith in
-        rw split (on (0 + (count - done)) ∙ reading-stop (chipMachine memory) (λ s. refl) 0 (count - done) here none (ne-eqb _ _ e) no-room ∙ rw add-zero)
+        rw split (on (0 + (count - done)) ∙ reading-stop (chipClockwork memory) (λ s. refl) 0 (count - done) here none (ne-eqb _ _ e) no-room ∙ rw add-zero)
 
     -- what a run of count clocks answers and leaves, once its reading is here
     Given : ℕ → Type 0
@@ -122,7 +122,7 @@ module _ (memory : List ℕ) (s : State) (words₀ : List ℕ) where
         (record { number = 0; state = state; done = done; records = n } ≡ answered 0 s (readBy memory s count words₀))
         × (words ≡ over (flat (readBy memory s count words₀ .marks)) words₀)
 
-    given : (count : ℕ) → reading (chipMachine memory) count (start (roomOf words₀) s) ≡ here → Given count
+    given : (count : ℕ) → reading (chipClockwork memory) count (start (roomOf words₀) s) ≡ here → Given count
     unfolding Given answered readBy plain
     given count e = (rw e (rw (h .count) refl), rw e (h .stored))
 

@@ -6,7 +6,7 @@ use native.Mathlib.Numerals.{add-two}
 use native.Mathlib.Omega.{arith}
 use lib.ListN.{length, drop, set, getD, length-append, length-drop}
 use lib.Seq.{drop-cons, set-at}
-use Rattle.machine.specs.Reading.{Mark}
+use Rattle.reading.specs.Reading.{Mark}
 use borrow.Author.Tests.{lt-ltb, le-ltb}
 use Rattle.run_answer.specs.Run.{roomOf, stored, flat, over}
 

@@ -5,7 +5,7 @@ use mathlib.Core.List.{List, [], _∷_, _++_}
 use lib.ListN.{length, drop, set}
 use lib.Dec.{leb, ltb, eqb}
 use Rattle.arith.specs.Pick.{pick}
-use Rattle.machine.specs.Reading.{Machine, Mark, Progress, plain}
+use Rattle.reading.specs.Reading.{Clockwork, Mark, Progress, plain}
 use Rattle.chip.specs.Clock.{chipClock}
 use Rattle.chip.specs.Level.{stateLevel}
 use Rattle.chip.specs.Range.{inRange}
@@ -13,9 +13,9 @@ use Rattle.chip.specs.declared.State.{State}
 use Rattle.chip_api.specs.Answer.{isMemory}
 use Rattle.run_answer.specs.declared.Ran.{Ran}
 
--- the chip with its sample memory, as the machine of a reading; with the counts of request 1 beside it: crate run_dwell
-abbrev pub chipMachine : List ℕ → Machine State
-chipMachine memory = record { clock = chipClock memory; level = stateLevel; full = λ s. false }
+-- the chip with its sample memory, as the clockwork of a reading; with the counts of request 1 beside it: crate run_dwell
+abbrev pub chipClockwork : List ℕ → Clockwork State
+chipClockwork memory = record { clock = chipClock memory; level = stateLevel; full = λ s. false }
 
 -- 1 "sample memory isn't 32,768 bytes"; 2 "a state field is outside its range"; 3 "a run of more than 1,000,000 clocks"; "Lowest number first"
 unfoldable pub number : List ℕ → State → ℕ → ℕ
@@ -40,7 +40,7 @@ over new old = new ++ drop (length new) old
 
 -- the plain reading that a run is held to
 unfoldable pub readBy : List ℕ → State → ℕ → List ℕ → Progress State
-readBy memory s count words = plain (chipMachine memory) (roomOf words) count s
+readBy memory s count words = plain (chipClockwork memory) (roomOf words) count s
 
 -- "A refusal returns its number .., the state .. as given, 0 .. for the rest"
 abbrev pub refusal : ℕ → State → Ran

@@ -12,19 +12,19 @@ use borrow.Author.Tests.{eq-eqb, ne-eqb, eqb-true, eqb-false}
 use Rattle.arith.specs.Iterate.{iterate}
 use Rattle.arith.specs.Pick.{pick}
 use Rattle.arith.proofs.IterateLaws.{iterate-keeps}
-use Rattle.machine.specs.Reading.{Progress, start, plain}
-use Rattle.machine.specs.Counting.{Beside, sum, dwelt}
-use Rattle.machine.proofs.ReadingLaws.{reading-done, reading-kept, plain-went}
-use Rattle.machine.proofs.CountingLaws.{Most, tallied, tallied-most, tallied-length, Free, Full, free-few, free-less, besides, viewed, plain-within, sum-tallied, dwelt-none, tallied-dwelt, counting-times, plain-free, plain-full}
+use Rattle.reading.specs.Reading.{Progress, start, plain}
+use Rattle.reading.specs.Counting.{Beside, sum, dwelt}
+use Rattle.reading.proofs.ReadingLaws.{reading-done, reading-kept, plain-went}
+use Rattle.reading.proofs.CountingLaws.{Most, tallied, tallied-most, tallied-length, Free, Full, free-few, free-less, besides, viewed, plain-within, sum-tallied, dwelt-none, tallied-dwelt, counting-times, plain-free, plain-full}
 use Rattle.chip.specs.Clock.{chipClock}
 use Rattle.chip.specs.Level.{stateLevel}
 use Rattle.chip.specs.Range.{inRange, Bytes}
 use Rattle.chip.specs.declared.State.{State}
 use Rattle.chip.proofs.RangeLaws.{StateRanged, state-in, clock-kept}
-use Rattle.run_answer.specs.Run.{chipMachine, roomOf, number, flat, over, readBy, answered}
+use Rattle.run_answer.specs.Run.{chipClockwork, roomOf, number, flat, over, readBy, answered}
 use Rattle.run_answer.specs.declared.Ran.{Ran}
 use Rattle.run_answer.proofs.AnswerLaws.{number-fine}
-use Rattle.run_dwell.specs.Dwell.{dwellLimit, dwellPlace, dwellMachine, countsWithin, dwellNumber, dwellBy, dwellRefusal, dwellAnswered, dwellAnswer, dwellLent, CountsRaised}
+use Rattle.run_dwell.specs.Dwell.{dwellLimit, dwellPlace, dwellClockwork, countsWithin, dwellNumber, dwellBy, dwellRefusal, dwellAnswered, dwellAnswer, dwellLent, CountsRaised}
 use Rattle.run_dwell.specs.Kept.{dwellPlaces}
 use Rattle.run_dwell.specs.declared.Counted.{Counted}
 use Rattle.run_dwell.proofs.WithinLaws.{within-most, within-all}
@@ -94,8 +94,8 @@ module _ (memory : List ℕ) (s : State) (counts : List ℕ) (count : ℕ) where
     pub owed-free : (ran : Ran) (table after : List ℕ) → Given count ran table after → Free dwellLimit (dwellPlaces memory s) (ran .done) counts → Owed ran table after
     unfolding Given dwellBy readBy answered
     owed-free ran table after (a, l, t) f =
-        let d : ran .done ≡ plain (chipMachine memory) (roomOf words) count s .done = ap (λ (r : Ran). r .done) a in
-        owed-by (plain (chipMachine memory) (roomOf words) count s)
+        let d : ran .done ≡ plain (chipClockwork memory) (roomOf words) count s .done = ap (λ (r : Ran). r .done) a in
+        owed-by (plain (chipClockwork memory) (roomOf words) count s)
         (plain-free (chipClock memory) dwellPlace stateLevel dwellLimit (roomOf words) count s counts (rw (← d) f)) ran table after a l t
 
     -- where one stops the clock behind the k
@@ -103,7 +103,7 @@ module _ (memory : List ℕ) (s : State) (counts : List ℕ) (count : ℕ) where
         → Free dwellLimit (dwellPlaces memory s) k counts → Full dwellLimit (dwellPlaces memory s) k counts → Owed ran table after
     unfolding Given dwellBy readBy
     owed-full k h ran table after (a, l, t) f g =
-        owed-by (plain (chipMachine memory) (roomOf words) k s)
+        owed-by (plain (chipClockwork memory) (roomOf words) k s)
         (plain-full (chipClock memory) dwellPlace stateLevel dwellLimit (roomOf words) k count s counts h f g) ran table after a l t
 
 -- LEVELS ARE PLACES
@@ -119,12 +119,12 @@ counts-raised memory bytes s counts size count words = go (dwellNumber memory s 
     t = record { state = s; counts = counts }
 
     R : Progress (Beside State)
-    R = plain (dwellMachine memory) (roomOf words) count t
+    R = plain (dwellClockwork memory) (roomOf words) count t
 
     is : R .state .counts ≡ tallied (dwellPlaces memory s) (R .done) counts
     is =
         ap (λ (x : Beside State). x .counts)
-        (plain-went (dwellMachine memory) (roomOf words) count t ∙ counting-times (chipClock memory) dwellPlace stateLevel dwellLimit (R .done) s counts)
+        (plain-went (dwellClockwork memory) (roomOf words) count t ∙ counting-times (chipClock memory) dwellPlace stateLevel dwellLimit (R .done) s counts)
 
     go : (n : ℕ) → dwellNumber memory s counts count ≡ n → (u : Bool) → eqb (dwellNumber memory s counts count) 0 ≡ u
         → let r : Counted = pick u (record { ran = record { number = 0; state = R .state .state; done = R .done; records = length (R .marks) }; counts = R .state .counts }) (dwellRefusal n s counts) in
@@ -143,7 +143,7 @@ pub dwell-within : (memory : List ℕ) (s : State) (counts : List ℕ) (count : 
     → countsWithin dwellLimit (dwellBy memory s counts count words .state .counts) ≡ true
 unfolding dwellBy
 dwell-within memory s counts count words e =
-    let m : Most dwellLimit (plain (dwellMachine memory) (roomOf words) count (record { state = s; counts = counts }) .state .counts) =
+    let m : Most dwellLimit (plain (dwellClockwork memory) (roomOf words) count (record { state = s; counts = counts }) .state .counts) =
     plain-within (chipClock memory) dwellPlace stateLevel dwellLimit (roomOf words) count (record { state = s; counts = counts }) (within-most dwellLimit counts e) in
     within-all dwellLimit _ (λ i h. m i)
 
@@ -153,7 +153,7 @@ pub dwell-alike : (memory : List ℕ) (s : State) (counts : List ℕ) (count : �
     record { state = p .state .state; done = p .done; room = p .room; marks = p .marks } ≡ readBy memory s count words
 unfolding dwellBy readBy plain
 dwell-alike memory s counts count words h =
-    let few = reading-done (chipMachine memory) count (start (roomOf words) s) in
+    let few = reading-done (chipClockwork memory) count (start (roomOf words) s) in
     ap (viewed (chipClock memory) dwellPlace stateLevel dwellLimit)
     (plain-free (chipClock memory) dwellPlace stateLevel dwellLimit (roomOf words) count s counts
     (free-less dwellLimit (dwellPlaces memory s) count _ counts (omega arith) (free-few dwellLimit (dwellPlaces memory s) count counts h)))

@@ -7,15 +7,15 @@ use native.Mathlib.Omega.{arith}
 use lib.ListN.{length, getD, set}
 use Rattle.arith.specs.Iterate.{iterate}
 use Rattle.arith.proofs.IterateLaws.{iterate-more}
-use Rattle.machine.specs.Reading.{Progress, start, reading, plain}
-use Rattle.machine.specs.Counting.{raise}
-use Rattle.machine.proofs.ReadingLaws.{plain-went}
-use Rattle.machine.proofs.CountingLaws.{tallied, tallied-none, tallied-more, tallied-length, Free, Full, free-none, free-more}
+use Rattle.reading.specs.Reading.{Progress, start, reading, plain}
+use Rattle.reading.specs.Counting.{raise}
+use Rattle.reading.proofs.ReadingLaws.{plain-went}
+use Rattle.reading.proofs.CountingLaws.{tallied, tallied-none, tallied-more, tallied-length, Free, Full, free-none, free-more}
 use Rattle.chip.specs.Clock.{chipClock}
 use Rattle.chip.specs.Range.{Bytes}
 use Rattle.chip.specs.declared.State.{State}
 use Rattle.chip.proofs.RangeLaws.{StateRanged, clock-kept}
-use Rattle.run_answer.specs.Run.{chipMachine, roomOf, flat, over, readBy, answered}
+use Rattle.run_answer.specs.Run.{chipClockwork, roomOf, flat, over, readBy, answered}
 use Rattle.run_answer.specs.Held.{Held}
 use Rattle.run_answer.specs.declared.Ran.{Ran}
 use Rattle.run_answer.proofs.RunLaws.{held-ranged, held-end, held-early}
@@ -36,7 +36,7 @@ module _ (memory : List ℕ) (s : State) (counts : List ℕ) where
     held-clock : state ≡ iterate (chipClock memory) done s
     unfolding plain
     held-clock =
-        let w = plain-went (chipMachine memory) (roomOf words₀) done s in
+        let w = plain-went (chipClockwork memory) (roomOf words₀) done s in
         rw (h .read) at w
 
     -- the level after the next clock

@@ -6,8 +6,8 @@ use mathlib.Core.List.{List, [], _∷_}
 use lib.ListN.{length, getD}
 use lib.Dec.{leb, eqb}
 use Rattle.arith.specs.Pick.{pick, both}
-use Rattle.machine.specs.Reading.{Machine, Progress, plain}
-use Rattle.machine.specs.Counting.{Beside, sum, dwelt, counting}
+use Rattle.reading.specs.Reading.{Clockwork, Progress, plain}
+use Rattle.reading.specs.Counting.{Beside, sum, dwelt, counting}
 use Rattle.chip.specs.Clock.{chipClock}
 use Rattle.chip.specs.Level.{stateLevel}
 use Rattle.chip.specs.Range.{Bytes}
@@ -25,8 +25,8 @@ abbrev pub dwellPlace : State → ℕ
 dwellPlace s = s .dmc .output .level
 
 -- "Keep 128 counts beside the run, one added at the level's place after each clock done."
-abbrev pub dwellMachine : List ℕ → Machine (Beside State)
-dwellMachine memory = counting (chipClock memory) dwellPlace stateLevel dwellLimit
+abbrev pub dwellClockwork : List ℕ → Clockwork (Beside State)
+dwellClockwork memory = counting (chipClock memory) dwellPlace stateLevel dwellLimit
 
 -- no count is over the limit
 unfoldable pub countsWithin : ℕ → List ℕ → Bool
@@ -40,7 +40,7 @@ dwellNumber memory s counts count =
 
 -- the plain reading that a run is held to
 unfoldable pub dwellBy : List ℕ → State → List ℕ → ℕ → List ℕ → Progress (Beside State)
-dwellBy memory s counts count words = plain (dwellMachine memory) (roomOf words) count (record { state = s; counts = counts })
+dwellBy memory s counts count words = plain (dwellClockwork memory) (roomOf words) count (record { state = s; counts = counts })
 
 -- "A refusal returns its number .., the state and any table as given, 0 .. for the rest"
 abbrev pub dwellRefusal : ℕ → State → List ℕ → Counted

@@ -4,7 +4,7 @@ use Prim.Native.Nat.{ℕ}
 use mathlib.Core.Path.{_≡_}
 use mathlib.Core.List.{List}
 use lib.ListN.{length}
-use Rattle.machine.proofs.CountingLaws.{tallied, Free, places}
+use Rattle.reading.proofs.CountingLaws.{tallied, Free, places}
 use Rattle.chip.specs.Clock.{chipClock}
 use Rattle.chip.specs.declared.State.{State}
 use Rattle.run_dwell.specs.Dwell.{dwellLimit, dwellPlace}

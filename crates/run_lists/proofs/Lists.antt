@@ -10,18 +10,18 @@ use lib.Dec.{leb, eqb}
 use lib.ListN.{length, drop, length-append, length-drop, length-map}
 use lib.Seq.{take-at, drop-at, drop-drop, drop-append-add}
 use borrow.Author.Tests.{eqb-true, eqb-false, leb-true, leb-false}
-use Rattle.machine.specs.Reading.{Mark, Progress, raised, start, reading, plain}
-use Rattle.machine.proofs.ReadingLaws.{later, reading-keeps, reading-room, reading-on}
+use Rattle.reading.specs.Reading.{Mark, Progress, raised, start, reading, plain}
+use Rattle.reading.proofs.ReadingLaws.{later, reading-keeps, reading-room, reading-on}
 use Rattle.chip.specs.Range.{inRange, Bytes}
 use Rattle.chip.specs.declared.State.{State}
 use Rattle.chip.proofs.RangeLaws.{StateRanged, state-in, state-back, clock-kept}
 use Rattle.chip_api.specs.Answer.{isMemory}
-use Rattle.machine.specs.Counting.{Beside}
+use Rattle.reading.specs.Counting.{Beside}
 use Rattle.run_answer.specs.Run.{number, roomOf, flat, over}
 use Rattle.run_lists.specs.Lists.{Request, Outcome, marksOf, wordsWritten, wordsBehind, joined, runAll, asks, asked, Share, ReadAs, ListPlain, ListTables, ListsAlike, Splits, Split}
 use Rattle.run_answer.specs.declared.Ran.{Ran}
 use Rattle.run_answer.proofs.AnswerLaws as without
-use Rattle.run_dwell.specs.Dwell.{dwellLimit, dwellMachine, countsWithin, dwellNumber, dwellBy, dwellRefusal, dwellAnswered, dwellAnswer, dwellLent}
+use Rattle.run_dwell.specs.Dwell.{dwellLimit, dwellClockwork, countsWithin, dwellNumber, dwellBy, dwellRefusal, dwellAnswered, dwellAnswer, dwellLent}
 use Rattle.run_dwell.specs.declared.Counted.{Counted}
 use Rattle.run_dwell.proofs.DwellLaws.{number-first, number-none, number-thirteen, number-right, dwell-refused, dwell-worked, dwell-within}
 use Rattle.run_answer.proofs.WordLaws.{length-flat}
@@ -63,8 +63,8 @@ room-left : (memory : List ℕ) (s : State) (counts : List ℕ) (count : ℕ) (w
 unfolding dwellBy plain
 room-left memory s counts count words =
     let t : Beside State = record { state = s; counts = counts } in
-    let p = reading (dwellMachine memory) count (start (roomOf words) t) in
-    let r = reading-room (dwellMachine memory) count (start (roomOf words) t) in
+    let p = reading (dwellClockwork memory) count (start (roomOf words) t) in
+    let r = reading-room (dwellClockwork memory) count (start (roomOf words) t) in
     let d = length-drop (2 * length (p .marks)) words in
     (omega (arith, r, d), omega (arith, r))
 
@@ -75,16 +75,16 @@ read-on : (memory : List ℕ) (s : State) (counts words : List ℕ) (a b : ℕ)
 unfolding dwellBy plain
 read-on memory s counts words a b =
     let t : Beside State = record { state = s; counts = counts } in
-    let p = reading (dwellMachine memory) a (start (roomOf words) t) in
-    reading-on (dwellMachine memory) a b (start (roomOf words) t)
-    ∙ ap (λ (k : ℕ). later (p .done) (p .marks) (reading (dwellMachine memory) b (start k (p .state)))) (sym (room-left memory s counts a words .0))
+    let p = reading (dwellClockwork memory) a (start (roomOf words) t) in
+    reading-on (dwellClockwork memory) a b (start (roomOf words) t)
+    ∙ ap (λ (k : ℕ). later (p .done) (p .marks) (reading (dwellClockwork memory) b (start k (p .state)))) (sym (room-left memory s counts a words .0))
 
 -- the state that a reading leaves is in range
 read-kept : (memory : List ℕ) → Bytes memory → (s : State) → StateRanged s → (counts : List ℕ) (count : ℕ) (words : List ℕ)
     → StateRanged (dwellBy memory s counts count words .state .state)
 unfolding dwellBy plain
 read-kept memory bytes s r counts count words =
-    reading-keeps (dwellMachine memory) (λ t. StateRanged (t .state)) (λ t h. clock-kept memory bytes (t .state) h) count (start (roomOf words) (record { state = s; counts = counts })) r
+    reading-keeps (dwellClockwork memory) (λ t. StateRanged (t .state)) (λ t h. clock-kept memory bytes (t .state) h) count (start (roomOf words) (record { state = s; counts = counts })) r
 
 -- ONE RUN OF THE LIST
 

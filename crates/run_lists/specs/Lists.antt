@@ -7,14 +7,14 @@ use mathlib.Core.List.{List, [], _∷_, _++_, map}
 use lib.ListN.{length, take, drop}
 use lib.Dec.{leb}
 use Rattle.arith.specs.Pick.{pick}
-use Rattle.machine.specs.Reading.{Mark, Progress, raised, plain}
+use Rattle.reading.specs.Reading.{Mark, Progress, raised, plain}
 use Rattle.chip.specs.Range.{inRange, Bytes}
 use Rattle.chip.specs.declared.State.{State}
 use Rattle.chip_api.specs.Answer.{isMemory}
-use Rattle.machine.specs.Counting.{Beside}
+use Rattle.reading.specs.Counting.{Beside}
 use Rattle.run_answer.specs.Run.{roomOf}
 use Rattle.run_answer.specs.declared.Ran.{Ran}
-use Rattle.run_dwell.specs.Dwell.{dwellLimit, dwellMachine, countsWithin, dwellAnswer, dwellLent}
+use Rattle.run_dwell.specs.Dwell.{dwellLimit, dwellClockwork, countsWithin, dwellAnswer, dwellLent}
 use Rattle.run_dwell.specs.declared.Counted.{Counted}
 
 -- what one run of the list is asked
@@ -94,7 +94,7 @@ pub record ReadAs (words : List ℕ) (p : Progress (Beside State)) (o : Outcome)
 abbrev pub ListPlain : Type 0
 ListPlain =
     (memory : List ℕ) → Bytes memory → (requests : List Request) (s : State) → inRange s ≡ true → (counts : List ℕ) → Share memory counts requests → (words : List ℕ)
-    → ReadAs words (plain (dwellMachine memory) (roomOf words) (asked counts requests) (record { state = s; counts = counts })) (runAll requests s counts words)
+    → ReadAs words (plain (dwellClockwork memory) (roomOf words) (asked counts requests) (record { state = s; counts = counts })) (runAll requests s counts words)
 
 -- the table that a list hands back, and so the one that any run of a list is given, is one that 13 refuses exactly where the first is
 abbrev pub ListTables : Type 0

@@ -11,8 +11,8 @@ use Rattle.arith.specs.Pick.{pick}
 use Rattle.bus.specs.Register.{isRegister}
 use Rattle.bus.specs.declared.Access.{Access}
 use Rattle.bus.specs.declared.Access.the-variants.{Write}
-use Rattle.machine.specs.Reading.{Progress}
-use Rattle.machine.specs.Counting.{Beside}
+use Rattle.reading.specs.Reading.{Progress}
+use Rattle.reading.specs.Counting.{Beside}
 use Rattle.chip.specs.Level.{stateLevel}
 use Rattle.chip.specs.Range.{inRange}
 use Rattle.chip.specs.declared.State.{State}

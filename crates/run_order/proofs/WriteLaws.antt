@@ -11,7 +11,7 @@ use Rattle.chip_triangle.specs.Write.{triangleWrite}
 use Rattle.chip_noise.specs.Noise.{noiseWrite}
 use Rattle.chip_dmc.specs.Write.{dmcWrite}
 use Rattle.chip.specs.declared.State.{State}
-use Rattle.chip_registers.specs.Write.{channelOf, placeOf, channelWritten, registerWritten}
+use Rattle.chip_access.specs.Write.{channelOf, placeOf, channelWritten, registerWritten}
 use Rattle.run_order.specs.Order.{Apart}
 
 -- a write part by part: its own channel is written, the others stay, and so do the frame and the machine

@@ -9,7 +9,7 @@ use Rattle.bus.specs.declared.Access.{Access}
 use Rattle.bus.specs.declared.Access.the-variants.{Write}
 use Rattle.chip.specs.Range.{inRange, Bytes}
 use Rattle.chip.specs.declared.State.{State}
-use Rattle.chip_registers.specs.Write.{channelOf}
+use Rattle.chip_access.specs.Write.{channelOf}
 use Rattle.chip_api.specs.Answer.{accessAnswer}
 use Rattle.chip_api.specs.declared.Answered.{Answered}
 use Rattle.run_answer.specs.Run.{roomOf}

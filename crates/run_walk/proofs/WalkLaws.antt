@@ -14,10 +14,10 @@ use Rattle.arith.specs.Iterate.{iterate}
 use Rattle.arith.specs.Pick.{pick, both}
 use Rattle.arith.proofs.IterateLaws.{iterate-zero, iterate-add, iterate-more, iterate-keeps}
 use Rattle.arith.proofs.PickLaws.{pick-both}
-use Rattle.divider.specs.Divider.{forever}
-use Rattle.machine.specs.Counting.{raise}
-use Rattle.machine.proofs.CountingLaws.{Most, raise-same, tallied, tallied-none, tallied-length, tallied-most, tallied-stay, Free, Full, free-none, free-stay, free-few, free-less}
-use Rattle.chip.specs.Clock.{withFrame, timersClocked, readerClocked, envelopesClocked, lengthsClocked, envelopesIf, lengthsIf, stepped, framed, chipClock}
+use Rattle.leap_still.specs.Forever.{forever}
+use Rattle.reading.specs.Counting.{raise}
+use Rattle.reading.proofs.CountingLaws.{Most, raise-same, tallied, tallied-none, tallied-length, tallied-most, tallied-stay, Free, Full, free-none, free-stay, free-few, free-less}
+use Rattle.chip.specs.Clock.{withFrame, timersClocked, readerClocked, quarterFrame, halfFrame, quarterIf, halfIf, stepped, framed, chipClock}
 use Rattle.chip.specs.Range.{Bytes}
 use Rattle.chip.specs.declared.State.{State}
 use Rattle.chip.proofs.RangeLaws.{StateRanged, dmc-period-range}
@@ -25,14 +25,14 @@ use Rattle.chip.proofs.MachineLaws.{clock-machine}
 use Rattle.chip_dmc.specs.Clock.{dmcTimed, dmcRead, dmcClock, dmcOutput}
 use Rattle.chip_dmc.specs.declared.Dmc.{Dmc}
 use Rattle.chip_dmc.proofs.RangeLaws.{DmcRanged, dmc-clock-kept}
-use Rattle.chip_frame.specs.Frame.{nextStep, frameDue, frameMoved, clocksEnvelopes, clocksLengths}
-use Rattle.chip_reader.specs.Reader.{pending}
+use Rattle.chip_frame.specs.Frame.{nextStep, frameDue, frameMoved, isQuarter, isHalf}
+use Rattle.chip_dmc_reader.specs.Reader.{pending}
 use Rattle.chip_tables.specs.Table.{dmcPeriod, dmcTop, frameTimes}
 use Rattle.leap_dmc.specs.Leap.{outputStill, dmcStill, dmcBrink, dmcTurned}
 use Rattle.leap_dmc.proofs.LeapLaws.{DmcIdle, idle-still, dmc-still, dmc-turned}
-use Rattle.machine.specs.Reading.{start, plain}
-use Rattle.machine.proofs.ReadingLaws.{reading-done}
-use Rattle.run_answer.specs.Run.{chipMachine, roomOf, flat, over, readBy, answered}
+use Rattle.reading.specs.Reading.{start, plain}
+use Rattle.reading.proofs.ReadingLaws.{reading-done}
+use Rattle.run_answer.specs.Run.{chipClockwork, roomOf, flat, over, readBy, answered}
 use Rattle.run_answer.specs.declared.Ran.{Ran}
 use Rattle.run_dwell.specs.Dwell.{dwellLimit, dwellPlace, dwellBy, dwellAnswered}
 use Rattle.run_dwell.proofs.DwellLaws.{Given, Owed, owed-free, owed-full}
@@ -42,19 +42,19 @@ use Rattle.run_walk.specs.declared.Dwell.{Dwell}
 
 -- THE DMC GOES BY ITSELF
 
-envelopes-dmc : (s : State) → envelopesClocked s .dmc ≡ s .dmc
-unfolding envelopesClocked
+envelopes-dmc : (s : State) → quarterFrame s .dmc ≡ s .dmc
+unfolding quarterFrame
 envelopes-dmc s = refl
 
-lengths-dmc : (s : State) → lengthsClocked s .dmc ≡ s .dmc
-unfolding lengthsClocked
+lengths-dmc : (s : State) → halfFrame s .dmc ≡ s .dmc
+unfolding halfFrame
 lengths-dmc s = refl
 
 stepped-dmc : (step : ℕ) (s : State) → stepped step s .dmc ≡ s .dmc
 unfolding stepped
 stepped-dmc step s =
-    let e : envelopesIf (clocksEnvelopes step (s .frame)) s .dmc ≡ s .dmc = pick-both (λ (x : State). x .dmc ≡ s .dmc) (clocksEnvelopes step (s .frame)) (envelopes-dmc s) refl in
-    pick-both (λ (x : State). x .dmc ≡ s .dmc) (clocksLengths step (s .frame)) (lengths-dmc _ ∙ e) e
+    let e : quarterIf (isQuarter step (s .frame)) s .dmc ≡ s .dmc = pick-both (λ (x : State). x .dmc ≡ s .dmc) (isQuarter step (s .frame)) (envelopes-dmc s) refl in
+    pick-both (λ (x : State). x .dmc ≡ s .dmc) (isHalf step (s .frame)) (lengths-dmc _ ∙ e) e
 
 framed-dmc : (s : State) → framed s .dmc ≡ s .dmc
 unfolding framed
@@ -291,7 +291,7 @@ walked-all memory s counts k f r w =
 
 pub ran-most : (memory : List ℕ) (s : State) (k : ℕ) (words : List ℕ) (ran : Ran) → ran ≡ answered 0 s (readBy memory s k words) → ran .done ≤ k
 unfolding answered readBy plain
-ran-most memory s k words ran e = rw e (let h = reading-done (chipMachine memory) k (start (roomOf words) s) in omega arith)
+ran-most memory s k words ran e = rw e (let h = reading-done (chipClockwork memory) k (start (roomOf words) s) in omega arith)
 
 pub opened : (memory : List ℕ) (s : State) (counts : List ℕ) (count : ℕ) (words : List ℕ) (k : ℕ) → Open memory s counts count k
     → (ran : Ran) (after : List ℕ) → ran ≡ answered 0 s (readBy memory s k words) → after ≡ over (flat (readBy memory s k words .marks)) words

@@ -7,8 +7,8 @@ use lib.Dec.{leb}
 use lib.ListN.{length}
 use Rattle.arith.specs.Iterate.{iterate}
 use Rattle.arith.specs.Pick.{pick}
-use Rattle.divider.specs.Divider.{forever}
-use Rattle.machine.proofs.CountingLaws.{Most, tallied, Free, Full}
+use Rattle.leap_still.specs.Forever.{forever}
+use Rattle.reading.proofs.CountingLaws.{Most, tallied, Free, Full}
 use Rattle.chip.specs.declared.State.{State}
 use Rattle.chip_dmc.specs.Clock.{dmcClock}
 use Rattle.chip_dmc.specs.declared.Dmc.{Dmc}

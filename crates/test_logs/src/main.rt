@@ -49,8 +49,8 @@ fn item(log: &[u8], k: u64) {
     text(b" ");
     let f = log_item::item(log, k);
     match f {
-        log_item::Found::Is(a) => act(a),
-        log_item::Found::Refused(n, at) => place(b"refused=", n, at),
+        log_item::Picked::Is(a) => act(a),
+        log_item::Picked::Refused(n, at) => place(b"refused=", n, at),
     }
     text(b"\n");
 }
@@ -83,41 +83,41 @@ fn body(log: &[u8], offset: usize) {
 }
 
 // 1 for an act, and 0 for anything else that a step finds.
-fn acts(f: log_cursor::Found) -> u64
+fn acts(f: log_cursor::Given) -> u64
     ensures { λ r. ⌜ r ≤ 1 ⌝ }
 {
     match f {
-        log_cursor::Found::Act(_) => 1,
-        log_cursor::Found::Moved => 0,
-        log_cursor::Found::End => 0,
-        log_cursor::Found::Refused(_, _) => 0,
+        log_cursor::Given::Act(_) => 1,
+        log_cursor::Given::Moved => 0,
+        log_cursor::Given::End => 0,
+        log_cursor::Given::Refused(_, _) => 0,
     }
 }
 
 // Whether a walk goes on behind what a step found.
-fn goes_on(f: log_cursor::Found) -> bool {
+fn goes_on(f: log_cursor::Given) -> bool {
     match f {
-        log_cursor::Found::Act(_) => true,
-        log_cursor::Found::Moved => true,
-        log_cursor::Found::End => false,
-        log_cursor::Found::Refused(_, _) => false,
+        log_cursor::Given::Act(_) => true,
+        log_cursor::Given::Moved => true,
+        log_cursor::Given::End => false,
+        log_cursor::Given::Refused(_, _) => false,
     }
 }
 
 // How a walk came out.
-fn outcome(f: log_cursor::Found) {
+fn outcome(f: log_cursor::Given) {
     match f {
-        log_cursor::Found::Act(_) => text(b" more\n"),
-        log_cursor::Found::Moved => text(b" more\n"),
-        log_cursor::Found::End => text(b" end\n"),
-        log_cursor::Found::Refused(k, at) => {
+        log_cursor::Given::Act(_) => text(b" more\n"),
+        log_cursor::Given::Moved => text(b" more\n"),
+        log_cursor::Given::End => text(b" end\n"),
+        log_cursor::Given::Refused(k, at) => {
             place(b" refused=", k, at);
             text(b"\n");
         }
     }
 }
 
-fn walked(items: u64, steps: u64, f: log_cursor::Found) {
+fn walked(items: u64, steps: u64, f: log_cursor::Given) {
     text(b"cursor=");
     number(items);
     text(b":");
@@ -142,7 +142,7 @@ fn walk(log: &[u8], most: u64) {
             return;
         }
     }
-    walked(items, steps, log_cursor::Found::Moved);
+    walked(items, steps, log_cursor::Given::Moved);
 }
 
 // A number with one more behind it.

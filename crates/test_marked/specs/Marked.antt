@@ -8,21 +8,21 @@ use Rattle.chip_mixer.specs.Mixer.{squaresLevel, mixed, weight, restLevel}
 use Rattle.chip_sweep.specs.Sweep.{target, muted, lowPeriod, highTarget, sweeps, sweptPeriod, sweepClock}
 use Rattle.chip_noise.specs.Shifter.{shiftedOf, shifterClock}
 use Rattle.chip_dmc.specs.Clock.{dmcRead, dmcOutput, dmcTimed}
-use Rattle.chip_output.specs.Output.{outputClock, outputStep, levelMoved}
-use Rattle.chip_reader.specs.Reader.{emptied, readerClock, pending, fetched, nextAddress, byteAt, sampleEnded, restarted, flagged, switched}
+use Rattle.chip_dmc_output.specs.Output.{outputClock, outputStep, levelMoved}
+use Rattle.chip_dmc_reader.specs.Reader.{emptied, readerClock, pending, fetched, nextAddress, byteAt, sampleEnded, restarted, flagged, switched}
 use Rattle.chip_dmc.specs.Range.{dmcOn}
-use Rattle.chip.specs.Clock.{chipClock, timersClocked, readerClocked, envelopesClocked, lengthsClocked, stepped, stepDue, framed}
+use Rattle.chip.specs.Clock.{chipClock, timersClocked, readerClocked, quarterFrame, halfFrame, stepped, stepDue, framed}
 use Rattle.chip.specs.Level.{stateLevel}
 use Rattle.chip.specs.Range.{powerOn}
-use Rattle.chip_registers.specs.Status.{statusByte, statusRead}
-use Rattle.chip_registers.specs.Write.{registerWritten, channelWritten, controlWritten, enablesWritten}
+use Rattle.chip_access.specs.Status.{statusByte, statusRead}
+use Rattle.chip_access.specs.Write.{registerWritten, channelWritten, controlWritten, enablesWritten}
 use Rattle.chip_square.specs.Square.{squareOutput, squareAmount, squareTimed, squareEnveloped, squareSwept, squareEnabled}
 use Rattle.chip_square.specs.Sequencer.{sequencerClock, dutyBit}
 use Rattle.chip_square.specs.Write.{squareWrite, squareWrite3, sequencerHigh}
 use Rattle.chip_triangle.specs.Triangle.{triangleOutput, triangleAt, triangleTimed, runs, triangleSequenced, triangleLinear, triangleLengthened, triangleEnabled}
 use Rattle.chip_noise.specs.Noise.{noiseOutput, noiseAmount, noiseTimed, noiseEnveloped, noiseLengthened, noiseEnabled}
 use Rattle.chip_dmc.specs.Write.{dmcWrite, dmcWrite3, dmcEnabled}
-use Rattle.chip_frame.specs.Frame.{frameDue, frameMoved, stepAt, clocksEnvelopes, clocksLengths, frameStepped, frameRead}
+use Rattle.chip_frame.specs.Frame.{frameDue, frameMoved, stepAt, isQuarter, isHalf, frameStepped, frameRead}
 use Rattle.chip_timer.specs.Timer.{timerClock, periodHigh}
 use Rattle.chip_length.specs.Length.{lengthLoaded, lengthClock, lengthEnabled}
 use Rattle.chip_envelope.specs.Envelope.{envelopeClock, envelopeStarted, envelopeDivided, decayed, volume, envelopeBegun}
@@ -30,9 +30,9 @@ use Rattle.chip_linear.specs.Linear.{linearClock}
 use Rattle.chip_tables.specs.Table.{noisePeriod, dmcPeriod}
 use Rattle.chip_sweep.specs.declared.Sweep.{Sweep}
 use Rattle.chip_dmc.specs.declared.Dmc.{Dmc}
-use Rattle.log_judge.specs.Judge.{judged, judge, ending}
-use Rattle.log_judge.specs.Lines.{linesOf}
-use Rattle.log_judge.specs.Whole.{checkOf, unlessWrong}
+use Rattle.log_rules.specs.Judge.{judged, judge, ending}
+use Rattle.log_rules.specs.Lines.{linesOf}
+use Rattle.log_rules.specs.Whole.{checkOf, unlessWrong}
 use Rattle.chip.specs.declared.State.{State}
 
 -- a row: what a definition gives, and what it is to be
@@ -131,6 +131,6 @@ marked memory =
 
 -- EVERY MARKED CASE HOLDS
 pub all-hold : (memory : List ℕ) → Holds (marked memory)
-unfolding checkOf unlessWrong judged judge ending linesOf chipClock dmcRead muted powerOn registerWritten shiftedOf squaresLevel stateLevel statusByte statusRead target mixed weight restLevel squareOutput squareAmount squareTimed squareEnveloped squareSwept squareEnabled sequencerClock dutyBit squareWrite squareWrite3 sequencerHigh triangleOutput triangleAt triangleTimed runs triangleSequenced triangleLinear triangleLengthened triangleEnabled noiseOutput noiseAmount noiseTimed noiseEnveloped noiseLengthened noiseEnabled shifterClock dmcOutput dmcTimed outputClock outputStep emptied readerClock pending fetched nextAddress byteAt sampleEnded restarted flagged levelMoved dmcWrite dmcWrite3 dmcEnabled switched frameDue frameMoved stepAt clocksEnvelopes clocksLengths frameStepped frameRead timerClock periodHigh lengthLoaded lengthClock lengthEnabled envelopeClock envelopeStarted envelopeDivided decayed volume envelopeBegun lowPeriod highTarget sweeps sweptPeriod sweepClock linearClock timersClocked readerClocked envelopesClocked lengthsClocked stepped framed noisePeriod dmcPeriod channelWritten controlWritten enablesWritten
+unfolding checkOf unlessWrong judged judge ending linesOf chipClock dmcRead muted powerOn registerWritten shiftedOf squaresLevel stateLevel statusByte statusRead target mixed weight restLevel squareOutput squareAmount squareTimed squareEnveloped squareSwept squareEnabled sequencerClock dutyBit squareWrite squareWrite3 sequencerHigh triangleOutput triangleAt triangleTimed runs triangleSequenced triangleLinear triangleLengthened triangleEnabled noiseOutput noiseAmount noiseTimed noiseEnveloped noiseLengthened noiseEnabled shifterClock dmcOutput dmcTimed outputClock outputStep emptied readerClock pending fetched nextAddress byteAt sampleEnded restarted flagged levelMoved dmcWrite dmcWrite3 dmcEnabled switched frameDue frameMoved stepAt isQuarter isHalf frameStepped frameRead timerClock periodHigh lengthLoaded lengthClock lengthEnabled envelopeClock envelopeStarted envelopeDivided decayed volume envelopeBegun lowPeriod highTarget sweeps sweptPeriod sweepClock linearClock timersClocked readerClocked quarterFrame halfFrame stepped framed noisePeriod dmcPeriod channelWritten controlWritten enablesWritten
 all-hold memory =
     (refl, (refl, (refl, (refl, (refl, (refl, (refl, (refl, (refl, (refl, (refl, (refl, (refl, (refl, (refl, (refl, (refl, (refl, (refl, (refl, (refl, (refl, (refl, (refl, (refl, (refl, (refl, (refl, (refl, (refl, (refl, (refl, (refl, (refl, (refl, (refl, (refl, tt)))))))))))))))))))))))))))))))))))))

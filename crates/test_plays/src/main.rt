@@ -18,7 +18,7 @@ fn one(k: u8, memory: &[u8]) -> bool {
     text(b"case=");
     text(&name[..2]);
     text(b"\n");
-    play_shell::play(&log[..n], memory);
+    play_stdout::play(&log[..n], memory);
     true
 }
 
@@ -42,7 +42,7 @@ fn lengths() {
 
 fn main() {
     let mut memory = [0u8; 32769];
-    let r = perch_io::read_file(b"sample.bin", &mut memory);
+    let r = program_io::read_file(b"sample.bin", &mut memory);
     let n = r.count;
     all(&memory[..n]);
     lengths();

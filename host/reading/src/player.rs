@@ -56,7 +56,7 @@ pub fn body(log: &[u8], offset: u64) -> u64 {
     answer(log::body(log, offset), |part| part.start as u64 | (part.len() as u64) << 16)
 }
 
-/// A player, one small turn at a time. One that its log didn't lead to turns as crates/play_model/specs/Turns.antt defines it.
+/// A player, one small turn at a time. One that its log didn't lead to turns as crates/play_rules/specs/Turns.antt defines it.
 #[derive(Clone, Copy, Debug, PartialEq, Eq)]
 pub struct Player {
     /// Where it stands in the log.

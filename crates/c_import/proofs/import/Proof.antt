@@ -1,7 +1,7 @@
 use borrow.Author.Needs.{needs}
 use mathlib.Core.Path.{sym, ap, _∙_}
 use lib.ListN.{length}
-use Rattle.log_measure.specs.declared.Imported.{Imported}
+use Rattle.vgm_measure.specs.declared.Imported.{Imported}
 use Rattle.c_import.proofs.Apart.{length-most, packed-is, packed-stands}
 use Rattle.c_import.proofs.import.Statement.{statement}
 use Rattle.c_import.proofs.import.Tie as tie

@@ -1,7 +1,7 @@
 use mathlib.Core.Path.{refl}
 use native.Mathlib.Omega.{arith}
 use borrow.Author.Needs.{needs}
-use Rattle.log_judge.specs.Tree.{actClocks}
+use Rattle.log_rules.specs.Tree.{actClocks}
 use Rattle.c_log.proofs.act_value.Statement.{statement}
 use Rattle.c_log.proofs.act_value.Tie as tie
 

@@ -1,6 +1,6 @@
 use native.Mathlib.Omega.{arith}
 use denote.Ref.{now}
-use Rattle.log_judge.proofs.Limits.{check-limits}
+use Rattle.log_rules.proofs.Limits.{check-limits}
 use Rattle.c_log.proofs.TotalLaws.{place-is}
 use Rattle.c_log.proofs.check.Statement.{statement}
 use Rattle.c_log.proofs.check.Tie as tie

@@ -11,15 +11,15 @@ use Rattle.chip_access.proofs.accessed.Tie as tie
 returns : tie.Need-returns
 unfolding accessState accessByte
 returns c = (
-  simp (c .before .before .x .given .1, c .written .ensures),
-  λ h. ap inRange (c .written .ensures) ∙ access-kept (Write _ _) (c .before .before .before .before .args .s) (omega arith) h,
+  simp (c .before .before .x .given .1, c .register-written .ensures),
+  λ h. ap inRange (c .register-written .ensures) ∙ access-kept (Write _ _) (c .before .before .before .before .args .s) (omega arith) h,
 )
 
 returns-2 : tie.Need-returns-2
 unfolding accessState accessByte
 returns-2 c = (
-  simp (c .before .before .enum-told .given .1, c .status .ensures, c .before .read .ensures),
-  λ h. ap inRange (c .before .read .ensures) ∙ access-kept Read _ tt h,
+  simp (c .before .before .enum-told .given .1, c .status-byte .ensures, c .before .status-read .ensures),
+  λ h. ap inRange (c .before .status-read .ensures) ∙ access-kept Read _ tt h,
 )
 
 pub accessed-spec : {M : Type 1} → statement M

@@ -1,5 +1,5 @@
 use mathlib.Core.Path.{refl}
-use Rattle.leap_chip.specs.Between.{stateWith}
+use Rattle.leap_law.specs.Between.{stateWith}
 use Rattle.leap_stretch.proofs.state_with.Statement.{statement}
 use Rattle.leap_stretch.proofs.state_with.Tie as tie
 

@@ -7,8 +7,8 @@ use denote.Ref.{now}
 use lib.ListN.{length}
 use mathlib.Core.Path.{_≡_, sym, ap, _∙_}
 use native.Mathlib.Omega.{arith}
-use Rattle.log_judge.proofs.Descent.{plus, plus-plus, plus-none, carry, part-good, turn, end-plus, answer-small, finish, part-of, step-good}
-use Rattle.log_judge.proofs.TotalLaws.{small-cut}
+use Rattle.log_rules.proofs.Descent.{plus, plus-plus, plus-none, carry, part-good, turn, end-plus, answer-small, finish, part-of, step-good}
+use Rattle.log_rules.proofs.TotalLaws.{small-cut}
 use Rattle.log_block.proofs.+read_block+read_line.Lts-read_block as read-block-lts
 use Rattle.log_block.proofs.+read_block+read_line.Lts-read_line as read-line-lts
 use Rattle.log_block.proofs.+read_block+read_line.{statement}
@@ -21,10 +21,10 @@ use Rattle.log_block.proofs.read_line.Kinds as read-line-kinds
 use Rattle.log_block.proofs.read_line.Reads as read-line
 use Rattle.log_block.proofs.repeated.Reads as repeated-reads
 use Rattle.log_block.proofs.sum.Reads as sum-reads
-use Rattle.log_judge.specs.Block.{blockAnswer, readBlock, Small, loopPart}
-use Rattle.log_judge.specs.declared.Block.{Block}
-use Rattle.log_judge.specs.declared.Part.{Part}
-use Rattle.log_judge.specs.declared.Totals.{Totals}
+use Rattle.log_rules.specs.Block.{blockAnswer, readBlock, Small, loopPart}
+use Rattle.log_rules.specs.declared.Block.{Block}
+use Rattle.log_rules.specs.declared.Part.{Part}
+use Rattle.log_rules.specs.declared.Totals.{Totals}
 use Rattle.log_block.proofs.+read_block+read_line.Tie.{close}
 
 abbrev μ-read-block : Measures 1 read-block-kinds.ps ℕ

@@ -1,5 +1,5 @@
 use borrow.Author.Needs.{needs}
-use Rattle.log_judge.specs.Block.{stepAnswer, partAnswer, begunBy, readBegun}
+use Rattle.log_rules.specs.Block.{stepAnswer, partAnswer, begunBy, readBegun}
 use Rattle.log_block.proofs.begin.Statement.{statement}
 use Rattle.log_block.proofs.begin.Tie as tie
 

@@ -1,5 +1,5 @@
 use borrow.Author.Needs.{needs}
-use Rattle.log_judge.specs.Block.{stepAnswer, begun, partAnswer}
+use Rattle.log_rules.specs.Block.{stepAnswer, begun, partAnswer}
 use Rattle.log_block.proofs.opened.Statement.{statement}
 use Rattle.log_block.proofs.opened.Tie as tie
 

@@ -2,7 +2,7 @@ use Prim.Native.Nat.{_+_}
 use borrow.Author.Needs.{needs}
 use native.Mathlib.Nat.{mul-le-mul}
 use native.Mathlib.Omega.{arith}
-use Rattle.log_judge.proofs.TotalLaws.{totals≡}
+use Rattle.log_rules.proofs.TotalLaws.{totals≡}
 use Rattle.log_block.proofs.scaled.Statement.{statement}
 use Rattle.log_block.proofs.scaled.Tie as tie
 

@@ -1,5 +1,5 @@
 use borrow.Author.Needs.{needs}
-use Rattle.log_judge.proofs.TotalLaws.{totals≡}
+use Rattle.log_rules.proofs.TotalLaws.{totals≡}
 use Rattle.log_block.proofs.sum.Statement.{statement}
 use Rattle.log_block.proofs.sum.Tie as tie
 

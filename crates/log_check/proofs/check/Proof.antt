@@ -1,7 +1,7 @@
 use borrow.Author.Needs.{needs}
 use denote.Ref.{now}
 use mathlib.Core.Path.{_∙_}
-use Rattle.log_judge.proofs.CheckLaws.{checked-by}
+use Rattle.log_rules.proofs.CheckLaws.{checked-by}
 use Rattle.log_check.proofs.check.Statement.{statement}
 use Rattle.log_check.proofs.check.Tie as tie
 

@@ -2,7 +2,7 @@
 use borrow.Author.Needs.{needs}
 use denote.Ref.{now}
 use native.Mathlib.Omega.{arith}
-use Rattle.log_judge.proofs.Descent.{answer-small}
+use Rattle.log_rules.proofs.Descent.{answer-small}
 use Rattle.log_item.proofs.HopLaws.{next-is, next-other}
 use Rattle.log_item.proofs.next_hop.Statement.{statement}
 use Rattle.log_item.proofs.next_hop.Tie as tie

@@ -1,6 +1,6 @@
 use borrow.Author.Needs.{needs}
 use Rattle.log_line.specs.Printed.{ended, lineText}
-use Rattle.log_judge.specs.Head.{machineOf}
+use Rattle.log_rules.specs.Head.{machineOf}
 use Rattle.log_read.proofs.is_pal.Statement.{statement}
 use Rattle.log_read.proofs.is_pal.Tie as tie
 

@@ -4,8 +4,8 @@ use denote.Ref.{now}
 use lib.ListN.{length}
 use mathlib.Core.Path.{_≡_, refl}
 use native.Mathlib.Omega.{arith}
-use Rattle.log_judge.proofs.PlaceLaws.{len-feed, len-more, len-none}
-use Rattle.log_judge.specs.Lines.{nextLine}
+use Rattle.log_rules.proofs.PlaceLaws.{len-feed, len-more, len-none}
+use Rattle.log_rules.specs.Lines.{nextLine}
 use Rattle.log_read.proofs.line_end.Statement.{statement}
 use Rattle.log_read.proofs.line_end.Tie as tie
 

@@ -1,5 +1,5 @@
 use borrow.Author.Tests.{eq-eqb, ne-eqb}
-use Rattle.log_judge.specs.Reading.{readAt}
+use Rattle.log_rules.specs.Reading.{readAt}
 use Rattle.log_read.proofs.read.Statement.{statement}
 use Rattle.log_read.proofs.read.Tie as tie
 

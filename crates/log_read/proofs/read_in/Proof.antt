@@ -1,8 +1,8 @@
 use denote.Ref.{now}
 use mathlib.Core.Path.{sym, _∙_}
 use native.Mathlib.Omega.{arith}
-use Rattle.log_judge.proofs.PlaceLaws.{next-pos, next-le, read-is, read-long, read-none, read-reaches}
-use Rattle.log_judge.specs.Lines.{nextLine}
+use Rattle.log_rules.proofs.PlaceLaws.{next-pos, next-le, read-is, read-long, read-none, read-reaches}
+use Rattle.log_rules.specs.Lines.{nextLine}
 use Rattle.log_read.proofs.read_in.Statement.{statement}
 use Rattle.log_read.proofs.read_in.Tie as tie
 

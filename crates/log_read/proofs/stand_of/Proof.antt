@@ -1,5 +1,5 @@
 use borrow.Author.Tests.{eq-eqb, ne-eqb}
-use Rattle.log_judge.specs.Reading.{standing}
+use Rattle.log_rules.specs.Reading.{standing}
 use Rattle.log_read.proofs.stand_of.Statement.{statement}
 use Rattle.log_read.proofs.stand_of.Tie as tie
 

@@ -1,5 +1,5 @@
 use mathlib.Core.Path.{sym, _∙_}
-use Rattle.log_judge.specs.Head.{startOf}
+use Rattle.log_rules.specs.Head.{startOf}
 use Rattle.log_read.proofs.start.Statement.{statement}
 use Rattle.log_read.proofs.start.Tie as tie
 

@@ -5,7 +5,7 @@ use mathlib.Core.List.{List}
 use native.Mathlib.Omega.{arith}
 use lib.ListN.{length}
 use Rattle.log_line.specs.Printed.{lineText, ended}
-use Rattle.log_mending.specs.Mending.{Kept, closedBy}
+use Rattle.log_salvage_rules.specs.Mending.{Kept, closedBy}
 use Rattle.log_salvage.specs.Writing.{Written}
 use Rattle.log_salvage.proofs.WriteLaws.{printed-long}
 use Rattle.log_salvage.proofs.EndLaws.{Closing, closing-step, closing-end}

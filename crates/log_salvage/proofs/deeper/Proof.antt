@@ -1,4 +1,4 @@
-use Rattle.log_mending.specs.Mending.{deeper}
+use Rattle.log_salvage_rules.specs.Mending.{deeper}
 use borrow.Author.Needs.{needs}
 use Rattle.log_salvage.proofs.deeper.Statement.{statement}
 use Rattle.log_salvage.proofs.deeper.Tie as tie

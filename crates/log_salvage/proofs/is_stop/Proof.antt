@@ -1,4 +1,4 @@
-use Rattle.log_mending.specs.Mending.{isStop}
+use Rattle.log_salvage_rules.specs.Mending.{isStop}
 use borrow.Author.Needs.{needs}
 use Rattle.log_salvage.proofs.is_stop.Statement.{statement}
 use Rattle.log_salvage.proofs.is_stop.Tie as tie

@@ -5,9 +5,9 @@ use mathlib.Core.Path.{_≡_, refl, ap, _∙_}
 use mathlib.Core.List.{List}
 use native.Mathlib.Omega.{arith}
 use lib.ListN.{length, drop}
-use Rattle.log_judge.specs.Lines.{linesOf}
-use Rattle.log_mending.specs.Mending.{Kept, sift}
-use Rattle.log_mending.proofs.SiftLaws.{Going}
+use Rattle.log_rules.specs.Lines.{linesOf}
+use Rattle.log_salvage_rules.specs.Mending.{Kept, sift}
+use Rattle.log_salvage_rules.proofs.SiftLaws.{Going}
 use Rattle.log_salvage.specs.Writing.{Sifts, Bound}
 use Rattle.log_salvage.proofs.WriteLaws.{printed-long}
 use Rattle.log_salvage.proofs.BoundLaws.{bound-step}

@@ -1,5 +1,5 @@
 use Rattle.log_salvage.proofs.WriteLaws.{printed-none}
-use Rattle.log_mending.specs.Entries.{entryWords, listWords}
+use Rattle.log_salvage_rules.specs.Entries.{entryWords, listWords}
 use Rattle.log_salvage.specs.Steps.{entriesBy}
 use native.Mathlib.Omega.{arith}
 use borrow.Author.Needs.{needs}

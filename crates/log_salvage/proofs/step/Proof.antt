@@ -1,7 +1,7 @@
 use Rattle.log_salvage.proofs.StepLaws.{opens-by}
 use Rattle.log_salvage.proofs.BoundLaws.{kept-in}
-use Rattle.log_spot.specs.declared.Stand.the-variants.{Among}
-use Rattle.log_spot.specs.Fault.{spotOf}
+use Rattle.log_fault.specs.declared.Stand.the-variants.{Among}
+use Rattle.log_fault.specs.Fault.{spotOf}
 use Rattle.log_salvage.specs.Writing.{fateBy}
 use Rattle.log_salvage.specs.Steps.{foundBy, keptBy}
 use lib.ListN.{length}

@@ -3,7 +3,7 @@ use borrow.Author.Needs.{needs}
 use mathlib.Core.List.{_++_}
 use Rattle.text.specs.Ascii.{bytes}
 use Rattle.text_print.specs.Printed.{Put}
-use Rattle.perch_place.proofs.Pieces.{room-first, room-rest, put-then}
+use Rattle.text_place.proofs.Pieces.{room-first, room-rest, put-then}
 use Rattle.perch_check.specs.Report.{machineLine, numberLine, passedText}
 use Rattle.perch_check.proofs.passed.Statement.{statement}
 use Rattle.perch_check.proofs.passed.Tie as tie

@@ -3,9 +3,9 @@ use borrow.Author.Needs.{needs}
 use mathlib.Core.List.{_++_}
 use Rattle.text_print.specs.Printed.{Put}
 use Rattle.text_print.proofs.PieceLaws.{put-last, put-more}
-use Rattle.perch_place.specs.Place.{lineNumber, column}
-use Rattle.perch_place.specs.Shown.{shownLine, markLine}
-use Rattle.perch_place.proofs.Pieces.{room-first, room-rest, put-then}
+use Rattle.text_place.specs.Place.{lineNumber, column}
+use Rattle.text_place.specs.Shown.{shownLine, markLine}
+use Rattle.text_place.proofs.Pieces.{room-first, room-rest, put-then}
 use Rattle.perch_check.specs.Report.{refusedLine, reasonLine, refusedText}
 use Rattle.perch_check.proofs.refused.Statement.{statement}
 use Rattle.perch_check.proofs.refused.Tie as tie

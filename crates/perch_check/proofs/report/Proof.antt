@@ -5,7 +5,7 @@ use lib.ListN.{length, take}
 use Rattle.text_print.specs.Printed.{placed, printed}
 use Rattle.perch_check.specs.Report.{checkText}
 use Rattle.perch_check.proofs.Sizes.{check-size}
-use Rattle.perch_place.proofs.Sizes.{text-taken}
+use Rattle.text_place.proofs.Sizes.{text-taken}
 use Rattle.perch_check.proofs.report.Statement.{statement}
 use Rattle.perch_check.proofs.report.Tie as tie
 

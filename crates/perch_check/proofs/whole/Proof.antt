@@ -8,7 +8,7 @@ use lib.ListN.{length}
 use Rattle.text.specs.Ascii.{bytes}
 use Rattle.text_print.specs.Printed.{Put}
 use Rattle.text_print.proofs.PieceLaws.{put-last}
-use Rattle.perch_place.proofs.Pieces.{room-first, room-rest, put-then}
+use Rattle.text_place.proofs.Pieces.{room-first, room-rest, put-then}
 use Rattle.perch_check.specs.Report.{passedText, refusedText, checkText}
 use Rattle.perch_check.proofs.Sizes.{whole-room, text-passed, text-refused}
 use Rattle.perch_check.proofs.whole.Statement.{statement}

@@ -4,7 +4,7 @@ use mathlib.Core.Path.{_≡_, sym, ap, _∙_}
 use native.Mathlib.Omega.{arith}
 use lib.ListN.{length, take}
 use Rattle.text_print.specs.Printed.{placed, printed}
-use Rattle.perch_place.proofs.Sizes.{text-taken}
+use Rattle.text_place.proofs.Sizes.{text-taken}
 use Rattle.perch_meter.specs.Text.{meterText}
 use Rattle.perch_meter.proofs.Sizes.{meter-size}
 use Rattle.perch_meter.proofs.answer.Statement.{statement}

@@ -3,7 +3,7 @@ use mathlib.Core.Path.{_≡_, sym, ap, _∙_}
 use native.Mathlib.Omega.{arith}
 use lib.ListN.{length, take}
 use Rattle.text_print.specs.Printed.{placed, printed}
-use Rattle.perch_place.proofs.Sizes.{text-taken}
+use Rattle.text_place.proofs.Sizes.{text-taken}
 use Rattle.perch_meter.specs.Text.{waitLine}
 use Rattle.perch_meter.proofs.Sizes.{wait-size}
 use Rattle.perch_meter.proofs.put_wait.Statement.{statement}

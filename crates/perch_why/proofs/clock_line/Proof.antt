@@ -3,7 +3,7 @@ use mathlib.Core.List.{_++_}
 use Rattle.text.specs.Ascii.{bytes}
 use Rattle.text.specs.Decimal.{decimalText}
 use Rattle.text_print.proofs.PieceLaws.{put-last}
-use Rattle.perch_place.proofs.Pieces.{room-first, room-rest, put-then}
+use Rattle.text_place.proofs.Pieces.{room-first, room-rest, put-then}
 use Rattle.perch_why.specs.Text.{clockLine}
 use Rattle.perch_why.proofs.clock_line.Statement.{statement}
 use Rattle.perch_why.proofs.clock_line.Tie as tie

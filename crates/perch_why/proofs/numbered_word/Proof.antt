@@ -1,7 +1,7 @@
 use borrow.Author.Needs.{needs}
 use Rattle.text.specs.Decimal.{decimalText}
 use Rattle.text_print.proofs.PieceLaws.{put-last}
-use Rattle.perch_place.proofs.Pieces.{room-first, room-rest, put-then}
+use Rattle.text_place.proofs.Pieces.{room-first, room-rest, put-then}
 use Rattle.perch_why.specs.Text.{numbered}
 use Rattle.perch_why.proofs.numbered_word.Statement.{statement}
 use Rattle.perch_why.proofs.numbered_word.Tie as tie

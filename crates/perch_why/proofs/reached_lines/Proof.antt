@@ -1,5 +1,5 @@
 use borrow.Author.Needs.{needs}
-use Rattle.perch_place.proofs.Pieces.{room-first, room-rest, put-then}
+use Rattle.text_place.proofs.Pieces.{room-first, room-rest, put-then}
 use Rattle.perch_why.specs.Text.{channelLines, clockLine}
 use Rattle.perch_why.proofs.reached_lines.Statement.{statement}
 use Rattle.perch_why.proofs.reached_lines.Tie as tie

@@ -1,7 +1,7 @@
 use borrow.Author.Needs.{needs}
 use Rattle.text.specs.Ascii.{bytes}
 use Rattle.text_print.proofs.PieceLaws.{put-last}
-use Rattle.perch_place.proofs.Pieces.{room-first, room-rest, put-then}
+use Rattle.text_place.proofs.Pieces.{room-first, room-rest, put-then}
 use Rattle.perch_why.specs.Text.{outcomeText, whyText}
 use Rattle.perch_why.proofs.Sizes.{whole-room}
 use Rattle.perch_why.proofs.whole.Statement.{statement}

@@ -1,4 +1,4 @@
-use Rattle.play_model.specs.Turns.{freshPlayer, endedPlayer}
+use Rattle.play_rules.specs.Turns.{freshPlayer, endedPlayer}
 use Rattle.play_begin.proofs.ended.Statement.{statement}
 use Rattle.play_begin.proofs.ended.Tie as tie
 

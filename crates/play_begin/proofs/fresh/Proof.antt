@@ -1,4 +1,4 @@
-use Rattle.play_model.specs.Turns.{freshPlayer}
+use Rattle.play_rules.specs.Turns.{freshPlayer}
 use Rattle.play_begin.proofs.fresh.Statement.{statement}
 use Rattle.play_begin.proofs.fresh.Tie as tie
 

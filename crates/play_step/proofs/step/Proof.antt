@@ -7,7 +7,7 @@ use lib.Dec.{eqb}
 use lib.ListN.{length}
 use borrow.Author.Tests.{eq-eqb, eqb-true, not-true, not-false}
 use Rattle.chip.specs.Range.{inRange}
-use Rattle.play_model.specs.declared.Player.{Player}
+use Rattle.play_rules.specs.declared.Player.{Player}
 use Rattle.play_step.specs.declared.Taken.{Taken}
 use Rattle.play_step.specs.Steps.{roomFor}
 use Rattle.play_step.proofs.TakenLaws.{by-turn, by-wait, wait-kept, taken-player}

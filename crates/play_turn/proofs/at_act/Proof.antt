@@ -1,6 +1,6 @@
 use borrow.Author.Needs.{needs}
 use mathlib.Core.Path.{refl}
-use Rattle.play_model.specs.Turns.{acted}
+use Rattle.play_rules.specs.Turns.{acted}
 use Rattle.play_turn.proofs.at_act.Statement.{statement}
 use Rattle.play_turn.proofs.at_act.Tie as tie
 

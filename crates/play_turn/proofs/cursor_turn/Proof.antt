@@ -1,5 +1,5 @@
 use mathlib.Core.Path.{refl, _∙_}
-use Rattle.play_model.specs.Turns.{cursorTurn}
+use Rattle.play_rules.specs.Turns.{cursorTurn}
 use Rattle.play_turn.proofs.KeepLaws.{found-back}
 use Rattle.play_turn.proofs.cursor_turn.Statement.{statement}
 use Rattle.play_turn.proofs.cursor_turn.Tie as tie

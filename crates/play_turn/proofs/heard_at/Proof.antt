@@ -1,5 +1,5 @@
 use borrow.Author.Tests.{eq-eqb, ne-eqb}
-use Rattle.play_model.specs.Turns.{levelTold}
+use Rattle.play_rules.specs.Turns.{levelTold}
 use Rattle.play_turn.proofs.heard_at.Statement.{statement}
 use Rattle.play_turn.proofs.heard_at.Tie as tie
 

@@ -1,6 +1,6 @@
 use mathlib.Core.Path.{refl}
 use borrow.Author.Tests.{eq-eqb, ne-eqb}
-use Rattle.play_model.specs.Turns.{phaseTurn}
+use Rattle.play_rules.specs.Turns.{phaseTurn}
 use Rattle.play_turn.proofs.phase_turn.Statement.{statement}
 use Rattle.play_turn.proofs.phase_turn.Tie as tie
 

@@ -1,6 +1,6 @@
 use borrow.Author.Needs.{needs}
 use mathlib.Core.Path.{refl}
-use Rattle.play_model.specs.Turns.{stepSaid}
+use Rattle.play_rules.specs.Turns.{stepSaid}
 use Rattle.play_turn.proofs.stepped_to.Statement.{statement}
 use Rattle.play_turn.proofs.stepped_to.Tie as tie
 

@@ -2,9 +2,9 @@ use Prim.Native.Nat.{_+_, _-_, _≤_, min}
 use mathlib.Core.Path.{_≡_, _∙_, ap, refl}
 use native.Mathlib.Omega.{arith}
 use borrow.Author.Needs.{needs}
-use Rattle.leap_chip.specs.Frame.{beforeStep}
-use Rattle.run_stretch.specs.Stretch.{stretchEnd}
-use Rattle.run_stretch.proofs.StretchLaws.{stretch-most}
+use Rattle.leap_law.specs.Frame.{beforeStep}
+use Rattle.run_loops.specs.Stretch.{stretchEnd}
+use Rattle.run_loops.proofs.StretchLaws.{stretch-most}
 use Rattle.run.proofs.next_stretch.Statement.{statement}
 use Rattle.run.proofs.next_stretch.Tie as tie
 

@@ -9,7 +9,7 @@ use Rattle.chip.proofs.RangeLaws.{state-in, state-back}
 use Rattle.run_answer.specs.Run.{roomOf}
 use Rattle.run_answer.specs.Held.{Held}
 use Rattle.run_answer.proofs.RunLaws.{held-start, held-length, held-few, held-ranged, held-same, held-mark, held-end, held-early}
-use Rattle.run_stretch.proofs.StretchLaws.{stretch-most}
+use Rattle.run_loops.proofs.StretchLaws.{stretch-most}
 use Rattle.run.proofs.run_on.Statement.{statement}
 use Rattle.run.proofs.run_on.Tie as tie
 

@@ -6,8 +6,8 @@ use Rattle.chip.specs.Range.{Bytes}
 use Rattle.leap_stretch.specs.declared.Lags.{Lags}
 use Rattle.leap_stretch.proofs.WaitLaws.{sounds-renewed}
 use Rattle.run_answer.specs.Run.{roomOf}
-use Rattle.run_stretch.specs.Stretch.{Standing, Worked}
-use Rattle.run_stretch.proofs.StretchLaws.{worked-none, worked-on, worked-event, past, event-now}
+use Rattle.run_loops.specs.Stretch.{Standing, Worked}
+use Rattle.run_loops.proofs.StretchLaws.{worked-none, worked-on, worked-event, past, event-now}
 use Rattle.run.proofs.sounds_on.Statement.{statement}
 use Rattle.run.proofs.sounds_on.Tie as tie
 

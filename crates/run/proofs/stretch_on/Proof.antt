@@ -5,9 +5,9 @@ use native.Mathlib.Omega.{arith}
 use Rattle.chip.specs.Range.{Bytes}
 use Rattle.leap_stretch.specs.declared.Lags.{Lags}
 use Rattle.run_answer.specs.Run.{roomOf}
-use Rattle.leap_chip.specs.Quiet.{Quiet}
-use Rattle.run_stretch.specs.Stretch.{Worked}
-use Rattle.run_stretch.proofs.StretchLaws.{Untouched, untouched-start, untouched-goes, untouched-passed, worked-start, worked-on, worked-event, worked-stop, past, event-now}
+use Rattle.leap_law.specs.Quiet.{Quiet}
+use Rattle.run_loops.specs.Stretch.{Worked}
+use Rattle.run_loops.proofs.StretchLaws.{Untouched, untouched-start, untouched-goes, untouched-passed, worked-start, worked-on, worked-event, worked-stop, past, event-now}
 use Rattle.run.proofs.stretch_on.Statement.{statement}
 use Rattle.run.proofs.stretch_on.Tie as tie
 

@@ -8,8 +8,8 @@ use Rattle.leap_stretch.specs.Voices.{levelBy, lagsWith}
 use Rattle.leap_stretch.specs.declared.Voices.{Voices}
 use Rattle.leap_stretch.proofs.VoicesLaws.{Sound, sound-start, level-by-is}
 use Rattle.run_answer.specs.Run.{roomOf}
-use Rattle.run_stretch.specs.Stretch.{Standing, Worked}
-use Rattle.run_stretch.proofs.StretchLaws.{voices-none, voices-past, voices-worked, voices-now, voices-sound}
+use Rattle.run_loops.specs.Stretch.{Standing, Worked}
+use Rattle.run_loops.proofs.StretchLaws.{voices-none, voices-past, voices-worked, voices-now, voices-sound}
 use Rattle.run.proofs.voices_on.Statement.{statement}
 use Rattle.run.proofs.voices_on.Tie as tie
 

@@ -1,9 +1,9 @@
-use Rattle.chip_frame.specs.Frame.{clocksEnvelopes}
+use Rattle.chip_frame.specs.Frame.{isQuarter}
 use Rattle.chip_frame.proofs.Frame.is_quarter.Statement.{statement}
 use Rattle.chip_frame.proofs.Frame.is_quarter.Tie as tie
 
 returns : tie.Need-returns
-unfolding clocksEnvelopes
+unfolding isQuarter
 returns c = simp (c .pick-bool .ensures)
 
 pub is-quarter-spec : {M : Type 1} → statement M

@@ -1,3 +1,0 @@
-pub mod Elsewhere
-pub mod MachineLaws
-pub mod RangeLaws

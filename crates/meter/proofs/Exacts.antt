@@ -1,0 +1,43 @@
+-- Every level that is handed out is its exact fraction of 32,768, and times 32,768 it is the level again. Assumes nothing.
+use Prim.Native.Nat.{ℕ, _≤_}
+use mathlib.Core.Path.{_≡_}
+use mathlib.Core.Bool.{false}
+use mathlib.Core.List.{List, [], _∷_}
+use native.Mathlib.Omega.{arith}
+use lib.IntN.{pos}
+use lib.Ieee.{Float, binary32, mul, ofInt}
+use lib.Ieee.Exact.{HasValue}
+use Rattle.chip_mixer.specs.Fraction.{scale, fractionOf}
+use Rattle.chip_mixer.proofs.FractionLaws.{over, again}
+use Rattle.meter.specs.declared.Measured.{Measured}
+use Rattle.meter.specs.declared.Measured.the-variants.{Refused, NoLevels, Silent, Steady, Moving}
+use Rattle.meter.specs.Measure.{measureOf, measuredLevels}
+use Rattle.meter.specs.Meter.{valuesOf, inFractions, meterOf}
+use Rattle.meter.proofs.Answers.{Says, says}
+
+-- a float is a level's exact fraction
+pub record Exact (v : Float) (level : ℕ) : Type 0 where
+  pub value : HasValue v false level 32768
+  pub back : mul binary32 v scale ≡ ofInt binary32 (pos level)
+
+-- each of a list's floats is that of its level
+abbrev pub Exactly : List Float → List ℕ → Type 0
+Exactly [] [] = Unit {0}
+Exactly [] (n ∷ l) = ⊥
+Exactly (v ∷ vs) [] = ⊥
+Exactly (v ∷ vs) (n ∷ l) = Exact v n × Exactly vs l
+
+one : (n : ℕ) → n ≤ 32767 → Exact (fractionOf n) n
+unfolding fractionOf
+one n h = record { value = over n (omega arith); back = again n (omega arith) }
+
+each : (l : List ℕ) (r : Measured) → Says l r → Exactly (valuesOf (inFractions r)) (measuredLevels r)
+each l (Refused k) s = tt
+each l NoLevels s = tt
+each l Silent s = tt
+each l (Steady v) s = (one v (s .3), tt)
+each l (Moving a b) s = (one a (omega (arith, s .0, s .1)), (one b (s .1), tt))
+
+-- THE METER'S LEVELS ARE EXACT
+pub exact : (l : List ℕ) → Exactly (valuesOf (meterOf l)) (measuredLevels (measureOf l))
+exact l = each l (measureOf l) (says l)

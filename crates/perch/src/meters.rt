@@ -1,0 +1,119 @@
+// `perch meter`: a log on standard input, and on standard output the meter of what it sounds like; `perch meter waits`: of each of its waits too.
+ghost use mathlib.Core.Path.{_≡_};
+ghost use Prim.Native.Nat.{_+_, _-_, _≤_};
+ghost use lib.Dec.{leb};
+ghost use lib.ListN.{length, take};
+ghost use Rattle.arith.specs.Pick.{pick};
+ghost use Rattle.io.specs.Counts.{Counts};
+ghost use Rattle.text_print.specs.Printed.{Put};
+ghost use Rattle.perch_meter.specs.Text.{meterText, nextText};
+use libc::STDIN_FILENO;
+use libc::STDOUT_FILENO;
+use play_meter::waits::Next;
+
+// The text about the whole log: 64 bytes always hold it.
+fn answer(log: &[u8], memory: &[u8], out: &mut [u8; 64]) -> usize
+    ensures { λ r. ⌜ Counts r (now (out .exit)) ⌝ }
+    ensures { λ r. ⌜ take r (now (out .exit)) ≡ meterText (now (log .entry)) (now (memory .entry)) ⌝ }
+{
+    perch_meter::answer(log, memory, out)
+}
+
+fn tell(log: &[u8], memory: &[u8]) {
+    let mut out = [0u8; 64];
+    let n = answer(log, memory, &mut out);
+    io::write_all(STDOUT_FILENO, &out[..n]);
+}
+
+// What there is to write of a step, behind what is still to be written.
+fn line_on(out: &mut [u8], at: usize, n: Next) -> usize
+    requires { ⌜ at + 64 ≤ length (now out) ⌝ }
+    ensures { λ r. ⌜ Put (now (out .entry)) at (nextText n) (now (out .exit)) r ⌝ }
+{
+    perch_meter::put_next(out, at, n)
+}
+
+// Writes what is still to be written once there may be no room for a line behind it; the place for the next line.
+fn poured(out: &[u8], at: usize) -> usize
+    requires { ⌜ 64 ≤ length (now out) ⌝ }
+    ensures { λ r. ⌜ r ≡ pick (leb at (length (now (out .entry)) - 64)) at 0 ⌝ }
+{
+    if at <= out.len() - 64 {
+        return at;
+    }
+    program_io::write_front(STDOUT_FILENO, out, at);
+    0
+}
+
+// A line for each wait of a log that passes, within as many steps as its cursor takes at most.
+fn pour(log: &[u8], memory: &[u8], out: &mut [u8])
+    requires { ⌜ 64 ≤ length (now out) ⌝ }
+{
+    let mut g = play_meter::waits::start(log);
+    let mut at: usize = 0;
+    let mut left: u32 = 2000002;
+    while 0 < left {
+        let p = play_meter::waits::pass(g, log, memory);
+        let n = p.next;
+        g = p.gauge;
+        at = line_on(out, at, n);
+        if perch_meter::is_over(n) {
+            program_io::write_front(STDOUT_FILENO, out, at);
+            return;
+        }
+        at = poured(out, at);
+        left -= 1;
+    }
+}
+
+// A log that is refused has no waits.
+fn waits(log: &[u8], memory: &[u8]) {
+    let k = log_check::check(log);
+    if k.number != 0 {
+        return;
+    }
+    let mut out = [0u8; 16384];
+    pour(log, memory, &mut out);
+}
+
+fn tell_all(log: &[u8], memory: &[u8], each: bool) {
+    tell(log, memory);
+    if each {
+        waits(log, memory);
+    }
+}
+
+// With the sample memory: a byte more than it has, so that a longer one is seen.
+fn with_sample(log: &[u8], each: bool) {
+    let mut memory = [0u8; 32769];
+    let r = program_io::read_file(b"sample.bin", &mut memory);
+    if r.failed {
+        program_io::say(b"perch: sample.bin can't be read\n");
+        return;
+    }
+    let n = r.count;
+    tell_all(log, &memory[..n], each);
+}
+
+// A byte more than a log may have, so that a longer one is seen.
+pub(crate) fn meter(each: bool) {
+    let mut log = [0u8; 60001];
+    let r = program_io::read_all(STDIN_FILENO, &mut log);
+    if r.failed {
+        program_io::say(b"perch: standard input can't be read\n");
+        return;
+    }
+    let n = r.count;
+    with_sample(&log[..n], each);
+}
+
+// A word that is longer than any right one reads as an empty one.
+pub(crate) fn asked() {
+    let mut word = [0u8; 16];
+    let n = os::arg(2, &mut word);
+    if text::exact(&word[..n], b"waits") {
+        meter(true);
+        return;
+    }
+    program_io::say(b"perch: expected meter, or meter waits\n");
+}
