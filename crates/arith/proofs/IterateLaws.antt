@@ -1,8 +1,7 @@
 -- Laws of `iterate`. Assumes nothing.
 use Prim.Native.Nat.{ℕ, zero, suc, _+_}
-use mathlib.Core.Path.{_≡_, refl, sym, ap, _∙_}
-use native.Mathlib.Nat.{add-zero, zero-add, suc-add}
-use native.Mathlib.Numerals.{add-one}
+use mathlib.Core.Path.{_≡_, refl, ap, _∙_}
+use native.Mathlib.Nat.{zero-add, suc-add}
 use Rattle.arith.specs.Iterate.{iterate}
 
 module _ {A : Type 0} (f : A → A) where

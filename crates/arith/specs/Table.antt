@@ -1,7 +1,7 @@
 -- Helper: nobody has to believe this; a computed test over a table, from which laws about its entries are had.
 -- A test of every entry of a table.
 use Prim.Native.Nat.{ℕ, suc}
-use mathlib.Core.Bool.{Bool, true, false}
+use mathlib.Core.Bool.{Bool, true}
 use mathlib.Core.List.{List, [], _∷_}
 use Rattle.arith.specs.Pick.{both}
 

@@ -1,7 +1,6 @@
 // Total leaves on numbers and flags: each has an answer for every value of its types.
 ghost use mathlib.Core.Path.{_≡_};
-ghost use mathlib.Core.Bool.{Bool};
-ghost use Prim.Native.Nat.{ℕ, _-_, _/_, _^_, _≤_, min};
+ghost use Prim.Native.Nat.{_-_, _/_, _^_, _≤_, min};
 ghost use Rattle.arith.specs.Pick.{pick, both, either};
 ghost use Rattle.arith.specs.Bit.{bitSet};
 

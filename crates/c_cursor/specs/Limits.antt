@@ -1,5 +1,5 @@
 -- Helper: nobody has to believe this; what the packing of an answer asks of it, and every step keeps.
-use Prim.Native.Nat.{ℕ, _≤_}
+use Prim.Native.Nat.{_≤_}
 use Rattle.log_cursor.specs.declared.Given.{Given}
 use Rattle.log_rules.specs.Tree.{actClocks}
 

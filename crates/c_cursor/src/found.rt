@@ -1,6 +1,5 @@
 // What a cursor comes to, and its answer.
 ghost use mathlib.Core.Path.{_≡_};
-ghost use lib.Dec.{eqb};
 ghost use Rattle.c_cursor.specs.Next.{nextOf, nextFound, isRefused};
 ghost use Rattle.c_cursor.specs.Limits.{FoundIn};
 use log_cursor::Cursor;

@@ -1,5 +1,5 @@
 -- What is answered fits its bits, and each part of the number can be had again. Assumes nothing.
-use Prim.Native.Nat.{ℕ, _+_, _*_, _/_, _%_, _^_, _≤_, _<_}
+use Prim.Native.Nat.{ℕ, _/_, _%_, _^_, _≤_}
 use mathlib.Core.Path.{_≡_, refl, sym, ap, _∙_}
 use mathlib.Core.List.{List}
 use mathlib.Core.Bool.{Bool, true, false}
@@ -16,7 +16,6 @@ use Rattle.log_fold_rules.specs.Folding.{foldedLog}
 use Rattle.log_fold_rules.specs.Promise.{Folds}
 use Rattle.log_fold.specs.Answer.{foldRefusal, foldDone, foldOf}
 use Rattle.log_fold_rules.proofs.Passes.{folds}
-use Rattle.c_log.specs.Logs.{logPacked}
 use Rattle.c_log.proofs.PackedLaws.{apart}
 use Rattle.c_fold.specs.Packed.{foldPacked}
 

@@ -1,7 +1,6 @@
 -- A log folded at the boundary: its answer in one number.
 use Prim.Native.Nat.{ℕ}
 use mathlib.Core.List.{List}
-use Rattle.log_fold.specs.declared.Folded.{Folded}
 use Rattle.log_fold.specs.Answer.{foldOf}
 use Rattle.c_log.specs.Logs.{logPacked}
 

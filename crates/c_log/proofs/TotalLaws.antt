@@ -1,19 +1,19 @@
 -- What is answered about a whole log fits its bits. Assumes nothing.
-use Prim.Native.Nat.{ℕ, _%_, _^_, _≤_, _<_}
-use mathlib.Core.Path.{_≡_, refl}
+use Prim.Native.Nat.{ℕ, _%_, _^_, _≤_}
+use mathlib.Core.Path.{_≡_}
 use mathlib.Core.Bool.{Bool, true, false}
 use mathlib.Core.List.{List}
 use native.Mathlib.Omega.{arith}
 use borrow.Author.Tests.{ltb-false}
 use lib.ListN.{length}
 use lib.Dec.{eqb, ltb}
-use Rattle.arith.specs.Pick.{pick, either}
+use Rattle.arith.specs.Pick.{either}
 use Rattle.arith.proofs.PickLaws.{pick-both, pick-each}
 use Rattle.log_rules.specs.declared.Checked.{Checked}
 use Rattle.log_rules.specs.Judge.{Verdict, right, wrong, judged}
 use Rattle.log_rules.specs.Head.{machineOf}
-use Rattle.log_rules.specs.Tree.{Tree, clocks, turns, acts}
-use Rattle.log_rules.specs.Whole.{treeOf, Stopping, stoppingOf, checkRefusal, passedCheck, heavy, weighed, unlessWrong, checkOf}
+use Rattle.log_rules.specs.Tree.{Tree, clocks, turns}
+use Rattle.log_rules.specs.Whole.{treeOf, Stopping, stoppingOf, checkRefusal, heavy, weighed, unlessWrong, checkOf}
 use Rattle.log_rules.proofs.CheckLaws.{acts-le}
 
 -- a place in a log has 24 bits

@@ -1,22 +1,21 @@
 -- A player written as bytes is read back. Assumes nothing but the ranges of its types.
 use mathlib.Core.Path.{_≡_, sym, ap, _∙_}
 use mathlib.Core.Bool.{true}
-use mathlib.Core.List.{List, _++_, append-assoc}
-use Prim.Native.Nat.{ℕ, _+_}
-use native.Mathlib.Omega.{arith}
+use mathlib.Core.List.{_++_, append-assoc}
+use Prim.Native.Nat.{_+_}
 use lib.ListN.{length, take, drop}
 use lib.Seq.{take-at, drop-at}
 use borrow.Author.Tests.{eq-eqb}
 use Rattle.c_state.specs.Bytes.{stateBytes}
 use Rattle.c_state.proofs.CodeLaws.{state-right, written-read as state-read}
 use Rattle.c_bytes.specs.Numbers.{wideBytes, wideOf}
-use Rattle.c_cursor.specs.Cursors.{cursorSize, cursorBytes, CursorFits}
+use Rattle.c_cursor.specs.Cursors.{cursorSize, cursorBytes}
 use Rattle.c_bytes.proofs.WideLaws.{wide-size}
 use Rattle.c_bytes.proofs.NumberLaws.{wide-past, wide-read}
 use Rattle.c_cursor.proofs.PlaceLaws.{cursor-size}
 use Rattle.c_cursor.proofs.CodeLaws.{written-read as cursor-read}
 use Rattle.play_rules.specs.declared.Player.{Player}
-use Rattle.c_player.specs.Player.{cursorPlace, statePlace, playerSize, playerBytes, cursorPart, statePart, playerAt, isPlayer, PlayerFits}
+use Rattle.c_player.specs.Player.{cursorPlace, statePlace, playerBytes, cursorPart, statePart, playerAt, isPlayer, PlayerFits}
 use Rattle.c_player.proofs.PlaceLaws.{numbers, numbers-size, front-size, whole, player-size}
 
 module _ (p : Player) (fits : PlayerFits p) where

@@ -5,7 +5,7 @@ use Prim.Native.Nat.{ℕ, _+_}
 use native.Mathlib.Omega.{arith}
 use lib.ListN.{length, length-append}
 use lib.Seq.{sets}
-use Rattle.c_state.specs.Bytes.{stateSize, stateBytes}
+use Rattle.c_state.specs.Bytes.{stateBytes}
 use Rattle.c_state.proofs.CodeLaws.{state-size}
 use Rattle.c_bytes.specs.Numbers.{wideBytes}
 use Rattle.c_cursor.specs.Cursors.{cursorSize, cursorBytes}

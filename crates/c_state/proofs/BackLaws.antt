@@ -1,17 +1,16 @@
 -- Bytes that are a state are written back as they were. Assumes nothing.
 use mathlib.Core.Path.{_≡_, refl, sym, ap, _∙_}
-use mathlib.Core.Bool.{Bool, true, false}
+use mathlib.Core.Bool.{true}
 use mathlib.Core.List.{List, [], _∷_, _++_, append-nil}
-use Prim.Native.Nat.{ℕ, zero, suc, _+_, _*_, _/_, _%_, _≤_, _<_}
+use Prim.Native.Nat.{ℕ, zero, suc, _+_, _*_, _≤_}
 use native.Mathlib.Nat.{add-zero, add-assoc}
 use native.Mathlib.Omega.{arith}
-use lib.ListN.{length, getD, drop, drop-of-length-le}
+use lib.ListN.{length, drop, drop-of-length-le}
 use lib.Seq.{drop-cons}
 use lib.Dec.{leb, eqb}
 use borrow.Author.Tests.{leb-true, eqb-true}
-use Rattle.arith.specs.Pick.{pick, both}
 use Rattle.arith.proofs.PickLaws.{both-left, both-right}
-use Rattle.c_bytes.specs.Fields.{flagByte, low, high, byteOf, flagOf, pairOf}
+use Rattle.c_bytes.specs.Fields.{flagByte, low, high, byteOf, flagOf}
 use Rattle.c_state.specs.Bytes.{squareBytes, triangleBytes, noiseBytes, dmcBytes, frameBytes, stateBytes, stateSize, squareOf, triangleOf, noiseOf, dmcOf, frameOf, stateOf, flagPlaces, flagsRight, isState}
 
 -- n bytes, from k places after `at` on

@@ -1,17 +1,13 @@
 -- A state written as bytes is read back, and bytes that are a state are written back. Assumes nothing.
-use mathlib.Core.Path.{_≡_, refl, sym, ap, _∙_}
+use mathlib.Core.Path.{_≡_, refl}
 use mathlib.Core.Bool.{Bool, true, false}
-use mathlib.Core.List.{List, [], _∷_, _++_}
-use Prim.Native.Nat.{ℕ, zero, suc, _+_, _*_, _/_, _%_, _≤_}
+use Prim.Native.Nat.{ℕ, _+_, _*_}
 use native.Mathlib.Omega.{arith}
-use lib.ListN.{length, getD, drop}
+use lib.ListN.{length}
 use lib.Dec.{leb, eqb}
-use Rattle.arith.specs.Pick.{pick, both}
-use Rattle.arith.proofs.PickLaws.{both-left, both-right}
-use Rattle.chip_square.specs.declared.Square.{Square}
 use Rattle.chip.specs.declared.State.{State}
-use Rattle.c_bytes.specs.Fields.{flagByte, low, high, byteOf, flagOf, pairOf}
-use Rattle.c_state.specs.Bytes.{stateSize, squareBytes, triangleBytes, noiseBytes, dmcBytes, frameBytes, stateBytes, squareOf, triangleOf, noiseOf, dmcOf, frameOf, stateOf, flagPlaces, flagsRight, isState}
+use Rattle.c_bytes.specs.Fields.{flagByte, low, high}
+use Rattle.c_state.specs.Bytes.{stateSize, squareBytes, triangleBytes, noiseBytes, dmcBytes, frameBytes, stateBytes, squareOf, triangleOf, noiseOf, dmcOf, frameOf, stateOf, flagsRight, isState}
 
 -- WRITTEN AND READ BACK
 

@@ -1,9 +1,9 @@
 -- A state's parts copied one behind the other are its bytes. Assumes nothing.
-use mathlib.Core.Path.{_≡_, refl, sym, ap, _∙_}
-use mathlib.Core.List.{List, [], _∷_, _++_, append-assoc, append-nil}
+use mathlib.Core.Path.{_≡_, refl, ap, _∙_}
+use mathlib.Core.List.{List, [], _++_, append-assoc, append-nil}
 use Prim.Native.Nat.{ℕ, _+_}
 use native.Mathlib.Omega.{arith}
-use lib.ListN.{length, take, drop, length-append, length-drop, drop-of-length-le}
+use lib.ListN.{length, drop, length-append, length-drop, drop-of-length-le}
 use lib.Seq.{paste, take-at, take-length, drop-append-add}
 use Rattle.chip.specs.declared.State.{State}
 use Rattle.c_state.specs.Bytes.{stateSize, squareBytes, triangleBytes, noiseBytes, dmcBytes, frameBytes, stateBytes}

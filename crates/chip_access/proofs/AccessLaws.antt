@@ -1,5 +1,5 @@
 -- What an access keeps: the range, the machine, and a read the level. Assumes nothing.
-use Prim.Native.Nat.{ℕ, _≤_}
+use Prim.Native.Nat.{_≤_}
 use mathlib.Core.Path.{_≡_, refl}
 use mathlib.Core.Bool.{true}
 use Rattle.bus.specs.declared.Access.{Access}

@@ -1,11 +1,9 @@
 -- A write to a register of one channel leaves the other channels, and all but $4015 and $4017 leave the frame. Assumes nothing.
 use Prim.Native.Nat.{ℕ, _≤_}
-use mathlib.Core.Path.{_≡_, refl, sym}
-use mathlib.Core.Bool.{Bool, true, false}
+use mathlib.Core.Path.{_≡_, refl}
 use native.Mathlib.Omega.{arith}
 use lib.Dec.{eqb}
 use borrow.Author.Tests.{eqb-true, eqb-false}
-use Rattle.arith.specs.Pick.{pick}
 use Rattle.arith.proofs.PickLaws.{pick-each}
 use Rattle.chip_access.specs.Write.{channelOf, placeOf, channelWritten, registerWritten}
 use Rattle.chip.specs.declared.State.{State}

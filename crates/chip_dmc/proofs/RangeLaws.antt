@@ -1,5 +1,5 @@
 -- The range test and the facts it stands for; power-on is in range, and every operation keeps it, whatever the largest period. Assumes nothing.
-use Prim.Native.Nat.{ℕ, _%_, _≤_}
+use Prim.Native.Nat.{ℕ, _≤_}
 use mathlib.Core.Path.{_≡_}
 use mathlib.Core.Bool.{Bool, true, false}
 use mathlib.Core.List.{List}

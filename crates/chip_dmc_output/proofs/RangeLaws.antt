@@ -1,5 +1,5 @@
 -- The output unit's range: the test, the facts that it stands for, and that a clock keeps it, whatever the largest period. Assumes nothing.
-use Prim.Native.Nat.{ℕ, _-_, _/_, _%_, _≤_}
+use Prim.Native.Nat.{ℕ, _-_, _%_, _≤_}
 use mathlib.Core.Path.{_≡_}
 use mathlib.Core.Bool.{Bool, true}
 use native.Mathlib.Omega.{arith}

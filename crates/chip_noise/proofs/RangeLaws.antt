@@ -1,14 +1,13 @@
 -- The range test and the facts it stands for; power-on is in range, and every operation keeps it, whatever the largest period. Assumes nothing.
-use Prim.Native.Nat.{ℕ, _-_, _%_, _≤_, _<_}
+use Prim.Native.Nat.{ℕ, _-_, _≤_}
 use mathlib.Core.Path.{_≡_, refl}
 use mathlib.Core.Bool.{Bool, true, false}
 use native.Mathlib.Omega.{arith}
 use lib.Dec.{leb, eqb}
 use borrow.Author.Tests.{leb-true, le-leb, leb-false}
 use Rattle.arith.specs.Bit.{bitSet}
-use Rattle.arith.specs.Pick.{pick, both}
+use Rattle.arith.specs.Pick.{pick}
 use Rattle.arith.proofs.PickLaws.{both-left, both-right, both-true, pick-both}
-use Rattle.chip_envelope.specs.Envelope.{volume}
 use Rattle.chip_envelope.proofs.RangeLaws.{EnvelopeRanged, envelope-in, envelope-back, envelope-clocked, envelope-set, envelope-begun, volume-most}
 use Rattle.chip_length.proofs.RangeLaws.{LengthRanged, length-in, length-back, length-clocked, length-loaded, length-enabled}
 use Rattle.chip_noise.specs.Shifter.{shiftedOf, shifterClock, shifterIn}

@@ -1,7 +1,6 @@
 // The noise channel: its clock, its registers, its output, its range. The timer's period is an argument throughout.
 ghost use mathlib.Core.Path.{_≡_};
-ghost use mathlib.Core.Bool.{Bool};
-ghost use Prim.Native.Nat.{ℕ, _+_, _-_, _*_, _/_, _%_};
+ghost use Prim.Native.Nat.{_-_, _/_, _%_};
 ghost use Rattle.chip_noise.specs.Shifter.{tapOf, shiftedOf, shifterClock, shifterIn};
 ghost use Rattle.chip_noise.specs.Noise.{noiseTimed, noiseEnveloped, noiseLengthened, noiseEnabled, noiseAmount, noiseOutput, noiseWrite0, noiseWrite2, noiseWrite3, noiseWrite, noiseIn, noiseOn};
 use chip_envelope::Envelope;

@@ -1,9 +1,8 @@
 -- Document 01, "Units", Square: what the timer moves, and the duties.
 use Prim.Native.Nat.{ℕ, _+_, _*_, _%_}
-use mathlib.Core.Bool.{Bool, not}
+use mathlib.Core.Bool.{not}
 use mathlib.Core.List.{List, [], _∷_}
 use lib.ListN.{getD}
-use lib.Dec.{eqb}
 use Rattle.arith.specs.Pick.{pick, both}
 use Rattle.divider.specs.Divider.{due}
 use Rattle.chip_timer.specs.Timer.{timerClock}

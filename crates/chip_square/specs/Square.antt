@@ -8,7 +8,6 @@ use Rattle.chip_length.specs.Length.{lengthClock, lengthEnabled}
 use Rattle.chip_sweep.specs.Sweep.{lowPeriod, highTarget, sweptPeriod, sweepClock}
 use Rattle.chip_envelope.specs.declared.Envelope.{Envelope}
 use Rattle.chip_length.specs.declared.Length.{Length}
-use Rattle.chip_timer.specs.declared.Timer.{Timer}
 use Rattle.chip_square.specs.Sequencer.{sequencerClock, dutyBit}
 use Rattle.chip_square.specs.declared.Sequencer.{Sequencer}
 use Rattle.chip_square.specs.declared.Square.{Square}

@@ -1,6 +1,5 @@
 -- Document 01, "Register bits": a square's four registers, from $4000 and $4004.
 use Prim.Native.Nat.{ℕ, _/_}
-use mathlib.Core.Bool.{Bool}
 use lib.Dec.{eqb}
 use Rattle.arith.specs.Pick.{pick}
 use Rattle.chip_envelope.specs.Envelope.{envelopeSet, envelopeBegun}

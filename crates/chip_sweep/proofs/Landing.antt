@@ -1,5 +1,5 @@
 -- Where a sweep lands: its target is -1..4094, and where it isn't muted and shifts at all it is a period. Assumes nothing.
-use mathlib.Core.Path.{_≡_, refl, sym, _∙_, ap}
+use mathlib.Core.Path.{_≡_, refl, sym, ap}
 use mathlib.Core.Bool.{Bool, true, false, cond, not, true≢false}
 use Prim.Native.Nat.{ℕ, zero, suc, _+_, _-_, _*_, _/_, _<_, _≤_, _^_}
 use native.Mathlib.Nat.{le-trans, mul-le-mul-right, mul-div-le, div-le-self}
@@ -8,8 +8,8 @@ use lib.IntN.{ℤ, pos, negsuc, _+ℤ_, +ℤ-one, natAbs, subℕ}
 use lib.Signed.{nonNeg, ltZ, leZ}
 use lib.Dec.{T, ltb, leb, le→leb}
 use lib.Pow.{pow-mono}
-use borrow.Author.Tests.{lt-ltb, le-ltb, ltb-true, ltb-false}
-use Rattle.arith.specs.Pick.{both, either}
+use borrow.Author.Tests.{le-ltb, ltb-true, ltb-false}
+use Rattle.arith.specs.Pick.{either}
 use Rattle.arith.proofs.PickLaws.{both-left, both-right}
 use Rattle.chip_sweep.specs.Sweep.{moveOf, target, lowPeriod, highTarget, muted, sweeps}
 use Rattle.chip_sweep.specs.declared.Sweep.{Sweep}

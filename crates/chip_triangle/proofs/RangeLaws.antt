@@ -1,11 +1,11 @@
 -- The triangle's range: the test, the facts that it stands for, and that every operation keeps them. Assumes nothing.
-use Prim.Native.Nat.{ℕ, _+_, _-_, _≤_}
+use Prim.Native.Nat.{ℕ, _-_, _≤_}
 use mathlib.Core.Path.{_≡_, refl}
-use mathlib.Core.Bool.{Bool, true, false}
+use mathlib.Core.Bool.{Bool, true}
 use native.Mathlib.Omega.{arith}
-use lib.Dec.{leb, eqb}
-use borrow.Author.Tests.{leb-true, le-leb, ltb-true, ltb-false}
-use Rattle.arith.specs.Pick.{pick, both}
+use lib.Dec.{eqb}
+use borrow.Author.Tests.{leb-true, le-leb}
+use Rattle.arith.specs.Pick.{both}
 use Rattle.arith.proofs.PickLaws.{both-left, both-right, both-true, pick-both}
 use Rattle.divider.specs.Divider.{due}
 use Rattle.chip_timer.proofs.RangeLaws.{TimerRanged, timer-in, timer-back, timer-clocked, period-low-kept, period-high-kept}

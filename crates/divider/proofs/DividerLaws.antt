@@ -1,14 +1,14 @@
 -- Divider facts, once for any period and whatever the divider drives. Assumes nothing.
 use Prim.Native.Nat.{ℕ, zero, suc, _+_, _-_, _*_, _/_, _%_, _≤_, _<_}
-use mathlib.Core.Path.{_≡_, refl, sym, ap, _∙_}
-use native.Mathlib.Nat.{zero-add, add-comm, sub-zero, zero-mul, suc-mul, mod-lt, div-add-mod', mul-comm, div-lt-iff-lt-mul, add-sub-cancel-left, mul-mod-left, mul-div-cancel}
+use mathlib.Core.Path.{_≡_, refl, ap, _∙_}
+use native.Mathlib.Nat.{add-comm, sub-zero, zero-mul, suc-mul, mod-lt, div-add-mod', div-lt-iff-lt-mul, add-sub-cancel-left, mul-mod-left, mul-div-cancel}
 use native.Mathlib.Omega.{arith}
 use mathlib.Core.Bool.{Bool, true, false}
 use lib.Dec.{ltb}
-use borrow.Author.Tests.{lt-leb, le-leb, lt-ltb, le-ltb, ltb-true, ltb-false}
+use borrow.Author.Tests.{lt-leb, le-ltb, ltb-true, ltb-false}
 use Rattle.arith.specs.Iterate.{iterate}
 use Rattle.arith.specs.Pick.{pick}
-use Rattle.divider.specs.Divider.{due, Driven, drive, outputs, countAfter}
+use Rattle.divider.specs.Divider.{Driven, drive, outputs, countAfter}
 use Rattle.arith.proofs.IterateLaws.{iterate-add, iterate-one}
 
 -- ANY NUMBER OF TICKS IN CLOSED FORM

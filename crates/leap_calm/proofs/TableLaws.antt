@@ -1,6 +1,6 @@
 -- The table's entries are B: one computed test over the table, and one law. Assumes nothing.
 use Prim.Native.Nat.{ℕ, _+_, _*_, _/_, _%_, _≤_}
-use mathlib.Core.Path.{_≡_, refl, sym, ap, _∙_}
+use mathlib.Core.Path.{_≡_, refl, sym, _∙_}
 use mathlib.Core.Bool.{Bool}
 use native.Mathlib.Nat.{add-zero}
 use native.Mathlib.Omega.{arith}

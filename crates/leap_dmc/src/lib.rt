@@ -1,7 +1,6 @@
 // The DMC's part in the leap: for how many clocks it surely only counts, the DMC g such clocks on, and at its next change.
 ghost use mathlib.Core.Path.{_≡_};
-ghost use mathlib.Core.Bool.{Bool};
-ghost use Prim.Native.Nat.{ℕ, _+_, _-_, _*_};
+ghost use Prim.Native.Nat.{_+_, _-_, _*_};
 ghost use Rattle.arith.specs.Pick.{pick};
 ghost use Rattle.leap_still.specs.Forever.{forever};
 ghost use Rattle.leap_dmc.specs.Leap.{outputStill, dmcStill, withTape, outputAdvanced, dmcAdvanced, outputBrink, dmcBrink, dmcTurned};

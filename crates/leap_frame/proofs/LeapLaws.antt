@@ -1,14 +1,13 @@
 -- The frame between two steps, by its clock, for any times that rise. Assumes nothing.
-use Prim.Native.Nat.{ℕ, zero, suc, _+_, _-_, _%_, _≤_, _<_}
+use Prim.Native.Nat.{ℕ, suc, _+_, _-_, _%_, _≤_, _<_}
 use mathlib.Core.Path.{_≡_, refl, sym, ap, _∙_}
 use mathlib.Core.Bool.{Bool, true, false, not}
 use native.Mathlib.Nat.{mod-eq-of-lt, mod-lt, mod-self, mod-add-mod, add-mod-left}
-use native.Mathlib.Numerals.{add-one}
 use native.Mathlib.Omega.{arith}
 use lib.Dec.{leb, ltb, eqb}
-use borrow.Author.Tests.{lt-leb, le-leb, leb-true, leb-false, ltb-true, ltb-false, ne-eqb, eq-eqb}
+use borrow.Author.Tests.{leb-true, leb-false, ltb-true, ltb-false, ne-eqb, eq-eqb}
 use Rattle.arith.specs.Pick.{pick, both}
-use Rattle.arith.proofs.PickLaws.{both-left, both-right, pick-each}
+use Rattle.arith.proofs.PickLaws.{pick-each}
 use Rattle.chip_frame.specs.Frame.{lastNumber, frameMoved, stepAt, nextStep, frameDue}
 use Rattle.leap_frame.specs.Leap.{frameBefore, framePassed}
 use Rattle.chip_frame.proofs.RangeLaws.{FrameRanged}

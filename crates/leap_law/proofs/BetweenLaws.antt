@@ -1,12 +1,11 @@
 -- Clocks that bring no frame step, channel by channel. Assumes nothing.
 use Prim.Native.Nat.{ℕ, zero, suc, _≤_, _<_}
 use mathlib.Core.Path.{_≡_, refl, sym, ap, _∙_}
-use mathlib.Core.Bool.{Bool, true, false}
+use mathlib.Core.Bool.{false}
 use mathlib.Core.List.{List}
 use native.Mathlib.Omega.{arith}
 use native.Mathlib.Numerals.{add-one}
 use Rattle.arith.specs.Iterate.{iterate}
-use Rattle.arith.specs.Pick.{pick}
 use Rattle.arith.proofs.IterateLaws.{iterate-zero, iterate-more, iterate-keeps}
 use Rattle.chip_square.specs.Sequencer.{sequencerClock}
 use Rattle.chip_square.specs.Square.{squareTimed}

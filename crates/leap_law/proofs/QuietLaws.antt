@@ -1,6 +1,6 @@
 -- THE LAW OF THE LEAP, proved: in the quiet state any clocks that bring no frame step leave the level, and every field has its closed form. Each channel's
 -- own law gives its fields; that no clock brings a step is the same as that there are no more of them than `beforeStep`. Assumes nothing.
-use Prim.Native.Nat.{ℕ, _+_, _*_, _/_, _%_, _≤_, _<_}
+use Prim.Native.Nat.{ℕ, _+_, _*_, _/_, _%_, _≤_}
 use mathlib.Core.Path.{_≡_, refl, sym, ap, _∙_}
 use mathlib.Core.Bool.{Bool, true, false, true≢false}
 use mathlib.Core.List.{List}
@@ -10,7 +10,6 @@ use lib.Dec.{ltb}
 use native.Mathlib.Omega.{arith}
 use borrow.Author.Tests.{eq-eqb, ltb-true, ltb-false}
 use Rattle.arith.specs.Iterate.{iterate}
-use Rattle.arith.specs.Pick.{pick}
 use Rattle.divider.specs.Divider.{outputs, countAfter}
 use Rattle.divider.proofs.DividerLaws.{count-after-top}
 use Rattle.chip_timer.specs.Timer.{timerPeriod}
@@ -22,7 +21,7 @@ use Rattle.chip_square.specs.declared.Sequencer as square1
 use Rattle.chip_square.proofs.RangeLaws.{SquareRanged, SequencerRanged}
 use Rattle.leap_square.proofs.LeapLaws as squares
 use Rattle.chip_triangle.specs.Triangle as triangle
-use Rattle.leap_triangle.specs.Leap.{triangleGate, triangleBeatOf, triangleWithBeat, triangleBeatClock, triangleGives, positionAfter, triangleBeatAdvanced}
+use Rattle.leap_triangle.specs.Leap.{triangleGate, triangleBeatOf, triangleWithBeat, triangleBeatClock, positionAfter, triangleBeatAdvanced}
 use Rattle.chip_triangle.specs.declared.Triangle.{Triangle}
 use Rattle.chip_triangle.specs.declared.Sequencer as triangle1
 use Rattle.chip_triangle.proofs.RangeLaws.{TriangleRanged}
@@ -30,14 +29,11 @@ use Rattle.chip_triangle.proofs.RangeLaws as triangles1
 use Rattle.leap_triangle.proofs.LeapLaws as triangles
 use Rattle.chip_noise.specs.Shifter.{shifterClock}
 use Rattle.chip_noise.specs.Noise as noise
-use Rattle.leap_noise.specs.Leap.{shifterGives, shifterAdvanced}
 use Rattle.chip_noise.specs.declared.Noise.{Noise}
 use Rattle.chip_noise.specs.declared.Shifter.{Shifter}
 use Rattle.leap_noise.proofs.LeapLaws as noises
-use Rattle.chip_dmc.specs.Clock.{dmcClock, dmcOutput}
 use Rattle.leap_dmc.proofs.LeapLaws.{DmcIdle, idle-closed, idle-still}
 use Rattle.chip_frame.specs.Frame.{frameDue}
-use Rattle.chip_frame.specs.declared.Frame.{Frame}
 use Rattle.leap_frame.proofs.LeapLaws.{passed-due, before-due}
 use Rattle.chip.specs.Clock.{stepDue, chipClock}
 use Rattle.chip.specs.Level.{stateLevel}
@@ -47,7 +43,7 @@ use Rattle.chip.specs.declared.State.{State}
 use Rattle.chip.proofs.RangeLaws.{StateRanged, state-in, noise-period-range, dmc-period-range}
 use Rattle.leap_law.specs.Between.{stateWith}
 use Rattle.leap_law.specs.Frame.{beforeStep, passedFrame}
-use Rattle.leap_law.specs.Quiet.{Quiet, squareAfter, triangleAfter, quietAfter, NoStep, Leapt, LeapLaw}
+use Rattle.leap_law.specs.Quiet.{Quiet, squareAfter, triangleAfter, quietAfter, NoStep, LeapLaw}
 use Rattle.leap_law.proofs.BetweenLaws.{between}
 use Rattle.leap_law.proofs.FrameLaws.{times-rise}
 

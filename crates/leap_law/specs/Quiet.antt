@@ -1,7 +1,7 @@
 -- The law of the leap. Document 01: "where all four lengths and remaining are 0, the buffer is empty and silence is set, any g clocks that bring no
 -- frame step leave the level as it was, and every field after them has a closed form in quotients and remainders of g, only the noise shift
 -- register going output by output." It is proved beside it (proofs/QuietLaws), and what a stretch of the run promises names it.
-use Prim.Native.Nat.{ℕ, _+_, _*_, _/_, _%_, _<_}
+use Prim.Native.Nat.{ℕ, _+_, _/_, _%_, _<_}
 use mathlib.Core.Path.{_≡_}
 use mathlib.Core.Bool.{true, false}
 use mathlib.Core.List.{List}

@@ -1,6 +1,5 @@
 // The noise as a stretch between two frame steps keeps it.
 ghost use mathlib.Core.Path.{_≡_};
-ghost use mathlib.Core.Bool.{Bool};
 ghost use Rattle.leap_noise.specs.Lag.{noiseLag, noiseRenewed, noiseShifterAt};
 use chip_noise::Shifter;
 

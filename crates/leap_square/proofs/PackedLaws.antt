@@ -1,11 +1,10 @@
 -- The packed tables are the tables: two computed tests. Assumes nothing.
 use Prim.Native.Nat.{ℕ, _+_, _*_, _/_, _%_, _^_}
-use mathlib.Core.Path.{_≡_, refl, sym, ap, _∙_}
+use mathlib.Core.Path.{_≡_, ap, _∙_}
 use mathlib.Core.Bool.{Bool}
 use native.Mathlib.Omega.{arith}
 use lib.Dec.{T, eqb, eqb→eq}
 use lib.ListN.{getD}
-use Rattle.arith.specs.Pick.{pick}
 use Rattle.arith.specs.Table.{every}
 use Rattle.arith.proofs.TableLaws.{at}
 use Rattle.chip_square.specs.Sequencer.{duties, dutyBit}

@@ -1,10 +1,9 @@
 -- `begins` is true exactly where there is a line that is allowed and right whose text has the bytes at its front. Assumes nothing.
-use mathlib.Core.Path.{_≡_, refl, ap, ap₂, sym, _∙_, subst}
+use mathlib.Core.Path.{_≡_, refl, ap, sym, _∙_, subst}
 use mathlib.Core.List.{List, [], _∷_, _++_, append-nil}
 use mathlib.Core.Bool.{Bool, true, false, false≢true}
-use Prim.Native.Nat.{ℕ, _+_, _*_, _≤_, _<_, _^_}
+use Prim.Native.Nat.{ℕ, _+_, _≤_}
 use native.Mathlib.Omega.{arith}
-use Rattle.arith.specs.Pick.{pick, both, either}
 use Rattle.arith.proofs.PickLaws.{both-left, both-right, both-true}
 use Rattle.bus.specs.declared.Access.the-variants.{Write, Read}
 use Rattle.text.specs.Ascii.{bytes}
@@ -12,14 +11,14 @@ use Rattle.text.specs.Decimal.{decimalText}
 use Rattle.log_line.specs.declared.Act.the-variants.{Wait, Access}
 use Rattle.log_line.specs.declared.Line.{Line}
 use Rattle.log_line.specs.declared.Line.the-variants.{Header, Machine, One, Loop, Done, Stop, Bad}
-use Rattle.log_line.specs.Printed.{actText, ended, lineText, Printable}
+use Rattle.log_line.specs.Printed.{actText, ended, lineText}
 use Rattle.log_begins.specs.declared.Keys.{Keys}
 use Rattle.log_form.specs.Forms.{along, nothing, beginsNumber}
 use Rattle.log_begins.specs.Begins.{anyTrue, begins}
 use Rattle.log_begins.specs.Fronts.{allowed, RightForm, Fronts}
 use Rattle.log_form.proofs.DecimalLaws.{Wide}
-use Rattle.log_form.proofs.FormLaws.{Goes, Onward, Nothing, none, onward-nothing, Decimal, onward-number, Met, onward-along, plain, Behind, met-behind, behind-met}
-use Rattle.log_begins.proofs.WriteLaws.{WriteOf, write-text, text-write}
+use Rattle.log_form.proofs.FormLaws.{Nothing, none, onward-nothing, Decimal, onward-number, Met, onward-along, plain, met-behind, behind-met}
+use Rattle.log_begins.proofs.WriteLaws.{write-text, text-write}
 
 -- A TEST OUT OF A LIST OF TESTS
 any-each : (P : Type 0) (b : Bool) (bs : List Bool) → (b ≡ true → P) → (anyTrue bs ≡ true → P) → anyTrue (b ∷ bs) ≡ true → P

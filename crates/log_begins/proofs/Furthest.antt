@@ -1,10 +1,10 @@
 -- The first byte at fault is the furthest that any allowed line goes. Assumes nothing.
-use mathlib.Core.Path.{_≡_, refl, ap, ap₂, sym, _∙_}
-use mathlib.Core.List.{List, [], _∷_, _++_}
-use mathlib.Core.Bool.{Bool, true, false}
-use Prim.Native.Nat.{ℕ, _≤_, max}
+use mathlib.Core.Path.{_≡_, refl, ap, ap₂, _∙_}
+use mathlib.Core.List.{List, [], _∷_}
+use mathlib.Core.Bool.{Bool}
+use Prim.Native.Nat.{ℕ, max}
 use native.Mathlib.Omega.{arith}
-use Rattle.arith.specs.Pick.{pick, both, either}
+use Rattle.arith.specs.Pick.{pick, both}
 use Rattle.text.specs.Ascii.{bytes}
 use Rattle.log_line.specs.Printed.{ended}
 use Rattle.log_begins.specs.declared.Keys.{Keys}

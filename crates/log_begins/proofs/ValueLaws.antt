@@ -8,10 +8,8 @@ use native.Mathlib.Numerals.{add-one}
 use borrow.Author.Tests.{eq-eqb, ne-eqb}
 use lib.ListN.{length, getD, take, drop, drop-of-length-le, List·getD-eq-default}
 use lib.Seq.{drop-cons}
-use lib.Dec.{eqb}
 use Rattle.arith.specs.Pick.{pick, both}
-use Rattle.text.specs.declared.Number.{Number}
-use Rattle.text.specs.declared.Number.the-variants.{Is, None}
+use Rattle.text.specs.declared.Number.the-variants.{None}
 use Rattle.text.specs.Decimal.{digit, digits, formed, decimal}
 use Rattle.text.proofs.DecimalLaws.{formed-none, formed-one, formed-more}
 use Rattle.log_begins.specs.Counts.{keyed, unfed, said}

@@ -2,21 +2,20 @@
 use mathlib.Core.Path.{_≡_, refl, ap, ap₂, sym, _∙_, subst}
 use mathlib.Core.List.{List, [], _∷_, _++_, append-nil}
 use mathlib.Core.Bool.{Bool, true, false, false≢true}
-use mathlib.Core.Logic.{_⊎_, inl, inr}
-use Prim.Native.Nat.{ℕ, suc, _+_, _-_, _/_, _%_, _^_, _≤_, _<_}
+use mathlib.Core.Logic.{inl, inr}
+use Prim.Native.Nat.{ℕ, suc, _+_, _-_, _%_, _≤_}
 use native.Mathlib.Omega.{arith}
-use borrow.Author.Tests.{eq-eqb, leb-true, eqb-true, eqb-false}
+use borrow.Author.Tests.{leb-true, eqb-true, eqb-false}
 use lib.ListN.{length, getD, take, drop, length-append, drop-of-length-le}
 use lib.Seq.{take-append-seam, getD-append-seam, split-at}
 use lib.Dec.{leb, eqb}
-use Rattle.arith.specs.Pick.{pick, both, either}
+use Rattle.arith.specs.Pick.{both, either}
 use Rattle.arith.proofs.PickLaws.{pick-each, both-left, both-right}
 use Rattle.bus.specs.Register.{isRegister}
 use Rattle.bus.specs.declared.Access.the-variants.{Write, Read}
 use Rattle.text.specs.Ascii.{bytes}
 use Rattle.text.specs.Key.{startsWith, exactly}
-use Rattle.text.specs.Numbers.{within}
-use Rattle.text.specs.Decimal.{digit, decimal}
+use Rattle.text.specs.Decimal.{digit}
 use Rattle.text.specs.Hex.{hexDigit, hex, hexByte, hexText}
 use Rattle.text.specs.declared.Number.{Number}
 use Rattle.text.specs.declared.Number.the-variants.{Is, None}

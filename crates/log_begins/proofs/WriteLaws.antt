@@ -1,24 +1,20 @@
 -- The form of a write is that of its texts, with any register of four hex digits. Assumes nothing.
-use mathlib.Core.Path.{_≡_, refl, ap, ap₂, sym, _∙_, subst}
+use mathlib.Core.Path.{_≡_, refl, ap₂, sym, _∙_, subst}
 use mathlib.Core.List.{List, [], _∷_, _++_}
 use mathlib.Core.Bool.{Bool, true, false}
-use Prim.Native.Nat.{ℕ, suc, _+_, _*_, _/_, _%_, _^_, _≤_, _<_}
+use Prim.Native.Nat.{ℕ, _+_, _*_, _%_, _≤_}
 use native.Mathlib.Omega.{arith}
 use borrow.Author.Tests.{eqb-true}
-use lib.ListN.{length}
-use lib.Dec.{eqb}
-use Rattle.arith.specs.Pick.{pick}
 use Rattle.text.specs.Ascii.{bytes}
 use Rattle.text.specs.Hex.{hexDigit, hexValue, hexDigits, hex, hexByte, hexText}
-use Rattle.text.specs.declared.Number.{Number}
-use Rattle.text.specs.declared.Number.the-variants.{Is, None}
+use Rattle.text.specs.declared.Number.the-variants.{Is}
 use Rattle.text.proofs.HexLaws.{hex-sound, hex-complete}
 use Rattle.bus.specs.declared.Access.the-variants.{Write}
 use Rattle.log_line.specs.declared.Act.the-variants.{Access}
 use Rattle.log_line.specs.declared.Line.the-variants.{One}
 use Rattle.log_line.specs.Printed.{actText, ended, lineText}
 use Rattle.log_form.specs.Forms.{suits}
-use Rattle.log_form.proofs.FormLaws.{Nothing, none, After, after, Met, Behind, met-behind, behind-met, plain}
+use Rattle.log_form.proofs.FormLaws.{Nothing, none, after, Met, met-behind, behind-met, plain}
 
 pub digit-of : (x : ℕ) → hexDigit (hexByte (x % 16)) ≡ true
 unfolding hex hexText hexDigits

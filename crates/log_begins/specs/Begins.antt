@@ -2,8 +2,8 @@
 -- with that beginning". A line is right with its line feed and with its decimal in range; "a write's register is judged here by its digits' shape
 -- alone". That `begins` is true exactly of the beginnings of allowed right lines is proved (proofs/Beginnings.antt).
 use Prim.Native.Nat.{ℕ}
-use mathlib.Core.List.{List, [], _∷_, _++_}
-use mathlib.Core.Bool.{Bool, true, false}
+use mathlib.Core.List.{List, [], _∷_}
+use mathlib.Core.Bool.{Bool, false}
 use Rattle.arith.specs.Pick.{both, either}
 use Rattle.text.specs.Ascii.{bytes}
 use Rattle.log_line.specs.Printed.{ended}

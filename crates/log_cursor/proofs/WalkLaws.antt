@@ -12,7 +12,7 @@ use Rattle.reading.specs.Saying.{over, on, says, Gives}
 use Rattle.reading.proofs.SayingLaws.{within, by-says, by-on, by-over}
 use Rattle.log_line.specs.declared.Act.{Act}
 use Rattle.log_line.specs.declared.Line.{Line}
-use Rattle.log_line.specs.declared.Line.the-variants.{Header, Machine, One, Loop, Done, Stop, Bad}
+use Rattle.log_line.specs.declared.Line.the-variants.{Header, Machine, One, Loop, Done, Stop}
 use Rattle.log_rules.specs.declared.Reading.the-variants.{Item}
 use Rattle.log_fault.proofs.Standing.{Goes, act as acts-on, opens as opened-on, closes as closes-on, ends as ends-on}
 use Rattle.log_rules.proofs.PlaceLaws.{had-at, had-text, to-depth}

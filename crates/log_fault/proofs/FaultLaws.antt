@@ -1,16 +1,16 @@
 -- What each answer says of the line. Assumes nothing.
-use mathlib.Core.Path.{_≡_, refl, ap, ap₂, sym, _∙_, subst}
-use mathlib.Core.List.{List, [], _∷_, _++_}
+use mathlib.Core.Path.{_≡_, refl, ap, sym, _∙_, subst}
+use mathlib.Core.List.{List, []}
 use mathlib.Core.Bool.{Bool, true, false, not, false≢true}
 use mathlib.Core.Logic.{_⊎_, inl, inr}
-use Prim.Native.Nat.{ℕ, suc, _+_, _-_, _≤_, _<_}
+use Prim.Native.Nat.{ℕ, suc, _-_, _≤_, _<_}
 use native.Mathlib.Omega.{arith}
 use borrow.Author.Tests.{eqb-true, eqb-false, eq-eqb, ne-eqb, ltb-false, le-ltb}
-use lib.ListN.{length, getD, take, drop}
+use lib.ListN.{length, getD, take}
 use lib.Seq.{take-length}
-use lib.Dec.{eqb, ltb}
-use Rattle.arith.specs.Pick.{pick, both, either}
-use Rattle.arith.proofs.PickLaws.{pick-each, both-left, both-right}
+use lib.Dec.{eqb}
+use Rattle.arith.specs.Pick.{pick, both}
+use Rattle.arith.proofs.PickLaws.{pick-each}
 use Rattle.log_line.specs.declared.Line.{Line}
 use Rattle.log_line.specs.declared.Line.the-variants.{Header, Machine, One, Loop, Done, Stop, Bad}
 use Rattle.log_line.specs.Said.{lineOf}
@@ -29,11 +29,11 @@ use Rattle.log_begins.specs.Begins.{anyTrue, begins}
 use Rattle.log_fault.specs.Allowed.{keysOf}
 use Rattle.log_begins.specs.Counts.{keyed, counts}
 use Rattle.log_fault.specs.Fault.{wholeOf, faultAt, spotted, spotOf}
-use Rattle.log_begins.specs.Fronts.{allowed, RightForm, Fronts}
+use Rattle.log_begins.specs.Fronts.{allowed, Fronts}
 use Rattle.log_begins.proofs.Beginnings.{begins-sound, begins-complete}
 use Rattle.log_begins.proofs.Furthest.{begins-closed}
 use Rattle.log_form.proofs.ReachLaws.{reach-length, reach-before, reach-at, reach-all}
-use Rattle.log_begins.proofs.WholeLaws.{Reads, itself, four, reads, whole-text, OfForm}
+use Rattle.log_begins.proofs.WholeLaws.{Reads, itself, four, reads, whole-text}
 
 pub zero-one : {A : Type 0} → _≡_ {A = ℕ} 0 1 → A
 zero-one e = absurd (omega arith)

@@ -1,14 +1,14 @@
 -- 16 is said of a decimal of right shape that is outside its range, and of nothing else. Assumes nothing.
-use mathlib.Core.Path.{_≡_, refl, ap, ap₂, sym, _∙_, subst}
+use mathlib.Core.Path.{_≡_, refl, ap, sym, _∙_}
 use mathlib.Core.List.{List, [], _∷_, _++_, append-assoc, append-nil}
 use mathlib.Core.Bool.{Bool, true, false, false≢true}
 use Prim.Native.Nat.{ℕ, zero, suc, _+_, _-_, _^_, _≤_, _<_}
 use native.Mathlib.Omega.{arith}
-use borrow.Author.Tests.{eqb-true, eqb-false, ltb-true, ltb-false}
+use borrow.Author.Tests.{eqb-true, ltb-true, ltb-false}
 use lib.ListN.{length, getD, take, drop, length-append}
 use lib.Dec.{eqb, ltb}
-use Rattle.arith.specs.Pick.{pick, both, either}
-use Rattle.arith.proofs.PickLaws.{pick-each, both-left, both-right}
+use Rattle.arith.specs.Pick.{either}
+use Rattle.arith.proofs.PickLaws.{both-left, both-right}
 use Rattle.bus.specs.declared.Access.the-variants.{Write, Read}
 use Rattle.text.specs.Ascii.{bytes}
 use Rattle.text.specs.Key.{startsWith}
@@ -24,7 +24,7 @@ use Rattle.log_line.specs.Said.{lineOf}
 use Rattle.log_line.specs.Printed.{actText, ended, lineText}
 use Rattle.log_fault.specs.declared.Stand.{Stand}
 use Rattle.log_begins.specs.declared.Keys.{Keys}
-use Rattle.log_fault.specs.declared.Spotted.the-variants.{Right, Wrong}
+use Rattle.log_fault.specs.declared.Spotted.the-variants.{Wrong}
 use Rattle.log_form.specs.Forms.{reach}
 use Rattle.log_begins.specs.Begins.{begins}
 use Rattle.log_fault.specs.Allowed.{keysOf}
@@ -35,7 +35,7 @@ use Rattle.log_begins.proofs.Beginnings.{begins-complete}
 use Rattle.log_begins.proofs.Furthest.{begins-closed}
 use Rattle.log_form.proofs.ReachLaws.{reach-all}
 use Rattle.log_begins.proofs.WholeLaws.{feed-split}
-use Rattle.log_fault.proofs.FaultLaws.{zero-one, Came, fine, start, feed, key, range, shape, came, starts-small, FirstByte, first-byte}
+use Rattle.log_fault.proofs.FaultLaws.{zero-one, Came, fine, start, feed, key, range, shape, came, starts-small, first-byte}
 
 -- THE `=` OF A KEY STANDS BEHIND ALL OF ITS LETTERS
 

@@ -1,5 +1,5 @@
 -- What the judgement of a whole log needs of one line's answer. Assumes nothing.
-use mathlib.Core.Path.{_≡_, refl, ap, sym, _∙_, subst}
+use mathlib.Core.Path.{_≡_, refl, ap, sym, _∙_}
 use mathlib.Core.List.{List}
 use mathlib.Core.Bool.{Bool, true, false, false≢true}
 use Prim.Native.Nat.{ℕ, _≤_, _<_}
@@ -17,12 +17,11 @@ use Rattle.log_fault.specs.declared.Spotted.the-variants.{Right, Wrong}
 use Rattle.log_form.specs.Forms.{reach}
 use Rattle.log_begins.specs.Begins.{begins}
 use Rattle.log_fault.specs.Allowed.{keysOf}
-use Rattle.log_begins.specs.Counts.{keyed}
-use Rattle.log_fault.specs.Fault.{wholeOf, spotted, spotOf}
+use Rattle.log_fault.specs.Fault.{spotted, spotOf}
 use Rattle.log_begins.specs.Fronts.{allowed}
 use Rattle.log_form.proofs.ReachLaws.{reach-length}
 use Rattle.log_fault.proofs.RangeLaws.{far-enough}
-use Rattle.log_fault.proofs.FaultLaws.{zero-one, Came, fine, start, feed, key, range, shape, came, Fair, fair, may-fine, Starts, starts, by-four, by-seven, by-done, by-stop}
+use Rattle.log_fault.proofs.FaultLaws.{zero-one, Came, fine, start, feed, key, range, shape, came, fair, may-fine, Starts, starts, by-four, by-seven, by-done, by-stop}
 
 -- A LINE THAT IS RIGHT SAYS SO, AND IS RIGHT WHEREVER IT IS ALLOWED
 

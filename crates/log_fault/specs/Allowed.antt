@@ -1,6 +1,5 @@
 -- Which lines are allowed where.
-use Prim.Native.Nat.{ℕ}
-use mathlib.Core.Bool.{Bool, true, false}
+use mathlib.Core.Bool.{true, false}
 use lib.Dec.{ltb, eqb}
 use Rattle.log_begins.specs.declared.Keys.{Keys}
 use Rattle.log_fault.specs.declared.Stand.{Stand}

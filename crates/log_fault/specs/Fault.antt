@@ -1,7 +1,7 @@
 -- The fault of one line, by number and byte.
 use Prim.Native.Nat.{ℕ}
 use mathlib.Core.List.{List}
-use mathlib.Core.Bool.{Bool, not}
+use mathlib.Core.Bool.{not}
 use lib.ListN.{length, take}
 use lib.Dec.{eqb}
 use Rattle.arith.specs.Pick.{pick, both}

@@ -10,7 +10,6 @@ use lib.ListN.{length, take, drop, length-append}
 use lib.Seq.{drop-at, take-at}
 use lib.Dec.{leb, ltb, eqb}
 use Rattle.arith.specs.Pick.{pick, both}
-use Rattle.text.specs.Ascii.{bytes}
 use Rattle.text.specs.Key.{startsWith, exactly}
 use Rattle.text.specs.Decimal.{decimalText}
 use Rattle.text.proofs.KeyLaws.{exactly-is, starts-joined}

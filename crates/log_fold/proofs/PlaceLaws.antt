@@ -22,7 +22,7 @@ use Rattle.log_rules.proofs.Derived.{Ending, closes, stops, Reads, an-act, a-lo
 use Rattle.log_passing.proofs.Passing.{tailOf, text-of, within-of}
 use Rattle.log_fold.specs.declared.Move.{Move}
 use Rattle.log_fold_rules.specs.Ahead.{leading, inFront, copiesThere}
-use Rattle.log_fold_rules.specs.Folding.{suits, Choice, plain, fold, choiceIn, choice}
+use Rattle.log_fold_rules.specs.Folding.{suits, Choice, plain, fold, choiceIn}
 use Rattle.log_fold.specs.Moves.{plainMove, loopMove, actEnd, copiesAt, suitsOf, chosenIn}
 use Rattle.log_fold_rules.proofs.AheadLaws.{behind, ahead, every-leading, every-take}
 use Rattle.log_fold.proofs.AlikeLaws.{text-run, copies-alike, suits-alike}

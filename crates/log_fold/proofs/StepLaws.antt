@@ -16,7 +16,7 @@ use Rattle.log_rules.proofs.Derived.{closes, stops, Reads, an-act, a-loop, a-st
 use Rattle.log_passing.proofs.TextLaws.{act-text, loop-text}
 use Rattle.log_passing.proofs.Passing.{had-split, text-of, within-of}
 use Rattle.log_fold.specs.declared.Move.{Move}
-use Rattle.log_fold_rules.specs.Ahead.{leading, inFront, copiesThere}
+use Rattle.log_fold_rules.specs.Ahead.{leading, inFront}
 use Rattle.log_fold_rules.specs.Folding.{Choice, plain, fold, choice, made, folded}
 use Rattle.log_fold.specs.Moves.{plainMove, loopMove, chosenIn, moveOf, loopText, moveText}
 use Rattle.log_fold_rules.proofs.AheadLaws.{behind}

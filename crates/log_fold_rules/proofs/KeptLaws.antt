@@ -12,10 +12,10 @@ use lib.Dec.{leb, ltb}
 use Rattle.arith.specs.Pick.{pick, both}
 use Rattle.arith.proofs.PickLaws.{both-left, both-right}
 use Rattle.log_line.specs.declared.Act.{Act}
-use Rattle.log_rules.specs.Tree.{Tree, end, act, loop, acts, times, clocks, turns, text, Within}
+use Rattle.log_rules.specs.Tree.{Tree, end, act, loop, acts, times, turns, text, Within}
 use Rattle.log_passing.proofs.ActLaws.{Every}
 use Rattle.log_passing.proofs.TextLaws.{loop-long, act-long}
-use Rattle.log_fold_rules.specs.Ahead.{leading, inFront, copies, copiesThere}
+use Rattle.log_fold_rules.specs.Ahead.{leading, inFront, copiesThere}
 use Rattle.log_fold_rules.specs.Folding.{shorter, suits, Choice, plain, fold, choiceIn, choice, made, folded}
 use Rattle.log_fold_rules.proofs.AheadLaws.{behind, acts-run, turns-run, long-run, within-front, behind-none, ahead, every-leading, every-take, times-long, copies-are, copies-le}
 

@@ -15,7 +15,7 @@ use Rattle.log_line.specs.declared.Act.{Act}
 use Rattle.log_rules.specs.Tree.{Tree, end, act, loop}
 use Rattle.log_fold_rules.specs.Ahead.{beginsWith, copies, copiesThere}
 use Rattle.log_fold_rules.proofs.AheadLaws.{behind}
-use Rattle.log_fold_rules.specs.Folding.{suits, plain, fold, choiceIn, choice, folded}
+use Rattle.log_fold_rules.specs.Folding.{suits, plain, fold, choiceIn, folded}
 
 -- no smaller p suits
 pub smallest : (n k : ℕ) (s : List Act) (q p c : ℕ) → choiceIn n k s q ≡ fold p c → (i : ℕ) → q ≤ i → i < p → suits k s i (copiesThere s i) ≡ false

@@ -16,7 +16,7 @@ use Rattle.log_passing.proofs.ActLaws.{clocksIn, clocks-listed}
 use Rattle.log_passing.proofs.TextLaws.{stop-is}
 use Rattle.log_passing.proofs.Passing.{Clear, clear, Stands, stands, printed}
 use Rattle.log_fold_rules.specs.Ahead.{leading, copiesThere}
-use Rattle.log_fold_rules.specs.Folding.{suits, plain, fold, choiceIn, choice, made, folded, foldedTree, foldedLog}
+use Rattle.log_fold_rules.specs.Folding.{suits, plain, choiceIn, choice, made, folded, foldedTree, foldedLog}
 use Rattle.log_fold_rules.specs.Promise.{Folds, NoneSuits}
 use Rattle.log_fold_rules.proofs.AheadLaws.{behind-none}
 use Rattle.log_fold_rules.proofs.KeptLaws.{added, Kept, kept}

@@ -1,18 +1,17 @@
 -- The beginnings of a decimal from lo to hi with its line feed, for any lo and hi such that a number below lo can go on by zeros into the range.
 -- Assumes nothing.
-use mathlib.Core.Path.{_≡_, refl, ap, ap₂, sym, _∙_, subst}
-use mathlib.Core.List.{List, [], _∷_, _++_, append-nil}
+use mathlib.Core.Path.{_≡_, refl, ap, _∙_}
+use mathlib.Core.List.{List, [], _∷_, _++_}
 use mathlib.Core.Bool.{Bool, true, false, not, false≢true}
 use Prim.Native.Nat.{ℕ, zero, suc, _+_, _-_, _*_, _^_, _≤_, _<_, min}
 use native.Mathlib.Omega.{arith}
-use borrow.Author.Tests.{eq-eqb, ne-eqb, le-leb, leb-true, leb-false, eqb-true, eqb-false, lt-ltb, ltb-true}
+use borrow.Author.Tests.{eq-eqb, ne-eqb, le-leb, leb-true, leb-false, eqb-true, eqb-false, lt-ltb}
 use lib.Dec.{leb, ltb, eqb}
 use Rattle.arith.specs.Pick.{pick, both}
-use Rattle.arith.proofs.PickLaws.{both-left, both-right, both-true}
-use Rattle.text.specs.declared.Number.{Number}
+use Rattle.arith.proofs.PickLaws.{both-left, both-right}
 use Rattle.text.specs.declared.Number.the-variants.{Is, None}
 use Rattle.text.specs.Decimal.{digit, digits, formed, decimal, digitsOf, decimalText}
-use Rattle.text.proofs.DecimalLaws.{digit-low, digit-high, decimal-sound, decimal-complete}
+use Rattle.text.proofs.DecimalLaws.{digit-low, decimal-sound, decimal-complete}
 use Rattle.log_form.specs.Forms.{nothing, goesOn, beginsNumber}
 
 none-is : (n : ℕ) → None ≡ Is n → ⊥

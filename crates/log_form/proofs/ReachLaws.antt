@@ -4,14 +4,13 @@ use mathlib.Core.List.{List, [], _∷_, _++_, append-assoc}
 use mathlib.Core.Bool.{Bool, true, false, false≢true}
 use Prim.Native.Nat.{ℕ, zero, suc, _+_, _≤_, _<_, max}
 use native.Mathlib.Omega.{arith}
-use native.Mathlib.Numerals.{add-one}
 use borrow.Author.Tests.{lt-ltb, le-ltb, ltb-true, ltb-false}
 use lib.ListN.{length, take, drop, take-append-drop}
 use lib.Dec.{ltb}
 use Rattle.arith.specs.Pick.{pick, both, either}
 use Rattle.log_form.specs.Forms.{suits, along, nothing, reach}
 use Rattle.log_form.specs.Matching.{common}
-use Rattle.log_form.proofs.FormLaws.{Goes, Onward}
+use Rattle.log_form.proofs.FormLaws.{Onward}
 
 -- OF TWO TESTS THE FURTHER ONE
 

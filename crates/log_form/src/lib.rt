@@ -1,6 +1,6 @@
 // How far the bytes of a line go along a form: a key, hex digits, a decimal in its range.
 ghost use mathlib.Core.Path.{_≡_};
-ghost use Prim.Native.Nat.{ℕ, _+_, _-_, _*_, _≤_, min};
+ghost use Prim.Native.Nat.{_+_, _-_, _*_, _≤_, min};
 ghost use lib.ListN.{length, drop};
 ghost use lib.Dec.{ltb, leb};
 ghost use Rattle.arith.specs.Pick.{both};

@@ -1,14 +1,14 @@
 -- A line's text is read back as that line. Assumes nothing.
-use mathlib.Core.Path.{_≡_, refl, ap, sym, _∙_}
+use mathlib.Core.Path.{_≡_, refl, ap, _∙_}
 use mathlib.Core.List.{List, [], _∷_, _++_}
 use mathlib.Core.Bool.{Bool, true, false, false≢true}
 use Prim.Native.Nat.{ℕ, _+_, _-_, _^_, _≤_, _<_}
 use native.Mathlib.Omega.{arith}
-use borrow.Author.Tests.{eq-eqb, leb-true, eqb-true}
-use lib.ListN.{length, getD, take, drop, length-append}
+use borrow.Author.Tests.{leb-true, eqb-true}
+use lib.ListN.{length, length-append}
 use lib.Seq.{take-append-seam, getD-append-seam}
 use lib.Dec.{leb, eqb}
-use Rattle.arith.specs.Pick.{pick, both, either}
+use Rattle.arith.specs.Pick.{both, either}
 use Rattle.arith.proofs.PickLaws.{both-right}
 use Rattle.bus.specs.Register.{isRegister}
 use Rattle.bus.specs.declared.Access.the-variants.{Write, Read}

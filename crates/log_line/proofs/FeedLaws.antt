@@ -1,12 +1,12 @@
 -- A line's text is one line: no line feed but its last byte. Assumes nothing.
-use mathlib.Core.Path.{_≡_, refl, ap}
+use mathlib.Core.Path.{_≡_, refl}
 use mathlib.Core.List.{List, [], _∷_, _++_}
 use mathlib.Core.Bool.{Bool, true, false, not, false≢true}
-use Prim.Native.Nat.{ℕ, zero, suc, _+_, _/_, _%_, _≤_, _<_}
+use Prim.Native.Nat.{ℕ, zero, suc, _+_, _/_, _%_, _≤_}
 use native.Mathlib.Omega.{arith}
-use borrow.Author.Tests.{eqb-false, lt-ltb, le-ltb}
+use borrow.Author.Tests.{eqb-false}
 use lib.Dec.{eqb, ltb}
-use Rattle.arith.specs.Pick.{pick, both}
+use Rattle.arith.specs.Pick.{both}
 use Rattle.arith.proofs.PickLaws.{both-left, both-right, pick-both}
 use Rattle.bus.specs.declared.Access.the-variants.{Write, Read}
 use Rattle.text.specs.Ascii.{bytes}

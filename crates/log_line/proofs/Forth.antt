@@ -1,18 +1,18 @@
 -- What a line is read as, it is the text of; or it is a write to no register (4) or not of the form (0). Assumes nothing.
 use mathlib.Core.Path.{_≡_, refl, ap, ap₂, sym, _∙_, subst}
 use mathlib.Core.List.{List, [], _∷_, _++_}
-use mathlib.Core.Bool.{Bool, true, false}
+use mathlib.Core.Bool.{true}
 use mathlib.Core.Logic.{_⊎_, inl, inr}
 use Prim.Native.Nat.{ℕ, suc, _+_, _-_, _^_, _≤_, _<_}
 use native.Mathlib.Omega.{arith}
 use borrow.Author.Tests.{eqb-true}
-use lib.ListN.{length, getD, take, drop, drop-of-length-le, List·getD-eq-default}
+use lib.ListN.{length, getD, take, drop, drop-of-length-le}
 use lib.Seq.{split-at}
 use lib.Dec.{eqb}
-use Rattle.arith.specs.Pick.{pick, both}
+use Rattle.arith.specs.Pick.{both}
 use Rattle.arith.proofs.PickLaws.{pick-each, both-left, both-right}
 use Rattle.bus.specs.Register.{isRegister}
-use Rattle.bus.specs.declared.Access.the-variants.{Write, Read}
+use Rattle.bus.specs.declared.Access.the-variants.{Read}
 use Rattle.text.specs.Ascii.{bytes}
 use Rattle.text.specs.Key.{startsWith, exactly}
 use Rattle.text.specs.Numbers.{within}

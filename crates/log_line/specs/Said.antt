@@ -2,10 +2,9 @@
 -- (lower-case hex), `read=4015`, `loop=N` (2..255), `done=loop`. Last `stop=N` (0..2000000000), then nothing." Change request 9: "A log may have
 -- `machine=pal` as its second line".
 use Prim.Native.Nat.{ℕ, _-_}
-use mathlib.Core.List.{List, [], _∷_}
-use mathlib.Core.Bool.{Bool, true, false}
+use mathlib.Core.List.{List}
 use lib.ListN.{length, getD, take, drop}
-use lib.Dec.{ltb, eqb}
+use lib.Dec.{eqb}
 use Rattle.arith.specs.Pick.{pick, both}
 use Rattle.bus.specs.Register.{isRegister}
 use Rattle.bus.specs.declared.Access.the-variants.{Write, Read}

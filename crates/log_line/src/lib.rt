@@ -1,7 +1,5 @@
 // One line of a log: what it says.
 ghost use mathlib.Core.Path.{_≡_};
-ghost use Rattle.arith.specs.Pick.{pick};
-ghost use Rattle.bus.specs.Register.{isRegister};
 ghost use Rattle.text.specs.Hex.{hex};
 ghost use Rattle.text.specs.declared.Number.the-variants.{Is};
 ghost use Rattle.log_line.specs.Said.{lineOf, unfedLine, waitOf, loopOf, stopOf, writeOf, written};

@@ -4,7 +4,7 @@ use mathlib.Core.List.{List, [], _∷_, _++_, append-assoc, append-nil}
 use mathlib.Core.Bool.{Bool, true, false}
 use Prim.Native.Nat.{ℕ, _+_, _-_}
 use native.Mathlib.Omega.{arith}
-use borrow.Author.Tests.{eq-eqb, ne-eqb, lt-ltb}
+use borrow.Author.Tests.{eq-eqb, ne-eqb}
 use lib.ListN.{length, length-append}
 use Rattle.bus.specs.declared.Access.the-variants.{Write, Read}
 use Rattle.text.specs.Key.{startsWith}
@@ -16,9 +16,6 @@ use Rattle.log_line.specs.declared.Line.the-variants.{Header, Machine, One, Loo
 use Rattle.log_line.specs.Printed.{actText, ended, lineText, Printable, NoFeed, empty, byte}
 use Rattle.log_line.proofs.LineLaws.{printed-read, one-line}
 use Rattle.log_fault.specs.declared.Stand.the-variants.{First, Among}
-use Rattle.log_fault.specs.declared.Spotted.{Spotted}
-use Rattle.log_fault.specs.declared.Spotted.the-variants.{Right, Wrong}
-use Rattle.log_fault.specs.Fault.{spotOf}
 use Rattle.log_begins.specs.Fronts.{allowed}
 use Rattle.log_fault.specs.Allowed.{keysOf}
 use Rattle.log_fault.proofs.FaultLaws.{line-right}

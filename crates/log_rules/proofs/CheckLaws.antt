@@ -10,8 +10,7 @@ use lib.ListN.{length, length-append}
 use lib.Dec.{eqb, ltb}
 use Rattle.arith.specs.Pick.{pick}
 use Rattle.log_line.specs.declared.Line.{Line}
-use Rattle.log_line.specs.declared.Line.the-variants.{Header, One, Loop, Done, Stop, Bad}
-use Rattle.log_line.specs.Said.{lineOf}
+use Rattle.log_line.specs.declared.Line.the-variants.{Header, One, Loop}
 use Rattle.log_rules.specs.declared.Checked.{Checked}
 use Rattle.log_rules.specs.declared.Reading.{Reading}
 use Rattle.log_rules.specs.declared.Reading.the-variants.{Item, Refused}
@@ -25,7 +24,7 @@ use Rattle.log_rules.specs.Block.{Got, closed, stopped, refused, readBlo
 use Rattle.log_rules.specs.Closing.{totalled, limited, closing}
 use Rattle.log_rules.proofs.PlaceLaws.{Had, had-at, had-says, bytes-long, next-le, read-some, read-long}
 use Rattle.log_fault.specs.declared.Stand.{Stand as Standing}
-use Rattle.log_fault.specs.declared.Stand.the-variants.{First, Among}
+use Rattle.log_fault.specs.declared.Stand.the-variants.{First}
 use Rattle.log_fault.specs.declared.Spotted.{Spotted}
 use Rattle.log_fault.specs.declared.Spotted.the-variants.{Right, Wrong}
 use Rattle.log_fault.specs.Fault.{spotOf}

@@ -1,21 +1,16 @@
 -- The reading of a block as a derivation, line by line: what proofs about a log that passed go by. Assumes nothing.
 use mathlib.Core.Path.{_≡_, refl, ap, _∙_}
 use mathlib.Core.List.{List}
-use mathlib.Core.Bool.{Bool, true, false}
 use Prim.Native.Nat.{ℕ, zero, suc, _+_, _≤_, _<_}
 use native.Mathlib.Omega.{arith}
-use borrow.Author.Tests.{eqb-true, eqb-false, lt-ltb, ne-eqb}
 use lib.ListN.{length}
-use lib.Dec.{eqb, ltb}
-use Rattle.arith.specs.Pick.{pick}
 use Rattle.log_line.specs.declared.Act.{Act}
 use Rattle.log_line.specs.declared.Line.{Line}
 use Rattle.log_line.specs.declared.Line.the-variants.{Header, Machine, One, Loop, Done, Stop, Bad}
 use Rattle.log_rules.specs.declared.Reading.{Reading}
 use Rattle.log_rules.specs.declared.Reading.the-variants.{Item}
 use Rattle.log_rules.specs.Reading.{standing, readIn, readAt}
-use Rattle.log_fault.specs.declared.Stand.the-variants.{Among}
-use Rattle.log_fault.proofs.Standing.{Goes, act as acts-on, opens as opened-on, closes as closes-on, ends as ends-on}
+use Rattle.log_fault.proofs.Standing.{act as acts-on, opens as opened-on, closes as closes-on, ends as ends-on}
 use Rattle.log_rules.specs.Lines.{bytesAt}
 use Rattle.log_rules.specs.Tree.{Tree, end, act, loop}
 use Rattle.log_rules.specs.Block.{Got, closed, stopped, refused, begun, begunBy, readBegun, looped, piece, before, onward, readBlock, readPart}

@@ -1,17 +1,12 @@
 -- Laws of reading a block: one line at a time, with no count of lines. Assumes nothing.
 use mathlib.Core.Path.{_≡_, refl, ap, sym, _∙_}
 use mathlib.Core.List.{List, [], _∷_}
-use mathlib.Core.Bool.{Bool, true, false}
 use Prim.Native.Nat.{ℕ, zero, suc, _+_, _*_, _≤_, _<_}
 use native.Mathlib.Omega.{arith}
-use borrow.Author.Tests.{ltb-true}
 use lib.ListN.{length}
-use lib.Dec.{ltb, eqb}
 use types.Run.{OneOf, miss}
 use denote.Enum.Declared.{tagOf}
-use Rattle.arith.specs.Pick.{pick}
 use Rattle.log_line.specs.declared.Line.{Line}
-use Rattle.log_line.specs.declared.Line.the-variants.{Header, One, Loop, Done, Stop, Bad}
 use Rattle.log_rules.specs.declared.Reading.{Reading}
 use Rattle.log_rules.specs.declared.Reading.the-variants.{Item}
 use Rattle.log_rules.specs.declared.Totals.{Totals}
@@ -23,8 +18,7 @@ use Rattle.log_rules.specs.declared.Block.{Block}
 use Rattle.log_rules.specs.declared.Block.the-variants.{Closed, Stopped}
 use Rattle.log_rules.specs.Lines.{bytesAt}
 use Rattle.log_rules.specs.Reading.{standing, readIn}
-use Rattle.log_fault.specs.declared.Stand.the-variants.{Among}
-use Rattle.log_fault.proofs.Standing.{Goes, act as acts-on, opens as opened-on, closes as closes-on, ends as ends-on}
+use Rattle.log_fault.proofs.Standing.{act as acts-on, opens as opened-on, closes as closes-on, ends as ends-on}
 use Rattle.log_rules.specs.Tree.{Tree, act, loop, acts, actClocks, clocks, turns}
 use Rattle.log_rules.specs.Block.{Got, closed, stopped, refused, LinePiece, one, many, shut, halt, bad, Begun, whole, opens, begun, begunBy, readBegun, looped, piece, before, onward, blockIn, readBlock, readPart, cut, noTotals, sumOf, Small, totals, blockAnswer, partAnswer, stepAnswer, partEnd, SmallBlock, loopPart}
 use Rattle.log_rules.proofs.PlaceLaws.{HadIn, had-in, Stands, head, tells, inner, stands, next-pos, next-le}

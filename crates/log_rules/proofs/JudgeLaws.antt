@@ -10,11 +10,11 @@ use lib.Seq.{drop-drop}
 use lib.Dec.{eqb, ltb}
 use Rattle.arith.specs.Pick.{pick}
 use Rattle.log_line.specs.declared.Line.{Line}
-use Rattle.log_line.specs.declared.Line.the-variants.{Header, Machine, One, Loop, Done, Stop, Bad}
+use Rattle.log_line.specs.declared.Line.the-variants.{Machine, One, Loop, Done, Stop}
 use Rattle.log_line.specs.Said.{lineOf}
 use Rattle.log_rules.specs.Lines.{onto, linesOf, lineLen, bytesAt, nextLine}
 use Rattle.log_rules.specs.Reading.{standing, readIn, taken}
-use Rattle.log_rules.specs.Judge.{Verdict, right, wrong, Stand, second, among, over, foundAt, verdict, leaves, behind, ending, unless, judge}
+use Rattle.log_rules.specs.Judge.{Verdict, wrong, Stand, second, among, over, foundAt, verdict, leaves, behind, ending, unless, judge}
 use Rattle.log_rules.specs.Tree.{Tree, act, loop}
 use Rattle.log_rules.specs.Block.{whole, bad, Got, closed, stopped, refused, Begun, begun, begunBy, readBegun, looped, piece, before, onward, readBlock, readPart}
 use Rattle.log_rules.proofs.PlaceLaws.{bytes-long, read-some, read-none, standing-on}

@@ -1,10 +1,9 @@
 -- What a check answers is within document 01's limits: its number is in the table, its place in the log, and its clocks are those that a log
 -- may have. Assumes nothing.
-use mathlib.Core.Path.{_≡_, refl, sym}
+use mathlib.Core.Path.{_≡_, refl}
 use mathlib.Core.List.{List, [], _∷_}
 use mathlib.Core.Bool.{Bool, true, false}
-use mathlib.Core.Logic.{⊎-elim}
-use Prim.Native.Nat.{ℕ, suc, _+_, _≤_, _<_}
+use Prim.Native.Nat.{ℕ, suc, _+_, _≤_}
 use native.Mathlib.Omega.{arith}
 use borrow.Author.Tests.{ltb-false}
 use lib.ListN.{length}
@@ -14,7 +13,6 @@ use Rattle.arith.proofs.PickLaws.{pick-both, pick-each}
 use Rattle.log_line.specs.declared.Line.{Line}
 use Rattle.log_line.specs.declared.Line.the-variants.{Header, Machine, One, Loop, Done, Stop, Bad}
 use Rattle.log_line.specs.Said.{lineOf}
-use Rattle.log_line.proofs.LineLaws.{bad-number}
 use Rattle.log_rules.specs.declared.Checked.{Checked}
 use Rattle.log_rules.specs.Lines.{onto, linesOf}
 use Rattle.log_rules.specs.Head.{machineOf}
@@ -26,7 +24,7 @@ use Rattle.log_fault.specs.Fault.{spotOf}
 use Rattle.log_fault.proofs.Standing.{bounded}
 use Rattle.log_rules.specs.Judge.{Verdict, right, wrong, Stand, first, second, among, over, foundAt, verdict, behind, ending, unless, judge, judged}
 use Rattle.log_rules.specs.Tree.{Tree, clocks, turns}
-use Rattle.log_rules.specs.Whole.{treeOf, Stopping, stopHere, stopFrom, stoppingOf, checkRefusal, passedCheck, heavy, weighed, unlessWrong, checkOf}
+use Rattle.log_rules.specs.Whole.{treeOf, Stopping, stopHere, stopFrom, stoppingOf, checkRefusal, heavy, weighed, unlessWrong, checkOf}
 
 -- the lines of a log have its bytes
 

@@ -11,10 +11,9 @@ use lib.Seq.{drop-cons, drop-drop}
 use lib.Dec.{ltb, eqb}
 use Rattle.arith.specs.Pick.{pick}
 use Rattle.log_line.specs.declared.Line.{Line}
-use Rattle.log_line.specs.declared.Line.the-variants.{Header, Machine, One, Loop, Done, Stop, Bad}
+use Rattle.log_line.specs.declared.Line.the-variants.{Header, Machine}
 use Rattle.log_line.specs.Said.{lineOf}
 use Rattle.log_line.specs.Printed.{lineText, Printable}
-use Rattle.log_line.proofs.LineLaws.{read-printed}
 use Rattle.log_rules.specs.declared.Reading.{Reading}
 use Rattle.log_rules.specs.declared.Reading.the-variants.{Item, Refused}
 use Rattle.log_rules.specs.Lines.{lineLen, bytesAt, nextLine}

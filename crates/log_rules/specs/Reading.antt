@@ -4,7 +4,6 @@ use mathlib.Core.List.{List}
 use lib.ListN.{length}
 use lib.Dec.{eqb, ltb}
 use Rattle.arith.specs.Pick.{pick}
-use Rattle.log_line.specs.declared.Line.{Line}
 use Rattle.log_rules.specs.declared.Reading.{Reading}
 use Rattle.log_rules.specs.declared.Reading.the-variants.{Item, Refused}
 use Rattle.log_rules.specs.Lines.{bytesAt, nextLine}

@@ -4,7 +4,6 @@ ghost use mathlib.Core.List.{_++_};
 ghost use Prim.Native.Nat.{_+_, _≤_};
 ghost use lib.ListN.{length};
 ghost use Rattle.text_print.specs.Printed.{printed, placed, Put};
-ghost use Rattle.play_at.specs.Reached.{stateAt};
 ghost use Rattle.perch_why.specs.Text.{stepWord, numbered, reasonWord, channelLine, channelLines, clockLine, refusedLine, outcomeText, whyText};
 use chip::State;
 use chip_why::Reason;

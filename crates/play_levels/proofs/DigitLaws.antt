@@ -14,7 +14,7 @@ use Rattle.text.specs.Decimal.{digitsOf, decimalText}
 use Rattle.text_print.specs.Printed.{digitsIn}
 use Rattle.play_levels.specs.Words.{wordOf, Hundreds, tensOf}
 use Rattle.play_text.proofs.TextLaws.{digits-few}
-use Rattle.text_print.proofs.DecimalLaws.{length-digits, digits-more, decimal-shown, decimal-long}
+use Rattle.text_print.proofs.DecimalLaws.{length-digits, decimal-shown, decimal-long}
 use Rattle.play_levels.proofs.WordLaws.{Bytes, bytes-append, word-drop, five-word, pairs-sum, hundreds-four, tens-of-four, tens-most, eight-word}
 
 -- digits are bytes

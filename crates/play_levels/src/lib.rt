@@ -1,6 +1,5 @@
 // The records of a run as level lines, written over lent bytes a word of eight bytes at a time: what a word has behind its text, the next one covers.
 ghost use mathlib.Core.Path.{_≡_};
-ghost use mathlib.Core.Bool.{true};
 ghost use mathlib.Core.List.{[], _∷_, _++_};
 ghost use Prim.Native.Nat.{ℕ, _+_, _-_, _*_, _/_, _%_, _≤_};
 ghost use lib.Dec.{ltb};

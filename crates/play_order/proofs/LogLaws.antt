@@ -20,7 +20,7 @@ use Rattle.log_fault.proofs.Standing.{act as acts-on, goes-may}
 use Rattle.log_rules.specs.Lines.{onto, linesOf}
 use Rattle.log_rules.specs.Judge.{Stand, first, second, among, over, verdict, leaves, behind, unless, judge, judged}
 use Rattle.log_rules.specs.Head.{headText, machineOf}
-use Rattle.log_rules.specs.Whole.{grow, blocks, treeOf, Stopping, stopHere, stopFrom, stoppingOf, heavy, weighed, checkOf}
+use Rattle.log_rules.specs.Whole.{blocks, treeOf, Stopping, stopHere, stopFrom, stoppingOf, heavy, weighed, checkOf}
 use Rattle.log_passing.proofs.TextLaws.{lines-text, blocks-line, stop-line, judge-line, judge-second}
 use Rattle.play_order.specs.Order.{writeLine, logWith}
 use Rattle.play_order.proofs.TreeLaws.{Exchanged, Exchanges, grown-two, grown, inner, clocks-same, turns-same, acts-swapped, length-same}

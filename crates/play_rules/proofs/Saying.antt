@@ -1,5 +1,5 @@
 -- A PLAYER AT THE BEGINNING OF A LOG THAT PASSES SAYS JUST THE LINES OF WHAT THE LOG SOUNDS LIKE. Assumes nothing.
-use Prim.Native.Nat.{ℕ, zero, suc, _+_, _-_, _*_, _≤_, _<_}
+use Prim.Native.Nat.{ℕ, _+_, _-_, _*_, _≤_, _<_}
 use mathlib.Core.Path.{_≡_, refl, _∙_, subst}
 use mathlib.Core.Bool.{Bool, true, false}
 use mathlib.Core.List.{List, [], _∷_, _++_, map}

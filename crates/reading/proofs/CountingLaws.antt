@@ -1,10 +1,10 @@
 -- Laws of a clockwork with counts beside it. Assumes nothing.
-use Prim.Native.Nat.{ℕ, zero, suc, _+_, _-_, _≤_, _<_, zero-le, suc-le-suc}
+use Prim.Native.Nat.{ℕ, zero, suc, _+_, _-_, _≤_, _<_, zero-le}
 use mathlib.Core.Path.{_≡_, refl, sym, ap, ap₂, _∙_}
 use mathlib.Core.Bool.{Bool, true, false}
 use mathlib.Core.Logic.{_≢_, _⊎_, inl, inr, ⊎-elim}
 use mathlib.Core.List.{List, [], _∷_}
-use native.Mathlib.Nat.{add-zero, zero-add, add-assoc}
+use native.Mathlib.Nat.{add-zero, zero-add}
 use native.Mathlib.Decide.{ℕ-discrete}
 use native.Mathlib.Numerals.{add-one}
 use native.Mathlib.Omega.{arith}
@@ -14,8 +14,8 @@ use lib.Seq.{set-set, set-getD, getD-set-same, getD-set-other}
 use borrow.Author.Tests.{eq-eqb, ne-eqb, le-ltb, lt-ltb, ltb-true, ltb-false}
 use Rattle.arith.specs.Iterate.{iterate}
 use Rattle.arith.specs.Pick.{pick}
-use Rattle.arith.proofs.IterateLaws.{iterate-zero, iterate-add, iterate-more}
-use Rattle.reading.specs.Reading.{Clockwork, Mark, Progress, start, same, stopped, unrecorded, recorded, worked, reading, plain}
+use Rattle.arith.proofs.IterateLaws.{iterate-zero, iterate-more}
+use Rattle.reading.specs.Reading.{Clockwork, Progress, start, same, stopped, unrecorded, recorded, worked, reading, plain}
 use Rattle.reading.specs.Counting.{Beside, raise, sum, dwelt, counting}
 use Rattle.reading.proofs.ReadingLaws.{reading-stopped, reading-add, reading-done, reading-ends, reading-kept, reading-went, plain-went}
 

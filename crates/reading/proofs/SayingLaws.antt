@@ -1,9 +1,9 @@
 -- Laws of a teller. Assumes nothing.
-use mathlib.Core.Path.{_≡_, refl, ap, sym, _∙_}
+use mathlib.Core.Path.{_≡_, refl, ap}
 use mathlib.Core.List.{List, [], _∷_}
-use Prim.Native.Nat.{ℕ, suc, _≤_, _<_}
+use Prim.Native.Nat.{ℕ, _≤_, _<_}
 use native.Mathlib.Omega.{arith}
-use Rattle.reading.specs.Saying.{Said, over, on, says, refused, Turn, Gives, ends, goes, gives}
+use Rattle.reading.specs.Saying.{over, on, says, Turn, Gives, ends, goes, gives}
 
 module _ {S A : Type 0} (step : S → Turn S A) where
   -- more steps are enough too

@@ -8,17 +8,16 @@ use native.Mathlib.Nat.{add-zero}
 use native.Mathlib.Omega.{arith}
 use lib.Dec.{eqb}
 use lib.ListN.{length, getD}
-use borrow.Author.Tests.{eq-eqb, ne-eqb, eqb-true, eqb-false}
-use Rattle.arith.specs.Iterate.{iterate}
+use borrow.Author.Tests.{ne-eqb, eqb-true, eqb-false}
 use Rattle.arith.specs.Pick.{pick}
 use Rattle.arith.proofs.IterateLaws.{iterate-keeps}
 use Rattle.reading.specs.Reading.{Progress, start, plain}
 use Rattle.reading.specs.Counting.{Beside, sum, dwelt}
-use Rattle.reading.proofs.ReadingLaws.{reading-done, reading-kept, plain-went}
-use Rattle.reading.proofs.CountingLaws.{Most, tallied, tallied-most, tallied-length, Free, Full, free-few, free-less, besides, viewed, plain-within, sum-tallied, dwelt-none, tallied-dwelt, counting-times, plain-free, plain-full}
+use Rattle.reading.proofs.ReadingLaws.{reading-done, plain-went}
+use Rattle.reading.proofs.CountingLaws.{Most, tallied, Free, Full, free-few, free-less, besides, viewed, plain-within, sum-tallied, dwelt-none, tallied-dwelt, counting-times, plain-free, plain-full}
 use Rattle.chip.specs.Clock.{chipClock}
 use Rattle.chip.specs.Level.{stateLevel}
-use Rattle.chip.specs.Range.{inRange, Bytes}
+use Rattle.chip.specs.Range.{Bytes}
 use Rattle.chip.specs.declared.State.{State}
 use Rattle.chip.proofs.RangeLaws.{StateRanged, state-in, clock-kept}
 use Rattle.run_answer.specs.Run.{chipClockwork, roomOf, number, flat, over, readBy, answered}

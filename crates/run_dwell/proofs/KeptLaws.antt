@@ -1,16 +1,16 @@
 -- The table between the clocks of a run. Assumes nothing.
 use Prim.Native.Nat.{ℕ, suc, _+_, _≤_, _<_}
-use mathlib.Core.Path.{_≡_, refl, sym, ap, ap₂, _∙_}
+use mathlib.Core.Path.{_≡_, refl, sym, ap, _∙_}
 use mathlib.Core.List.{List}
 use native.Mathlib.Numerals.{add-one}
 use native.Mathlib.Omega.{arith}
 use lib.ListN.{length, getD, set}
 use Rattle.arith.specs.Iterate.{iterate}
 use Rattle.arith.proofs.IterateLaws.{iterate-more}
-use Rattle.reading.specs.Reading.{Progress, start, reading, plain}
+use Rattle.reading.specs.Reading.{plain}
 use Rattle.reading.specs.Counting.{raise}
 use Rattle.reading.proofs.ReadingLaws.{plain-went}
-use Rattle.reading.proofs.CountingLaws.{tallied, tallied-none, tallied-more, tallied-length, Free, Full, free-none, free-more}
+use Rattle.reading.proofs.CountingLaws.{tallied, tallied-none, tallied-more, tallied-length, Full, free-none, free-more}
 use Rattle.chip.specs.Clock.{chipClock}
 use Rattle.chip.specs.Range.{Bytes}
 use Rattle.chip.specs.declared.State.{State}
@@ -18,7 +18,7 @@ use Rattle.chip.proofs.RangeLaws.{StateRanged, clock-kept}
 use Rattle.run_answer.specs.Run.{chipClockwork, roomOf, flat, over, readBy, answered}
 use Rattle.run_answer.specs.Held.{Held}
 use Rattle.run_answer.specs.declared.Ran.{Ran}
-use Rattle.run_answer.proofs.RunLaws.{held-ranged, held-end, held-early}
+use Rattle.run_answer.proofs.RunLaws.{held-ranged, held-end}
 use Rattle.run_dwell.specs.Dwell.{dwellLimit, dwellPlace, dwellBy, dwellAnswered}
 use Rattle.run_dwell.specs.Kept.{dwellPlaces, Kept}
 use Rattle.run_dwell.proofs.DwellLaws.{Given, Owed, owed-free, owed-full}

@@ -13,7 +13,6 @@ use Rattle.chip.specs.Level.{stateLevel}
 use Rattle.chip.specs.Range.{Bytes}
 use Rattle.chip.specs.declared.State.{State}
 use Rattle.run_answer.specs.Run.{number, roomOf, flat, over, refusal}
-use Rattle.run_answer.specs.declared.Ran.{Ran}
 use Rattle.run_dwell.specs.declared.Counted.{Counted}
 
 -- "4,000,000,000": the most that a count may be

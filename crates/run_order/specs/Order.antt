@@ -14,7 +14,6 @@ use Rattle.chip_api.specs.Answer.{accessAnswer}
 use Rattle.chip_api.specs.declared.Answered.{Answered}
 use Rattle.run_answer.specs.Run.{roomOf}
 use Rattle.run_dwell.specs.Dwell.{dwellAnswer, dwellLent}
-use Rattle.run_dwell.specs.declared.Counted.{Counted}
 use Rattle.run_lists.specs.Lists.{Request, wordsWritten, runAll, asked, Share, Alike}
 
 -- "two writes to $4000..$4013 that belong to different channels", four registers a channel: $4009 is the triangle's, $400D the noise's

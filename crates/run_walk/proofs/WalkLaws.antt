@@ -1,23 +1,22 @@
 -- The DMC goes by itself, and what a walk along its changes holds. Assumes nothing.
 use Prim.Native.Nat.{ℕ, zero, suc, _+_, _-_, _*_, _≤_, _<_, min}
-use mathlib.Core.Path.{_≡_, refl, sym, ap, _∙_, subst}
+use mathlib.Core.Path.{_≡_, refl, sym, ap, _∙_}
 use mathlib.Core.Bool.{Bool, true, false, not}
 use mathlib.Core.Logic.{_⊎_, inl, inr, ⊎-elim}
 use mathlib.Core.List.{List}
 use native.Mathlib.Nat.{mul-le-mul-right}
-use native.Mathlib.Numerals.{add-one}
 use native.Mathlib.Omega.{arith}
-use lib.Dec.{leb, eqb, ltb}
+use lib.Dec.{leb, ltb}
 use lib.ListN.{length, getD, set}
-use borrow.Author.Tests.{leb-true, leb-false, eqb-false, ltb-true, ltb-false}
+use borrow.Author.Tests.{leb-true, leb-false, ltb-true, ltb-false}
 use Rattle.arith.specs.Iterate.{iterate}
 use Rattle.arith.specs.Pick.{pick, both}
-use Rattle.arith.proofs.IterateLaws.{iterate-zero, iterate-add, iterate-more, iterate-keeps}
+use Rattle.arith.proofs.IterateLaws.{iterate-zero, iterate-add, iterate-keeps}
 use Rattle.arith.proofs.PickLaws.{pick-both}
 use Rattle.leap_still.specs.Forever.{forever}
 use Rattle.reading.specs.Counting.{raise}
 use Rattle.reading.proofs.CountingLaws.{Most, raise-same, tallied, tallied-none, tallied-length, tallied-most, tallied-stay, Free, Full, free-none, free-stay, free-few, free-less}
-use Rattle.chip.specs.Clock.{withFrame, timersClocked, readerClocked, quarterFrame, halfFrame, quarterIf, halfIf, stepped, framed, chipClock}
+use Rattle.chip.specs.Clock.{timersClocked, readerClocked, quarterFrame, halfFrame, quarterIf, stepped, framed, chipClock}
 use Rattle.chip.specs.Range.{Bytes}
 use Rattle.chip.specs.declared.State.{State}
 use Rattle.chip.proofs.RangeLaws.{StateRanged, dmc-period-range}
@@ -25,7 +24,7 @@ use Rattle.chip.proofs.MachineLaws.{clock-machine}
 use Rattle.chip_dmc.specs.Clock.{dmcTimed, dmcRead, dmcClock, dmcOutput}
 use Rattle.chip_dmc.specs.declared.Dmc.{Dmc}
 use Rattle.chip_dmc.proofs.RangeLaws.{DmcRanged, dmc-clock-kept}
-use Rattle.chip_frame.specs.Frame.{nextStep, frameDue, frameMoved, isQuarter, isHalf}
+use Rattle.chip_frame.specs.Frame.{frameDue, isQuarter, isHalf}
 use Rattle.chip_dmc_reader.specs.Reader.{pending}
 use Rattle.chip_tables.specs.Table.{dmcPeriod, dmcTop, frameTimes}
 use Rattle.leap_dmc.specs.Leap.{outputStill, dmcStill, dmcBrink, dmcTurned}
@@ -34,7 +33,7 @@ use Rattle.reading.specs.Reading.{start, plain}
 use Rattle.reading.proofs.ReadingLaws.{reading-done}
 use Rattle.run_answer.specs.Run.{chipClockwork, roomOf, flat, over, readBy, answered}
 use Rattle.run_answer.specs.declared.Ran.{Ran}
-use Rattle.run_dwell.specs.Dwell.{dwellLimit, dwellPlace, dwellBy, dwellAnswered}
+use Rattle.run_dwell.specs.Dwell.{dwellLimit, dwellBy, dwellAnswered}
 use Rattle.run_dwell.proofs.DwellLaws.{Given, Owed, owed-free, owed-full}
 use Rattle.run_dwell.specs.Kept.{dwellPlaces}
 use Rattle.run_walk.specs.Walk.{lastAt, dmcAfter, Walking, Open, Walked}

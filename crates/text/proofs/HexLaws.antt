@@ -5,14 +5,13 @@ use mathlib.Core.Bool.{Bool, true, false}
 use Prim.Native.Nat.{ℕ, zero, suc, _+_, _-_, _*_, _/_, _%_, _^_, _≤_, _<_}
 use native.Mathlib.Numerals.{add-one}
 use native.Mathlib.Omega.{arith}
-use native.Mathlib.Nat.{div-lt-iff-lt-mul, pow-suc, suc-add, add-suc, add-zero, zero-add, pow-le-pow-right}
+use native.Mathlib.Nat.{div-lt-iff-lt-mul, pow-suc, add-zero, pow-le-pow-right}
 use borrow.Author.Tests.{eq-eqb, le-leb, lt-leb, leb-true, eqb-true, lt-ltb, le-ltb}
 use lib.ListN.{length, getD, drop, drop-of-length-le, length-append}
 use lib.Seq.{drop-cons}
 use lib.Dec.{leb, eqb}
 use Rattle.arith.specs.Pick.{pick, both, either}
-use Rattle.arith.proofs.PickLaws.{both-left, both-right, both-true}
-use Rattle.text.specs.declared.Number.{Number}
+use Rattle.arith.proofs.PickLaws.{both-left, both-right}
 use Rattle.text.specs.declared.Number.the-variants.{Is, None}
 use Rattle.text.specs.Decimal.{digit}
 use Rattle.text.specs.Hex.{hexDigit, hexValue, hexDigits, hex, hexByte, hexText}

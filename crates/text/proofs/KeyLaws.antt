@@ -1,15 +1,15 @@
 -- Laws of `startsWith` and `exactly`. Assumes nothing.
-use mathlib.Core.Path.{_≡_, refl, ap, sym, _∙_}
+use mathlib.Core.Path.{_≡_, refl, ap, _∙_}
 use mathlib.Core.List.{List, [], _∷_, _++_}
 use mathlib.Core.Bool.{Bool, true, false, false≢true}
-use Prim.Native.Nat.{ℕ, zero, suc, _+_, _-_, _≤_, _<_}
+use Prim.Native.Nat.{ℕ, _+_, _-_, _≤_, _<_}
 use native.Mathlib.Numerals.{add-one}
 use native.Mathlib.Omega.{arith}
-use borrow.Author.Tests.{eq-eqb, ne-eqb, le-leb, leb-true, eqb-true}
+use borrow.Author.Tests.{eq-eqb, ne-eqb, leb-true, eqb-true}
 use lib.ListN.{length, getD, take, drop, length-drop, length-append, drop-of-length-le}
 use lib.Seq.{drop-cons, take-all}
 use lib.Dec.{leb, eqb}
-use Rattle.arith.specs.Pick.{pick, both}
+use Rattle.arith.specs.Pick.{pick}
 use Rattle.arith.proofs.PickLaws.{both-left, both-right}
 use Rattle.text.specs.Key.{startsWith, exactly}
 

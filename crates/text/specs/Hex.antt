@@ -1,7 +1,7 @@
 -- Lower-case hex of so many digits, read and written.
 use Prim.Native.Nat.{ℕ, zero, suc, _+_, _-_, _*_, _/_, _%_}
 use mathlib.Core.List.{List, [], _∷_, _++_}
-use mathlib.Core.Bool.{Bool, true, false}
+use mathlib.Core.Bool.{Bool}
 use lib.ListN.{length}
 use lib.Dec.{ltb, leb, eqb}
 use Rattle.arith.specs.Pick.{pick, both, either}

@@ -2,7 +2,6 @@ use borrow.Author.Needs.{needs, length-unmapped, elem-fits-field}
 use mathlib.Core.Path.{_∙_}
 use Prim.Native.Nat.{ℕ}
 use mir.Syntax.{w8, w64}
-use Rattle.c_cursor.specs.Cursors.{CursorFits}
 use Rattle.c_player.specs.Player.{PlayerFits}
 use Rattle.c_play.proofs.PlayerLaws.{piece-stored}
 use Rattle.c_play.proofs.play_on.Statement.{statement}

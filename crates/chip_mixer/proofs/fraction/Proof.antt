@@ -1,6 +1,5 @@
-use mathlib.Core.Path.{_≡_, refl}
+use mathlib.Core.Path.{refl}
 use native.Mathlib.Omega.{arith}
-use lib.Ieee.{ofBits}
 use Rattle.chip_mixer.specs.Fraction.{fractionOf}
 use borrow.Author.Needs.{needs}
 use Rattle.chip_mixer.proofs.FractionLaws.{scale-is, over, again}

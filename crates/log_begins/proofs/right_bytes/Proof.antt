@@ -1,6 +1,6 @@
 -- What each call ensures, put into the law of the first byte at fault of all allowed lines, `reach-begins`. Assumes nothing.
 use denote.Ref.{now}
-use mathlib.Core.Path.{sym, _∙_}
+use mathlib.Core.Path.{sym}
 use borrow.Author.Needs.{needs}
 use Rattle.log_line.specs.Printed.{ended}
 use Rattle.log_begins.proofs.Furthest.{reach-begins}

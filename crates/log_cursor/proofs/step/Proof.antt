@@ -1,5 +1,5 @@
 use borrow.Author.Needs.{needs}
-use mathlib.Core.Path.{_∙_, ap, sym}
+use mathlib.Core.Path.{_∙_, ap}
 use Rattle.log_cursor.specs.Stepping.{stepOf, readStep, steppedOf}
 use Rattle.log_cursor.proofs.AnswerLaws.{not-read}
 use Rattle.log_cursor.proofs.step.Statement.{statement}

@@ -1,5 +1,4 @@
 -- Each `returns` is one case of `wholeOf`: the line's variant, and what the flags called on the way give. Assumes nothing.
-use mathlib.Core.Path.{sym, ap, _∙_}
 use borrow.Author.Needs.{needs}
 use Rattle.log_fault.specs.Fault.{wholeOf}
 use Rattle.log_fault.proofs.as_whole.Statement.{statement}

@@ -1,5 +1,4 @@
 use mathlib.Core.Path.{sym, ap, _∙_}
-use borrow.Author.Needs.{needs}
 use borrow.Author.Tests.{eq-eqb, ne-eqb}
 use Rattle.log_begins.specs.Counts.{keyed}
 use Rattle.log_fault.specs.Fault.{faultAt}

@@ -1,5 +1,4 @@
 use borrow.Author.Needs.{needs}
-use mathlib.Core.Path.{refl}
 use Rattle.log_fault.specs.Allowed.{keysOf}
 use Rattle.log_fault.proofs.keys_of.Statement.{statement}
 use Rattle.log_fault.proofs.keys_of.Tie as tie

@@ -1,5 +1,4 @@
 use denote.Ref.{now}
-use mathlib.Core.Path.{sym, ap, _∙_}
 use borrow.Author.Needs.{needs}
 use Rattle.log_fault.proofs.AnswerLaws.{spot-fine, spot-start, spot-other}
 use Rattle.log_fault.proofs.spot.Statement.{statement}

@@ -1,5 +1,4 @@
 use borrow.Author.Needs.{needs}
-use mathlib.Core.Path.{refl}
 use Rattle.log_fault.proofs.value_fault.Statement.{statement}
 use Rattle.log_fault.proofs.value_fault.Tie as tie
 

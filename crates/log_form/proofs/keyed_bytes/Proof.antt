@@ -1,14 +1,11 @@
 use denote.Ref.{now}
-use Prim.Native.Nat.{ℕ, _+_, _-_, _≤_, _<_}
-use mathlib.Core.Path.{_≡_, refl, sym, ap, _∙_}
-use mathlib.Core.List.{List}
+use Prim.Native.Nat.{ℕ, _+_, _-_}
+use mathlib.Core.Path.{refl, sym, ap, _∙_}
 use native.Mathlib.Omega.{arith}
-use borrow.Author.Needs.{needs}
 use borrow.Author.Tests.{lt-ltb, le-ltb}
 use lib.ListN.{length, drop, length-drop}
-use lib.Dec.{ltb}
 use Rattle.arith.proofs.PickLaws.{pick-true, pick-false}
-use Rattle.log_form.specs.Forms.{along, beginsNumber, reach}
+use Rattle.log_form.specs.Forms.{beginsNumber, reach}
 use Rattle.log_form.specs.Matching.{common}
 use Rattle.log_form.proofs.ScanLaws.{common-length}
 use Rattle.log_form.proofs.ReachLaws.{reach-along, reach-length}

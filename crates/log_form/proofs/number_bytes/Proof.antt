@@ -1,12 +1,12 @@
 use denote.Ref.{now}
-use Prim.Native.Nat.{ℕ, _+_, _-_, _*_, _≤_, _<_, min}
-use mathlib.Core.Path.{_≡_, refl, sym, ap, _∙_}
+use Prim.Native.Nat.{ℕ, _+_, _-_, min}
+use mathlib.Core.Path.{sym, ap, _∙_}
 use native.Mathlib.Omega.{arith}
 use borrow.Author.Needs.{needs}
 use borrow.Author.Tests.{leb-true}
-use lib.ListN.{length, getD, drop}
+use lib.ListN.{getD, drop}
 use lib.Dec.{leb}
-use Rattle.arith.proofs.PickLaws.{both-left, both-right}
+use Rattle.arith.proofs.PickLaws.{both-right}
 use Rattle.text.specs.Decimal.{digit}
 use Rattle.log_form.specs.Forms.{goesOn, reach}
 use Rattle.log_form.proofs.ScanLaws.{number-none, number-digit, number-other}

@@ -1,13 +1,12 @@
 -- The loop's invariant: what stands behind the digits passed, which say n, decides the rest. Assumes nothing.
 use denote.Ref.{now}
-use Prim.Native.Nat.{ℕ, _+_, _-_, _*_, _≤_, _<_}
+use Prim.Native.Nat.{ℕ, _+_, _-_, _*_, _≤_}
 use mathlib.Core.Path.{_≡_, refl, sym, ap, _∙_}
 use native.Mathlib.Omega.{arith}
 use borrow.Author.Tests.{leb-true}
 use lib.ListN.{length, getD, drop}
-use lib.Dec.{leb, ltb}
-use Rattle.arith.specs.Pick.{both}
-use Rattle.arith.proofs.PickLaws.{both-left, both-right}
+use lib.Dec.{ltb}
+use Rattle.arith.proofs.PickLaws.{both-right}
 use Rattle.text.specs.Decimal.{digit}
 use Rattle.log_form.specs.Forms.{goesOn, reach}
 use Rattle.log_form.proofs.ScanLaws.{at-fed, at-early, at-more, at-stop, at-end}

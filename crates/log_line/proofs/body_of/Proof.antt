@@ -1,5 +1,5 @@
 -- Each `returns` goes by the tests on the way, the last one taken and those before it left. Assumes nothing.
-use mathlib.Core.Path.{refl, sym, ap, _∙_}
+use mathlib.Core.Path.{sym, ap, _∙_}
 use borrow.Author.Needs.{needs}
 use Rattle.log_line.specs.Said.{unfedLine, waitOf, writeOf, loopOf, stopOf}
 use Rattle.log_line.proofs.body_of.Statement.{statement}

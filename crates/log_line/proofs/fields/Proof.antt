@@ -1,7 +1,6 @@
 use mathlib.Core.Path.{sym, _∙_, ap₂}
 use borrow.Author.Needs.{needs}
 use native.Mathlib.Omega.{arith}
-use denote.Ref.{now}
 use Rattle.text.proofs.HexLaws.{hex-sound}
 use Rattle.log_line.specs.Said.{written}
 use Rattle.log_line.proofs.BodyLaws.{written-none, written-half}

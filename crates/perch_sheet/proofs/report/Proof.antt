@@ -1,4 +1,3 @@
-use native.Mathlib.Omega.{arith}
 use borrow.Author.Needs.{needs}
 use Rattle.perch_sheet.proofs.Texts.{whole-text}
 use Rattle.perch_sheet.proofs.report.Statement.{statement}

@@ -1,7 +1,6 @@
 -- Four numbers below 100, and their tens: the law `eight-digits`. Assumes nothing.
 use native.Mathlib.Omega.{arith}
 use borrow.Author.Needs.{needs}
-use mathlib.Core.Path.{_≡_}
 use Rattle.play_levels.proofs.DigitLaws.{eight-pairs, eight-tens, eight-digits}
 use Rattle.play_levels.proofs.eight_digits.Statement.{statement}
 use Rattle.play_levels.proofs.eight_digits.Tie as tie

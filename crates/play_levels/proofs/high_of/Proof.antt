@@ -1,8 +1,6 @@
-use Prim.Native.Nat.{_*_, _/_}
-use mathlib.Core.Path.{sym, ap, ap₂, _∙_}
+use Prim.Native.Nat.{_/_}
 use native.Mathlib.Omega.{arith}
 use borrow.Author.Needs.{needs}
-use Rattle.play_levels.specs.declared.High.{High}
 use Rattle.play_levels.proofs.DigitLaws.{high-size, decimal-some}
 use Rattle.play_levels.proofs.high_of.Statement.{statement}
 use Rattle.play_levels.proofs.high_of.Tie as tie

@@ -1,7 +1,6 @@
 use native.Mathlib.Omega.{arith}
 use mathlib.Core.Path.{sym, _∙_}
 use Prim.Native.Nat.{_-_}
-use borrow.Author.Needs.{needs}
 use Rattle.run_dwell.proofs.WithinLaws.{within-most}
 use Rattle.run_walk.proofs.WalkLaws.{open-all}
 use Rattle.run.proofs.open_clocks.Statement.{statement}

@@ -1,5 +1,5 @@
 -- The loop's invariant is `Held`: state, count and words are the plain reading's so far; a turn is a stretch and then one clock by itself. Assumes nothing.
-use Prim.Native.Nat.{_+_, _-_, _≤_}
+use Prim.Native.Nat.{_-_, _≤_}
 use mathlib.Core.Path.{_≡_, refl, sym, ap, _∙_}
 use native.Mathlib.Omega.{arith}
 use borrow.Author.Needs.{needs}

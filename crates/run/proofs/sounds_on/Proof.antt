@@ -1,12 +1,12 @@
 -- The loop's invariant is `Worked`; a turn is an event of noise, squares or triangle, and then the loop of squares and triangle alone. Assumes nothing.
-use Prim.Native.Nat.{ℕ, _+_, _-_, _/_, _≤_, _<_}
+use Prim.Native.Nat.{_+_, _-_}
 use mathlib.Core.Path.{_≡_, refl, ap, _∙_}
 use native.Mathlib.Omega.{arith}
 use Rattle.chip.specs.Range.{Bytes}
 use Rattle.leap_stretch.specs.declared.Lags.{Lags}
 use Rattle.leap_stretch.proofs.WaitLaws.{sounds-renewed}
 use Rattle.run_answer.specs.Run.{roomOf}
-use Rattle.run_loops.specs.Stretch.{Standing, Worked}
+use Rattle.run_loops.specs.Stretch.{Worked}
 use Rattle.run_loops.proofs.StretchLaws.{worked-none, worked-on, worked-event, past, event-now}
 use Rattle.run.proofs.sounds_on.Statement.{statement}
 use Rattle.run.proofs.sounds_on.Tie as tie

@@ -1,5 +1,5 @@
 -- The loop's invariant is `Worked`, and in a quiet state that nothing was touched; a turn is an event of any channel, and then the loop without the DMC. Assumes nothing.
-use Prim.Native.Nat.{ℕ, _+_, _-_, _/_, _≤_, _<_}
+use Prim.Native.Nat.{_+_, _-_}
 use mathlib.Core.Path.{_≡_, refl, ap, _∙_}
 use native.Mathlib.Omega.{arith}
 use Rattle.chip.specs.Range.{Bytes}

@@ -12,7 +12,7 @@ use Rattle.run_answer.specs.Held.{Held}
 use Rattle.run_answer.proofs.RunLaws.{held-at, held-start, held-length, held-few, held-same, held-mark, held-end, held-early}
 use Rattle.run_dwell.specs.Dwell.{dwellPlace}
 use Rattle.run_dwell.specs.Kept.{Kept}
-use Rattle.run_dwell.proofs.KeptLaws.{kept-start, kept-size, place-low, kept-on, kept-stopped, kept-end}
+use Rattle.run_dwell.proofs.KeptLaws.{kept-start, place-low, kept-on, kept-stopped, kept-end}
 use Rattle.run_plain.proofs.work.Statement.{statement}
 use Rattle.run_plain.proofs.work.Tie as tie
 

@@ -1,4 +1,3 @@
-use Prim.Native.Nat.{_+_}
 use borrow.Author.Needs.{needs}
 use borrow.Author.Tests.{le-leb, lt-leb}
 use Rattle.run_walk.specs.Walk.{lastAt}

@@ -1,6 +1,5 @@
 use mathlib.Core.Path.{sym}
 use borrow.Author.Needs.{needs}
-use native.Mathlib.Omega.{arith}
 use Rattle.text.proofs.DecimalLaws.{formed-none, formed-one, formed-more}
 use Rattle.text.proofs.leads.Statement.{statement}
 use Rattle.text.proofs.leads.Tie as tie

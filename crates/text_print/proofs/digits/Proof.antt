@@ -1,10 +1,9 @@
 -- The loop's invariant: what is left to be stored makes the whole; a turn stores two digits, `fill-pair`. Assumes nothing.
-use Prim.Native.Nat.{_+_, _-_, _/_, _≤_}
-use mathlib.Core.Path.{_≡_, refl, sym, ap, _∙_}
+use Prim.Native.Nat.{_-_, _≤_}
+use mathlib.Core.Path.{_≡_, refl, ap, _∙_}
 use native.Mathlib.Omega.{arith}
 use lib.ListN.{length, length-set}
 use lib.Seq.{sets, length-sets}
-use borrow.Author.Needs.{needs}
 use Rattle.text_print.specs.Printed.{digitsIn}
 use Rattle.text_print.proofs.StoreLaws.{fill-pair}
 use Rattle.text_print.proofs.digits.Statement.{statement}

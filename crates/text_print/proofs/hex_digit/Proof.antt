@@ -1,6 +1,5 @@
 use borrow.Author.Needs.{needs}
 use borrow.Author.Tests.{lt-ltb, le-ltb}
-use Rattle.arith.specs.Pick.{pick}
 use Rattle.text.specs.Hex.{hexByte}
 use Rattle.text_print.proofs.hex_digit.Statement.{statement}
 use Rattle.text_print.proofs.hex_digit.Tie as tie

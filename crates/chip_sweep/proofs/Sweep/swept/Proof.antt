@@ -1,8 +1,8 @@
-use mathlib.Core.Path.{_≡_, refl, sym, _∙_}
+use mathlib.Core.Path.{sym, _∙_}
 use native.Mathlib.Omega.{arith}
 use mir.Syntax.{w32}
 use mir.ValLaws.{toZ-ofZ}
-use Rattle.chip_sweep.specs.Sweep.{target, sweeps, sweptPeriod}
+use Rattle.chip_sweep.specs.Sweep.{target, sweptPeriod}
 use Rattle.chip_sweep.proofs.Landing.{Period, moves-to}
 use Rattle.chip_sweep.proofs.Sweep.swept.Statement.{statement}
 use Rattle.chip_sweep.proofs.Sweep.swept.Tie as tie

@@ -1,10 +1,8 @@
 -- Each number on the way is read as a signed one with its bound (`Reads`): no sum overflows by `plus-fits`, and each `returns` is the sum's value. Assumes nothing.
-use mathlib.Core.Path.{_≡_, _∙_, refl, ap}
-use mathlib.Core.Bool.{Bool, true, false}
-use Prim.Native.Nat.{ℕ, _/_, _^_, _≤_, _<_, _-_}
+use Prim.Native.Nat.{ℕ, _^_, _<_, _-_}
 use native.Mathlib.Nat.{div-le-self}
 use native.Mathlib.Omega.{arith}
-use lib.IntN.{ℤ, pos, negsuc, _+ℤ_}
+use lib.IntN.{pos, negsuc}
 use borrow.Author.Needs.{needs}
 use Rattle.arith.proofs.Signed32.{Reads, of, inverted, plus-fits, plus}
 use Rattle.chip_sweep.specs.Sweep.{target}

@@ -1,4 +1,3 @@
-use borrow.Author.Needs.{needs}
 use Rattle.io.proofs.Counting.{counts}
 use Rattle.perch_sheet.proofs.Texts.{front-is}
 use Rattle.perch.proofs.sheet.answer.Statement.{statement}
