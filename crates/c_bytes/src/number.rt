@@ -28,18 +28,21 @@ pub fn u8_at(b: &[u8], at: usize) -> u8
     wide_at(b, at, 1) as u8
 }
 
+// A number in two bytes, low first.
 pub fn u16_at(b: &[u8], at: usize) -> u16
     ensures { λ r. ⌜ r ≡ wideOf (now (b .entry)) at 2 ⌝ }
 {
     wide_at(b, at, 2) as u16
 }
 
+// A number in four bytes, low first.
 pub fn u32_at(b: &[u8], at: usize) -> u32
     ensures { λ r. ⌜ r ≡ wideOf (now (b .entry)) at 4 ⌝ }
 {
     wide_at(b, at, 4) as u32
 }
 
+// A number in eight bytes, low first.
 pub fn usize_at(b: &[u8], at: usize) -> usize
     ensures { λ r. ⌜ r ≡ wideOf (now (b .entry)) at 8 ⌝ }
 {

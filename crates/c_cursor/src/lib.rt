@@ -15,6 +15,7 @@ use log_cursor::Given;
 // How many bytes a cursor is.
 pub const SIZE: usize = 88;
 
+// How many bytes a cursor is.
 pub fn size() -> usize
     ensures { λ r. ⌜ r ≡ cursorSize ⌝ }
 {

@@ -16,6 +16,7 @@ pub(crate) const STATE: usize = CURSOR + c_cursor::SIZE;
 
 pub const SIZE: usize = STATE + c_state::SIZE;
 
+// How many bytes a player is.
 pub fn size() -> usize
     ensures { λ r. ⌜ r ≡ playerSize ⌝ }
 {

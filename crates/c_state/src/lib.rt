@@ -8,6 +8,7 @@ use c_bytes::field;
 // How many bytes a state is.
 pub const SIZE: usize = 91;
 
+// How many bytes a state is.
 pub fn size() -> usize
     ensures { λ r. ⌜ r ≡ stateSize ⌝ }
 {

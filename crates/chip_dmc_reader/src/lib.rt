@@ -37,6 +37,7 @@ pub fn address_after(a: u16) -> u16
 }
 
 impl Registers {
+    // Whether every field is in its range.
     pub fn in_range(self) -> bool
         ensures { λ r. ⌜ r ≡ registersIn self ⌝ }
     {
@@ -144,6 +145,7 @@ impl Reader {
         self.stopped()
     }
 
+    // Whether every field is in its range.
     pub fn in_range(self) -> bool
         ensures { λ r. ⌜ r ≡ readerIn self ⌝ }
     {

@@ -21,6 +21,7 @@ fn decayed_from(looped: bool, counter: u8) -> u8
 }
 
 impl Envelope {
+    // The envelope at power-on.
     pub fn power_on() -> Envelope
         ensures { λ r. ⌜ r ≡ envelopeOn ⌝ }
     {
@@ -65,6 +66,7 @@ impl Envelope {
         }
     }
 
+    // The volume: n if constant, else the counter.
     pub fn volume_of(self) -> u8
         ensures { λ r. ⌜ r ≡ volume self ⌝ }
     {
@@ -91,6 +93,7 @@ impl Envelope {
         e
     }
 
+    // Whether every field is in its range.
     pub fn in_range(self) -> bool
         ensures { λ r. ⌜ r ≡ envelopeIn self ⌝ }
     {

@@ -140,6 +140,7 @@ impl Frame {
         arith::both_of(self.interrupt, !self.disable)
     }
 
+    // Whether the clock number is one of the mode's and the flag is clear while its interrupt is disabled.
     pub fn in_range(self, t: Times) -> bool
         ensures { λ r. ⌜ r ≡ frameIn t self ⌝ }
     {

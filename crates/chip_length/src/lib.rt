@@ -51,6 +51,7 @@ pub fn length_of(value: u8) -> u8
 }
 
 impl Length {
+    // The length at power-on.
     pub fn power_on() -> Length
         ensures { λ r. ⌜ r ≡ lengthOn ⌝ }
     {
@@ -60,6 +61,7 @@ impl Length {
         }
     }
 
+    // Loaded by the fourth register's value, if the channel is enabled.
     pub fn loaded(self, value: u8) -> Length
         ensures { λ r. ⌜ r ≡ lengthLoaded value self ⌝ }
     {
@@ -69,6 +71,7 @@ impl Length {
         l
     }
 
+    // One less, unless it is halted or 0.
     pub fn clocked(self, halt: bool) -> Length
         ensures { λ r. ⌜ r ≡ lengthClock halt self ⌝ }
     {
@@ -78,6 +81,7 @@ impl Length {
         l
     }
 
+    // The channel enabled or not; not enabled, its length is 0.
     pub fn enabled_by(self, on: bool) -> Length
         ensures { λ r. ⌜ r ≡ lengthEnabled on self ⌝ }
     {
@@ -88,6 +92,7 @@ impl Length {
         }
     }
 
+    // Whether the length is in its range, and 0 where the channel isn't enabled.
     pub fn in_range(self) -> bool
         ensures { λ r. ⌜ r ≡ lengthIn self ⌝ }
     {

@@ -41,6 +41,7 @@ impl Linear {
         l
     }
 
+    // Whether every field is in its range.
     pub fn in_range(self) -> bool
         ensures { λ r. ⌜ r ≡ linearIn self ⌝ }
     {

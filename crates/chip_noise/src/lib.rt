@@ -93,6 +93,7 @@ impl Noise {
         c
     }
 
+    // At a quarter frame.
     pub fn envelope_clocked(self) -> Noise
         ensures { λ r. ⌜ r ≡ noiseEnveloped self ⌝ }
     {
@@ -101,6 +102,7 @@ impl Noise {
         c
     }
 
+    // At a half frame.
     pub fn length_clocked(self) -> Noise
         ensures { λ r. ⌜ r ≡ noiseLengthened self ⌝ }
     {

@@ -163,6 +163,7 @@ impl Square {
         s
     }
 
+    // At a quarter frame.
     pub fn envelope_clocked(self) -> Square
         ensures { λ r. ⌜ r ≡ squareEnveloped self ⌝ }
     {
@@ -261,6 +262,7 @@ impl Square {
         }
     }
 
+    // Whether every field is in its range.
     pub fn in_range(self) -> bool
         ensures { λ r. ⌜ r ≡ squareIn self ⌝ }
     {

@@ -27,6 +27,7 @@ impl Sweep {
         }
     }
 
+    // Whether the target is above 2047; `second` is square 2.
     pub fn is_high(self, second: bool, period: u16) -> bool
         ensures { λ r. ⌜ r ≡ highTarget second self period ⌝ }
     {
@@ -85,6 +86,7 @@ impl Sweep {
         w
     }
 
+    // Whether every field is in its range.
     pub fn in_range(self) -> bool
         ensures { λ r. ⌜ r ≡ sweepIn self ⌝ }
     {

@@ -123,6 +123,7 @@ pub fn noise_top(pal: bool) -> u16
     if pal { 3778 } else { 4068 }
 }
 
+// The DMC's largest period, by machine.
 pub fn dmc_top(pal: bool) -> u16
     ensures { λ r. ⌜ r ≡ dmcTop pal ⌝ }
 {

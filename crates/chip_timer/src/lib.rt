@@ -8,6 +8,7 @@ pub struct Timer {
 }
 
 impl Timer {
+    // The timer at power-on.
     pub fn power_on() -> Timer
         ensures { λ r. ⌜ r ≡ timerOn ⌝ }
     {
@@ -17,6 +18,7 @@ impl Timer {
         }
     }
 
+    // One clock.
     pub fn clocked(self) -> Timer
         ensures { λ r. ⌜ r ≡ timerClock self ⌝ }
     {
@@ -43,6 +45,7 @@ impl Timer {
         t
     }
 
+    // Whether period and count are in their ranges.
     pub fn in_range(self) -> bool
         ensures { λ r. ⌜ r ≡ timerIn self ⌝ }
     {

@@ -103,6 +103,7 @@ impl Triangle {
         t
     }
 
+    // At a quarter frame.
     pub fn linear_clocked(self) -> Triangle
         ensures { λ r. ⌜ r ≡ triangleLinear self ⌝ }
     {
@@ -111,6 +112,7 @@ impl Triangle {
         t
     }
 
+    // At a half frame.
     pub fn length_clocked(self) -> Triangle
         ensures { λ r. ⌜ r ≡ triangleLengthened self ⌝ }
     {
@@ -175,6 +177,7 @@ impl Triangle {
         }
     }
 
+    // Whether every field is in its range.
     pub fn in_range(self) -> bool
         ensures { λ r. ⌜ r ≡ triangleIn self ⌝ }
     {

@@ -10,6 +10,7 @@ pub fn tick_u8(n: u8, count: u8) -> u8
     if count <= 1 { n } else { count - 1 }
 }
 
+// The count after one tick of a divider with period n.
 pub fn tick_u16(n: u16, count: u16) -> u16
     ensures { λ r. ⌜ r ≡ tick n count ⌝ }
 {

@@ -63,6 +63,7 @@ fn steps_of(q: Sequencer) -> u32
     2 * q.position as u32 + half as u32
 }
 
+// A sequencer in whole numbers.
 pub fn beat_of(q: Sequencer) -> Beat
     ensures { λ r. ⌜ r ≡ beatOf q ⌝ }
 {

@@ -23,6 +23,7 @@ pub fn gate(t: Triangle) -> u32
     if t.is_running() { 1 } else { 0 }
 }
 
+// A sequencer in whole numbers.
 pub fn beat_of(q: Sequencer) -> Beat
     ensures { λ r. ⌜ r ≡ triangleBeatOf q ⌝ }
 {

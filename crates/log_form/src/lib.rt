@@ -9,6 +9,7 @@ ghost use Rattle.text.specs.Hex.{hexDigit};
 ghost use Rattle.log_form.specs.Forms.{suits, along, goesOn, beginsNumber, reach};
 ghost use Rattle.log_form.specs.Matching.{common};
 
+// Whether a byte is a decimal digit.
 pub fn is_digit(c: u8) -> bool
     ensures { λ r. ⌜ r ≡ digit c ⌝ }
 {

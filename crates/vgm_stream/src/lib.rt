@@ -69,6 +69,7 @@ fn register_of(b: u8) -> Step
     }
 }
 
+// What a byte brings where so much is awaited.
 pub fn step_of(w: Await, b: u8) -> Step
     ensures { λ r. ⌜ r ≡ byteStep w b ⌝ }
 {
