@@ -99,7 +99,7 @@ stepDue s = frameDue (frameTimes (s .pal)) (s .frame)
 -- the frame's clock number (document 01's "frame divider"), "then its step if due"
 unfoldable pub framed : State → State
 framed s =
-    pick (frameDue (frameTimes (s .pal)) (s .frame))
+    pick (stepDue s)
     (stepped (nextStep (frameTimes (s .pal)) (s .frame)) (withFrame s (frameMoved (frameTimes (s .pal)) (s .frame))))
     (withFrame s (frameMoved (frameTimes (s .pal)) (s .frame)))
 
