@@ -2,7 +2,7 @@
 ghost use mathlib.Core.Path.{_≡_};
 ghost use Rattle.c_log.specs.Logs.{checkPacked, turnsPacked, itemsPacked, itemPacked, bodyPacked};
 
-// Checks a log; the value is its clocks in all. Refused: 4 to 10.
+// Checks a log; the value is its clocks in all + 2^31 x the machine, 0 NTSC and 1 PAL. Refused: 4, 5, 7 to 10, 14 to 19.
 #[no_mangle]
 pub extern "C" fn perch_check(log: &[u8]) -> u64
     ensures { λ r. ⌜ r ≡ checkPacked (now (log .entry)) ⌝ }

@@ -20,8 +20,8 @@ compare check FILE                                      hold the library to the 
 compare log-cases N FOLDER [--seed N]                   write N logs, a sample.bin and the texts that the reading gives
 compare examples FOLDER                                 hold the library to the reading on the logs of a folder, with sample.bin
 compare text LOG SAMPLE                                 write what the player writes for a log, by the reading
-compare judged FOLDER                                   write what the crate logs prints about the logs of a folder
-compare played FOLDER                                   write what the crate cases prints about them, with sample.bin
+compare judged FOLDER                                   write what test_logs prints about the logs of a folder
+compare played FOLDER                                   write what test_plays prints about them, with sample.bin
 --each N: so many accesses, orders, reasons, meters, sheets and texts, half as many whole logs, cursors, players and imports
 --archive: an error where the library's archive isn't linked; --brief: no more parts after one that differs";
 

@@ -1,4 +1,4 @@
-//! What the programs of the crates `logs` and `cases` print about their stored logs, by the reading.
+//! What the programs of the crates `test_logs` and `test_plays` print about their stored logs, by the reading.
 
 use perch::raw;
 use reading::log::{self, Fault, Item, Line};
