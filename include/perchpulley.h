@@ -40,7 +40,7 @@
 extern "C" {
 #endif
 
-#define PERCH_VERSION 8            /* of this header; perch_version() is the library's */
+#define PERCH_VERSION 9            /* of this header; perch_version() is the library's */
 #define PERCH_STATE_SIZE 91        /* bytes of a state; perch_state_size() at run time */
 #define PERCH_MEMORY_SIZE 32768    /* bytes of sample memory, $8000 to $FFFF */
 #define PERCH_MOST_CLOCKS 1000000  /* clocks that one run may be asked for */
@@ -143,6 +143,18 @@ uint64_t perch_why(const uint8_t *state, size_t n, uint64_t channel);
  * bytes behind them stay. Refused, also for length 0: 1, 20, 21, 22, 23. */
 uint64_t perch_sheet(const uint8_t *memory, size_t m, uint64_t level, uint64_t address, uint64_t length,
                      uint8_t *buffer, size_t b);
+
+/* The least number of clocks, from 0 to count, after which the interrupt line is asserted, with no access between; with
+ * PERCH_FRAME_FLAG or PERCH_DMC_FLAG for the line, after which that flag is set. No clock is worked. The answer is number +
+ * 2^8 x PERCH_RISES, 1 where there is such a clock and 0 where there is none within the count, + 2^32 x PERCH_RISE_CLOCKS.
+ * From there on it stays until an access clears it. Refused: 1, 2, 3. */
+uint64_t perch_next_interrupt(const uint8_t *state, size_t n, const uint8_t *memory, size_t m, uint64_t count,
+                              uint8_t which);
+#define PERCH_LINE 0
+#define PERCH_FRAME_FLAG 1
+#define PERCH_DMC_FLAG 2
+#define PERCH_RISES(answer) ((unsigned)((answer) >> 8 & 1))
+#define PERCH_RISE_CLOCKS(answer) ((unsigned)((answer) >> 32))
 
 /* Works count clocks, leaping where nothing changes. For each clock whose level differs from that before it writes a
  * record of two words: the clock's number in the run, from 1, and the level. After each clock done it adds one to the count

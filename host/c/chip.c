@@ -63,6 +63,15 @@ int main(void)
     perch_run(state, sizeof state, memory, sizeof memory, 30000, words, 0, counts, PERCH_COUNTS);
     expect("not set while disabled", PERCH_BYTE(perch_access(state, sizeof state, 1, 0, 0)), 0x00);
 
+    /* When it rises next: the flag is set by clock 29829 of a frame of mode 0, and no sample is under way. */
+    perch_power_on(state, sizeof state, PERCH_NTSC);
+    answer = perch_next_interrupt(state, sizeof state, memory, sizeof memory, PERCH_MOST_CLOCKS, PERCH_LINE);
+    expect("it rises", PERCH_RISES(answer), 1);
+    expect("after so many clocks", PERCH_RISE_CLOCKS(answer), 29829);
+    expect("the flag too", perch_next_interrupt(state, sizeof state, memory, sizeof memory, 29829, PERCH_FRAME_FLAG), answer);
+    expect("not before", perch_next_interrupt(state, sizeof state, memory, sizeof memory, 29828, PERCH_LINE), PERCH_DONE);
+    expect("no sample", PERCH_RISES(perch_next_interrupt(state, sizeof state, memory, sizeof memory, 1000, PERCH_DMC_FLAG)), 0);
+
     /* A PAL frame is longer: the flag is set after 33253 clocks. */
     expect("PAL", perch_power_on(state, sizeof state, PERCH_PAL), PERCH_DONE);
     expect("the machine's byte", state[PERCH_STATE_SIZE - 1], PERCH_PAL);

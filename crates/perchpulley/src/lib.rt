@@ -10,6 +10,7 @@ pub mod asked;
 pub mod cursors;
 pub mod folds;
 pub mod imports;
+pub mod interrupts;
 pub mod logs;
 pub mod meters;
 pub mod pieces;
@@ -21,7 +22,7 @@ pub mod salvages;
 pub extern "C" fn perch_version() -> u32
     ensures { λ r. ⌜ r ≡ version ⌝ }
 {
-    8
+    9
 }
 
 // How many bytes a state is.

@@ -212,6 +212,22 @@ fn fold(quick: bool) {
     println!("| {:<34} | {bytes:>11} | {length:>10} | {slowest:>8.6} |", "the slowest of drawn logs");
 }
 
+/// Measures the question when the line rises next, within 1,000,000 clocks, over drawn states, and prints the row.
+fn interrupts(quick: bool, memory: &[u8]) {
+    let states: Vec<Vec<u8>> =
+        (0..1000).map(|number| draw::state(&mut Random::new(1, "interrupts", number)).encode().to_vec()).collect();
+    let (mut best, mut found) = (f64::INFINITY, 0);
+    for _ in 0..if quick { 5 } else { 50 } {
+        let begun = now();
+        found = states.iter().map(|state| raw::next_interrupt(state, memory, 1_000_000, 0) >> 8 & 1).sum();
+        best = best.min(now() - begun);
+    }
+    println!("\n| {:<34} | {:>11} | {:>10} | {:>8} |", "the next interrupt", "states", "it rises", "ns each");
+    println!("|{}|{}", "-".repeat(36), "-:|".repeat(3));
+    let each = best * 1e9 / states.len() as f64;
+    println!("| {:<34} | {:>11} | {found:>10} | {each:>8.1} |", "within 1,000,000 clocks", states.len());
+}
+
 /// Measures the repair of damaged logs of 60,000 bytes, and prints a row for each kind of damage.
 fn salvage(quick: bool) {
     println!("\n| {:<34} | {:>11} | {:>10} | {:>8} | {:>8} |", "salvage", "log", "repaired", "entries", "seconds");
@@ -374,6 +390,7 @@ fn table(log: Option<String>, gme: Option<String>, quick: bool) -> Result<(), Bo
     import(quick);
     fold(quick);
     salvage(quick);
+    interrupts(quick, &memory);
     meter(quick)?;
     #[cfg(pace)]
     {

@@ -9,6 +9,7 @@ pub mod every;
 pub mod folds;
 pub mod free;
 pub mod imports;
+pub mod interrupts;
 pub mod judge;
 pub mod lines;
 pub mod logs;

@@ -4,8 +4,8 @@ use compare::case::{self, Case, Outcome};
 use compare::judge::{self, Tally, judge};
 use compare::random::Random;
 use compare::{
-    accesses, cursors, draw, every, folds, free, imports, lines, logs, machines, meters, orders, players, reasons,
-    salvages, sheets, stored,
+    accesses, cursors, draw, every, folds, free, imports, interrupts, lines, logs, machines, meters, orders, players,
+    reasons, salvages, sheets, stored,
 };
 use reading::{Chip, MEMORY};
 use std::process::ExitCode;
@@ -169,6 +169,7 @@ fn compare(asked: &Asked) -> bool {
     part("sheets", &mut || sheets::compare(seed, asked.each));
     let memory = sample(seed);
     part("orders", &mut || orders::compare(seed, asked.each, &memory));
+    part("interrupts", &mut || interrupts::compare(seed, asked.each, &memory));
     part("lines", &mut || lines::compare(seed, asked.logs * 50, &memory));
     part("cuts", &mut || lines::cuts(seed, asked.logs / 20));
     part("machines", &mut || machines::compare(seed, asked.logs / 4, &memory));

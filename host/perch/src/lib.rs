@@ -67,6 +67,15 @@
 //! ```
 //!
 //! ```
+//! # use perch::Interrupt::{Dmc, Line};
+//! # let memory = vec![0; perch::MEMORY];
+//! let chip = perch::Chip::power_on(perch::Machine::Ntsc);
+//! assert_eq!(chip.next_interrupt(&memory, 1_000_000, Line)?, Some(29829));
+//! assert_eq!(chip.next_interrupt(&memory, 1_000_000, Dmc)?, None);
+//! # Ok::<(), perch::Refusal>(())
+//! ```
+//!
+//! ```
 //! # use perch::Access::Write;
 //! let mut chip = perch::Chip::power_on(perch::Machine::Pal);
 //! assert_eq!(chip.why(perch::Channel::Square1)?.to_string(), "not enabled");
@@ -119,7 +128,7 @@ pub const MEMORY: usize = 32_768;
 pub const STATE: usize = 91;
 
 /// The version of the header that this wraps; the library's is `version()`.
-pub const VERSION: u32 = 8;
+pub const VERSION: u32 = 9;
 
 /// The version of the library linked. One of another version has other sizes, layouts or functions.
 pub fn version() -> u32 {
@@ -205,6 +214,17 @@ pub type Dwell = [u32; 128];
 /// A table with no clock counted.
 pub const EMPTY: Dwell = [0; 128];
 
+/// What may rise: the line, or one of the two flags.
+#[derive(Clone, Copy, Debug, PartialEq, Eq)]
+pub enum Interrupt {
+    /// The interrupt line.
+    Line = 0,
+    /// The frame's flag.
+    Frame = 1,
+    /// The DMC's flag.
+    Dmc = 2,
+}
+
 /// A console.
 #[derive(Clone, Copy, Debug, PartialEq, Eq)]
 pub enum Machine {
@@ -266,6 +286,13 @@ impl Chip {
     /// Works one clock.
     pub fn clock(&mut self, memory: &[u8]) -> Result<(), Refusal> {
         value(raw::clock(&mut self.0, memory)).map(|_| ())
+    }
+
+    /// The least number of clocks, from 0 to `count`, after which the interrupt line is asserted, or the flag asked for is set; none
+    /// where it isn't within the count. No clock is worked.
+    pub fn next_interrupt(&self, memory: &[u8], count: u64, asked: Interrupt) -> Result<Option<u64>, Refusal> {
+        let answer = raw::next_interrupt(&self.0, memory, count, asked as u8);
+        value(answer).map(|value| (value & 1 == 1).then_some(value >> 24))
     }
 
     /// Runs up to `count` clocks, leaping where nothing changes, and counts each in the table.

@@ -9,8 +9,8 @@
 use standin::{
     perch_access, perch_begin, perch_body, perch_check, perch_clock, perch_fold, perch_import, perch_in_range,
     perch_interrupt_line, perch_item, perch_level, perch_level_fraction, perch_meter, perch_meter_records,
-    perch_play_on, perch_player_size, perch_power_on, perch_refusal_text, perch_run, perch_run_plain, perch_salvage,
-    perch_sheet, perch_state_size, perch_why,
+    perch_next_interrupt, perch_play_on, perch_player_size, perch_power_on, perch_refusal_text, perch_run,
+    perch_run_plain, perch_salvage, perch_sheet, perch_state_size, perch_why,
 };
 #[cfg(not(archive))]
 use standin::{perch_cursor_next, perch_cursor_size, perch_cursor_start, perch_items, perch_turns, perch_version};
@@ -75,6 +75,7 @@ unsafe extern "C" {
     fn perch_import(stream: *const u8, n: usize, text: *mut u8, t: usize) -> u64;
     fn perch_fold(log: *const u8, n: usize, text: *mut u8, t: usize) -> u64;
     fn perch_salvage(log: *const u8, n: usize, text: *mut u8, t: usize, list: *mut u32, w: usize) -> u64;
+    fn perch_next_interrupt(state: *const u8, n: usize, memory: *const u8, m: usize, count: u64, which: u8) -> u64;
     fn perch_why(state: *const u8, n: usize, channel: u64) -> u64;
     fn perch_meter(levels: *const u32, n: usize) -> u64;
     fn perch_meter_records(words: *const u32, w: usize, start: u64, count: u64, before: u64) -> u64;
@@ -221,6 +222,12 @@ pub fn fold(log: &[u8], text: &mut [u8]) -> u64 {
 /// Writes a damaged log repaired, and the list of what was done; the value is its length + 2^16 x the list's entries.
 pub fn salvage(log: &[u8], text: &mut [u8], list: &mut [u32]) -> u64 {
     unsafe { perch_salvage(log.as_ptr(), log.len(), text.as_mut_ptr(), text.len(), list.as_mut_ptr(), list.len()) }
+}
+
+/// The least number of clocks after which the line is asserted (which = 1: the frame's flag is set, 2: the DMC's): 2^8 x whether there
+/// is one within the count + 2^32 x it.
+pub fn next_interrupt(state: &[u8], memory: &[u8], count: u64, which: u8) -> u64 {
+    unsafe { perch_next_interrupt(state.as_ptr(), state.len(), memory.as_ptr(), memory.len(), count, which) }
 }
 
 /// Why a channel is silent: the reason's number, or 16 + the channel's number where it sounds.

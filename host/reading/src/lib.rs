@@ -11,6 +11,7 @@ pub mod bytes;
 pub mod chip;
 pub mod cursor;
 pub mod fold;
+pub mod interrupt;
 pub mod layout;
 pub mod log;
 pub mod machine;

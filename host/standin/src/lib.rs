@@ -9,7 +9,8 @@
 #![allow(clippy::missing_safety_doc, missing_docs)]
 
 use reading::{
-    access, boundary, cursor as cursors, fold, layout, meter, mixer, player as pieces, salvage, sheet, vgm, why,
+    access, boundary, cursor as cursors, fold, interrupt, layout, meter, mixer, player as pieces, salvage, sheet, vgm,
+    why,
 };
 use std::slice::{from_raw_parts, from_raw_parts_mut};
 
@@ -155,6 +156,18 @@ pub unsafe extern "C" fn perch_salvage(
     w: usize,
 ) -> u64 {
     unsafe { salvage::salvage(from_raw_parts(log, n), from_raw_parts_mut(text, t), from_raw_parts_mut(list, w)) }
+}
+
+#[cfg_attr(feature = "export", unsafe(no_mangle))]
+pub unsafe extern "C" fn perch_next_interrupt(
+    state: *const u8,
+    n: usize,
+    memory: *const u8,
+    m: usize,
+    count: u64,
+    which: u8,
+) -> u64 {
+    unsafe { interrupt::next_interrupt(from_raw_parts(state, n), from_raw_parts(memory, m), count, which) }
 }
 
 #[cfg_attr(feature = "export", unsafe(no_mangle))]
