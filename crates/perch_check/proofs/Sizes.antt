@@ -1,38 +1,38 @@
 -- How long the text is. Assumes nothing.
 use Prim.Native.Nat.{ℕ, _+_, _≤_}
-use mathlib.Core.Path.{_≡_, ap, _∙_}
+use mathlib.Core.Path.{_≡_}
 use mathlib.Core.List.{List, _++_}
 use mathlib.Core.Bool.{Bool}
 use native.Mathlib.Omega.{arith}
 use borrow.Author.Tests.{eq-eqb, ne-eqb}
 use lib.Dec.{eqb}
 use lib.ListN.{length, take, length-append}
-use lib.Seq.{sets}
 use Rattle.arith.proofs.PickLaws.{pick-both}
 use Rattle.text.specs.Ascii.{bytes}
 use Rattle.text_print.specs.Printed.{placed, printed}
-use Rattle.text_print.proofs.StoreLaws.{placed-in, printed-in}
-use Rattle.play_text.proofs.TextLaws.{decimal-ten}
+use Rattle.text_lines.proofs.Pieces.{puts, front}
+use Rattle.text_lines.proofs.Sizes.{UpTo, decimal-ten, keyed-size, pair-size}
 use Rattle.log_rules.specs.declared.Checked.{Checked}
 use Rattle.log_rules.specs.Whole.{checkOf}
 use Rattle.text_place.specs.Place.{lineNumber, column}
-use Rattle.perch_check.specs.Report.{numberLine, machineLine, passedText, refusedLine, reasonLine, refusedText, outcomeText, checkText}
+use Rattle.perch_check.specs.Report.{machineLine, passedText, reasonLine, refusedText, outcomeText, checkText}
 use Rattle.perch_reasons.proofs.Sizes.{reason-size}
-use Rattle.text_place.proofs.Sizes.{UpTo, line-size, mark-size, text-taken}
+use Rattle.text_place.proofs.Sizes.{line-size, mark-size}
 
 machine-size : (pal : Bool) → UpTo 12 (machineLine pal)
 unfolding machineLine
 machine-size pal = pick-both (UpTo 12) pal (omega arith) (omega arith)
 
 passed-size : (pal : Bool) (clocks turns items : ℕ) → UpTo 72 (passedText pal clocks turns items)
-unfolding passedText numberLine
-passed-size pal clocks turns items = simp length-append (omega (arith, machine-size pal, decimal-ten clocks, decimal-ten turns, decimal-ten items))
+unfolding passedText
+passed-size pal clocks turns items =
+    simp length-append (omega (arith, machine-size pal, keyed-size (bytes "clocks=") clocks, keyed-size (bytes "turns=") turns, keyed-size (bytes "items=") items))
 
 refused-size : (log : List ℕ) (number place : ℕ) → UpTo 640 (refusedText log number place)
-unfolding refusedText refusedLine reasonLine
+unfolding refusedText reasonLine
 refused-size log number place =
     simp length-append
-    (omega (arith, decimal-ten number, decimal-ten place, decimal-ten (lineNumber log place), decimal-ten (column log place), reason-size number, line-size log place, mark-size log place))
+    (omega (arith, pair-size (bytes "refused=") number place, decimal-ten (lineNumber log place), decimal-ten (column log place), reason-size number, line-size log place, mark-size log place))
 
 outcome-size : (log : List ℕ) (c : Checked) → UpTo 640 (outcomeText log c)
 unfolding outcomeText
@@ -55,14 +55,6 @@ module _ (log : List ℕ) (c : Checked) where
   text-refused e h = rw (e, ne-eqb _ _ h)
 
 -- what a caller with 700 bytes gets
-module _ (log out : List ℕ) (h : 700 ≤ length out) where
-  pub whole-room : 0 + length (checkText log) ≤ length out
-  whole-room = let s = check-size log in omega arith
-
-  pub whole-text : (r : ℕ) (out′ : List ℕ) → r ≡ placed out 0 (checkText log) → out′ ≡ printed out 0 (checkText log)
-      → (r ≤ length out′) × (take r out′ ≡ checkText log)
-  whole-text r out′ p b =
-      let e : r ≡ length (checkText log) = p ∙ (placed-in out 0 (checkText log) whole-room ∙ omega arith) in
-      let f : out′ ≡ sets out 0 (checkText log) = b ∙ printed-in out 0 (checkText log) whole-room in
-      let l : length out′ ≡ length out = ap length f ∙ lib.Seq.length-sets out 0 (checkText log) in
-      (omega (arith, whole-room), ap (take r) f ∙ text-taken out (checkText log) r e (omega (arith, whole-room)))
+pub whole-text : (log out : List ℕ) → 700 ≤ length out → (r : ℕ) (out′ : List ℕ) → r ≡ placed out 0 (checkText log) → out′ ≡ printed out 0 (checkText log)
+    → (r ≤ length out′) × (take r out′ ≡ checkText log)
+whole-text log out h r out′ p b = let f = front (checkText log) (omega (arith, check-size log)) (puts _ (p, b)) in (f .0, f .2)

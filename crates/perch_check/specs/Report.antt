@@ -8,13 +8,10 @@ use Rattle.text.specs.Ascii.{bytes}
 use Rattle.text.specs.Decimal.{decimalText}
 use Rattle.log_rules.specs.declared.Checked.{Checked}
 use Rattle.log_rules.specs.Whole.{checkOf}
+use Rattle.text_lines.specs.Lines.{keyedLine, refusedLine}
 use Rattle.text_place.specs.Place.{lineNumber, column}
 use Rattle.perch_reasons.specs.Reasons.{reasonText}
 use Rattle.text_place.specs.Shown.{shownLine, markLine}
-
--- a key and a number
-unfoldable pub numberLine : List ℕ → ℕ → List ℕ
-numberLine key n = key ++ (decimalText n ++ bytes "\n")
 
 -- the machine, if it is PAL
 unfoldable pub machineLine : Bool → List ℕ
@@ -24,13 +21,9 @@ machineLine pal = pick pal (bytes "machine=pal\n") []
 unfoldable pub passedText : Bool → ℕ → ℕ → ℕ → List ℕ
 passedText pal clocks turns items =
     machineLine pal
-    ++ (numberLine (bytes "clocks=") clocks
-    ++ (numberLine (bytes "turns=") turns
-    ++ numberLine (bytes "items=") items))
-
--- `refused=NUMBER:PLACE`
-unfoldable pub refusedLine : ℕ → ℕ → List ℕ
-refusedLine number place = bytes "refused=" ++ (decimalText number ++ (bytes ":" ++ (decimalText place ++ bytes "\n")))
+    ++ (keyedLine (bytes "clocks=") clocks
+    ++ (keyedLine (bytes "turns=") turns
+    ++ keyedLine (bytes "items=") items))
 
 -- `line L, column C: REASON`
 unfoldable pub reasonLine : ℕ → ℕ → ℕ → List ℕ

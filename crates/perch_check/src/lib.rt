@@ -1,32 +1,19 @@
 // What `perch check` writes about a log.
 ghost use mathlib.Core.Path.{_≡_};
-ghost use Prim.Native.Nat.{_+_, _≤_};
-ghost use lib.ListN.{length};
-ghost use lib.Seq.{sets};
 ghost use Rattle.text_print.specs.Printed.{printed, placed};
-ghost use Rattle.perch_check.specs.Report.{numberLine, machineLine, passedText, refusedLine, reasonLine, refusedText, checkText};
+ghost use Rattle.text_lines.specs.Puts.{Puts};
+ghost use Rattle.perch_check.specs.Report.{machineLine, passedText, reasonLine, refusedText, checkText};
 use perch_reasons::reason;
+use text_lines::keyed_line;
+use text_lines::refused_line;
 use text_place::column;
 use text_place::line_number;
 use text_place::mark_line;
 use text_place::shown_line;
 
-// A key and a number.
-fn number_line(out: &mut [u8], at: usize, key: &[u8], n: u64) -> usize
-    requires { ⌜ at + length (numberLine (now key) n) ≤ length (now out) ⌝ }
-    ensures { λ r. ⌜ r ≡ at + length (numberLine (now (key .entry)) n) ⌝ }
-    ensures { λ r. ⌜ now (out .exit) ≡ sets (now (out .entry)) at (numberLine (now (key .entry)) n) ⌝ }
-{
-    let a = text_print::fixed(out, at, key);
-    let b = text_print::decimal(out, a, n);
-    text_print::fixed(out, b, b"\n")
-}
-
 // `machine=pal`, or nothing.
 fn machine_line(out: &mut [u8], at: usize, pal: bool) -> usize
-    requires { ⌜ at + length (machineLine pal) ≤ length (now out) ⌝ }
-    ensures { λ r. ⌜ r ≡ at + length (machineLine pal) ⌝ }
-    ensures { λ r. ⌜ now (out .exit) ≡ sets (now (out .entry)) at (machineLine pal) ⌝ }
+    ensures { λ r. ⌜ Puts (now (out .entry)) at (machineLine pal) (now (out .exit)) r ⌝ }
 {
     if pal {
         return text_print::fixed(out, at, b"machine=pal\n");
@@ -36,34 +23,17 @@ fn machine_line(out: &mut [u8], at: usize, pal: bool) -> usize
 
 // The machine and the totals of a log that passes.
 fn passed(out: &mut [u8], at: usize, pal: bool, clocks: u64, turns: u64, items: u64) -> usize
-    requires { ⌜ at + length (passedText pal clocks turns items) ≤ length (now out) ⌝ }
-    ensures { λ r. ⌜ r ≡ at + length (passedText pal clocks turns items) ⌝ }
-    ensures { λ r. ⌜ now (out .exit) ≡ sets (now (out .entry)) at (passedText pal clocks turns items) ⌝ }
+    ensures { λ r. ⌜ Puts (now (out .entry)) at (passedText pal clocks turns items) (now (out .exit)) r ⌝ }
 {
     let a = machine_line(out, at, pal);
-    let b = number_line(out, a, b"clocks=", clocks);
-    let c = number_line(out, b, b"turns=", turns);
-    number_line(out, c, b"items=", items)
-}
-
-// `refused=NUMBER:PLACE`.
-fn refused_line(out: &mut [u8], at: usize, number: u8, place: usize) -> usize
-    requires { ⌜ at + length (refusedLine number place) ≤ length (now out) ⌝ }
-    ensures { λ r. ⌜ r ≡ at + length (refusedLine number place) ⌝ }
-    ensures { λ r. ⌜ now (out .exit) ≡ sets (now (out .entry)) at (refusedLine number place) ⌝ }
-{
-    let a = text_print::fixed(out, at, b"refused=");
-    let b = text_print::decimal(out, a, number as u64);
-    let c = text_print::fixed(out, b, b":");
-    let d = text_print::decimal(out, c, place as u64);
-    text_print::fixed(out, d, b"\n")
+    let b = keyed_line(out, a, b"clocks=", clocks);
+    let c = keyed_line(out, b, b"turns=", turns);
+    keyed_line(out, c, b"items=", items)
 }
 
 // `line L, column C: REASON`.
 fn reason_line(out: &mut [u8], at: usize, line: usize, column: usize, number: u8) -> usize
-    requires { ⌜ at + length (reasonLine line column number) ≤ length (now out) ⌝ }
-    ensures { λ r. ⌜ r ≡ at + length (reasonLine line column number) ⌝ }
-    ensures { λ r. ⌜ now (out .exit) ≡ sets (now (out .entry)) at (reasonLine line column number) ⌝ }
+    ensures { λ r. ⌜ Puts (now (out .entry)) at (reasonLine line column number) (now (out .exit)) r ⌝ }
 {
     let a = text_print::fixed(out, at, b"line ");
     let b = text_print::decimal(out, a, line as u64);
@@ -76,9 +46,7 @@ fn reason_line(out: &mut [u8], at: usize, line: usize, column: usize, number: u8
 
 // Number, place and reason of a refusal, the line and the mark below it.
 fn refused(out: &mut [u8], at: usize, log: &[u8], number: u8, place: usize) -> usize
-    requires { ⌜ at + length (refusedText (now log) number place) ≤ length (now out) ⌝ }
-    ensures { λ r. ⌜ r ≡ at + length (refusedText (now (log .entry)) number place) ⌝ }
-    ensures { λ r. ⌜ now (out .exit) ≡ sets (now (out .entry)) at (refusedText (now (log .entry)) number place) ⌝ }
+    ensures { λ r. ⌜ Puts (now (out .entry)) at (refusedText (now (log .entry)) number place) (now (out .exit)) r ⌝ }
 {
     let a = refused_line(out, at, number, place);
     let b = reason_line(out, a, line_number(log, place), column(log, place), number);
@@ -88,9 +56,7 @@ fn refused(out: &mut [u8], at: usize, log: &[u8], number: u8, place: usize) -> u
 
 // The whole text.
 fn whole(out: &mut [u8], log: &[u8]) -> usize
-    requires { ⌜ 700 ≤ length (now out) ⌝ }
-    ensures { λ r. ⌜ r ≡ length (checkText (now (log .entry))) ⌝ }
-    ensures { λ r. ⌜ now (out .exit) ≡ sets (now (out .entry)) 0 (checkText (now (log .entry))) ⌝ }
+    ensures { λ r. ⌜ Puts (now (out .entry)) 0 (checkText (now (log .entry))) (now (out .exit)) r ⌝ }
 {
     let c = log_check::check(log);
     let a = text_print::fixed(out, 0, b"check=1\n");

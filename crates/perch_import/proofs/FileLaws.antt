@@ -6,17 +6,16 @@ use mathlib.Core.List.{List}
 use native.Mathlib.Omega.{arith}
 use borrow.Author.Tests.{eq-eqb, ne-eqb, lt-ltb, le-ltb, leb-true}
 use lib.Dec.{eqb, ltb, leb}
-use lib.ListN.{length, take, drop, length-append, length-drop}
+use lib.ListN.{length, take, drop, length-drop}
 use lib.Seq.{take-length}
 use Rattle.arith.specs.Pick.{both, either}
 use Rattle.arith.proofs.PickLaws.{pick-both, pick-each, both-right}
 use Rattle.text.specs.Ascii.{bytes}
-use Rattle.text.specs.Decimal.{decimalText}
 use Rattle.vgm_measure.specs.Import.{importOf}
 use Rattle.vgm_measure.proofs.FaultLaws.{answer-limits}
 use Rattle.perch_import.specs.declared.Part.{Part}
 use Rattle.perch_import.specs.declared.Part.the-variants as part
-use Rattle.perch_import.specs.File.{word, dataStart, commandsAt, refusedText}
+use Rattle.perch_import.specs.File.{word, dataStart, commandsAt}
 
 -- where the header says that the commands begin
 module _ (f : List ℕ) where
@@ -74,8 +73,3 @@ place-in f s h room =
     let p = answer-limits (drop s f) room .1 in
     let l = length-drop s f in
     omega arith
-
--- how long the line of a refusal is
-pub refused-long : (number place : ℕ) → length (refusedText number place) ≡ 10 + length (decimalText number) + length (decimalText place)
-unfolding refusedText
-refused-long number place = simp length-append (omega arith)

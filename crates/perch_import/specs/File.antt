@@ -1,12 +1,11 @@
 -- A VGM file: where its header says that the commands begin, and the file brought in.
 use Prim.Native.Nat.{ℕ, _+_, _*_, _^_}
-use mathlib.Core.List.{List, _++_}
+use mathlib.Core.List.{List}
 use mathlib.Core.Bool.{not}
 use lib.Dec.{eqb, ltb, leb}
 use lib.ListN.{length, getD, drop}
 use Rattle.arith.specs.Pick.{pick, both, either}
 use Rattle.text.specs.Ascii.{bytes}
-use Rattle.text.specs.Decimal.{decimalText}
 use Rattle.vgm_measure.specs.declared.Imported.{Imported}
 use Rattle.vgm_measure.specs.Import.{importOf, bufferOf}
 use Rattle.perch_import.specs.declared.Part.{Part}
@@ -51,7 +50,3 @@ leftIn (part.From p) file out = bufferOf (drop p file) out
 leftIn part.NoVgm file out = out
 leftIn part.Cut file out = out
 leftIn part.Outside file out = out
-
--- "refused=NUMBER:PLACE", and a line feed
-unfoldable pub refusedText : ℕ → ℕ → List ℕ
-refusedText number place = bytes "refused=" ++ (decimalText number ++ (bytes ":" ++ (decimalText place ++ bytes "\n")))

@@ -3,9 +3,8 @@
 ghost use mathlib.Core.Path.{_≡_};
 ghost use Prim.Native.Nat.{_+_, _≤_, _<_};
 ghost use lib.ListN.{length, getD, drop};
-ghost use Rattle.text_print.specs.Printed.{printed, placed, Put};
 ghost use Rattle.vgm_measure.specs.Import.{importOf, bufferOf};
-ghost use Rattle.perch_import.specs.File.{word, dataStart, commandsAt, placeFrom, broughtFrom, broughtOf, leftIn, refusedText};
+ghost use Rattle.perch_import.specs.File.{word, dataStart, commandsAt, placeFrom, broughtFrom, broughtOf, leftIn};
 use vgm_measure::Imported;
 
 // The command part of a file: from where on it stands, or why there is none: it is no VGM file, its header is cut short, or its header points out of the file.
@@ -122,28 +121,4 @@ pub fn import_file(file: &[u8], out: &mut [u8]) -> Brought
         Part::Cut => Brought::Cut,
         Part::Outside => Brought::Outside,
     }
-}
-
-// The line of a refusal, where there is room for it.
-fn refusal_line(number: u8, place: usize, out: &mut [u8]) -> usize
-    requires { ⌜ 0 + length (refusedText number place) ≤ length (now out) ⌝ }
-    ensures { λ r. ⌜ Put (now (out .entry)) 0 (refusedText number place) (now (out .exit)) r ⌝ }
-{
-    let a = text_print::fixed(out, 0, b"refused=");
-    let b = text_print::decimal(out, a, number as u64);
-    let c = text_print::fixed(out, b, b":");
-    let d = text_print::decimal(out, c, place as u64);
-    text_print::fixed(out, d, b"\n")
-}
-
-// The line of a refusal where it fits, and its length; else nothing, and 0. Of a place of more than ten digits it has the last ten.
-pub fn refusal(number: u8, place: usize, out: &mut [u8]) -> usize
-    ensures { λ r. ⌜ r ≡ placed (now (out .entry)) 0 (refusedText number place) ⌝ }
-    ensures { λ r. ⌜ now (out .exit) ≡ printed (now (out .entry)) 0 (refusedText number place) ⌝ }
-{
-    let n = 10 + text_print::width(number as u64) + text_print::width(place as u64);
-    if out.len() < n {
-        return 0;
-    }
-    refusal_line(number, place, out)
 }

@@ -1,25 +1,26 @@
 -- How long the texts are: small buffers always hold them. Assumes nothing.
 use Prim.Native.Nat.{ℕ, _+_, _≤_}
-use mathlib.Core.Path.{_≡_, refl, ap, _∙_}
+use mathlib.Core.Path.{_≡_, refl}
 use mathlib.Core.Bool.{Bool, true, false}
 use mathlib.Core.List.{List, []}
 use native.Mathlib.Omega.{arith}
 use borrow.Author.Tests.{eq-eqb, ne-eqb}
 use lib.Dec.{eqb, leb}
 use lib.ListN.{length, take, length-append}
-use lib.Seq.{sets, length-sets}
+use lib.Seq.{sets}
 use Rattle.arith.specs.Pick.{pick}
 use Rattle.arith.proofs.PickLaws.{pick-both}
 use Rattle.text_print.specs.Printed.{printed, placed}
-use Rattle.text_print.proofs.StoreLaws.{placed-in, printed-in}
-use Rattle.play_text.proofs.TextLaws.{decimal-ten}
-use Rattle.text_place.proofs.Sizes.{UpTo, text-taken}
+use Rattle.text.specs.Ascii.{bytes}
+use Rattle.text_lines.specs.Lines.{refusedLine}
+use Rattle.text_lines.proofs.Pieces.{puts, front}
+use Rattle.text_lines.proofs.Sizes.{UpTo, decimal-ten, pair-size}
 use Rattle.meter.specs.declared.Measured.{Measured}
 use Rattle.meter.specs.declared.Measured.the-variants.{Refused, NoLevels, Silent, Steady, Moving}
 use Rattle.play_meter.specs.declared.Answer.{Answer}
 use Rattle.play_meter.specs.declared.waits.Next.{Next}
 use Rattle.play_meter.specs.Meters.{logMeter}
-use Rattle.perch_meter.specs.Text.{numbered, movingWord, meterWord, allLine, refusedLine, outcomeText, meterText, waitLine, nextText}
+use Rattle.perch_meter.specs.Text.{numbered, movingWord, meterWord, allLine, outcomeText, meterText, waitLine, nextText}
 
 word-size : (m : Measured) → UpTo 28 (meterWord m)
 unfolding meterWord numbered movingWord
@@ -33,13 +34,9 @@ all-size : (m : Measured) → UpTo 33 (allLine m)
 unfolding allLine
 all-size m = simp length-append (omega (arith, word-size m))
 
-refused-size : (number place : ℕ) → UpTo 30 (refusedLine number place)
-unfolding refusedLine
-refused-size number place = simp length-append (omega (arith, decimal-ten number, decimal-ten place))
-
 outcome-size : (a : Answer) → UpTo 33 (outcomeText a)
 unfolding outcomeText
-outcome-size a = pick-both (UpTo 33) (eqb (a .number) 0) (all-size (a .meter)) (omega (arith, refused-size (a .number) (a .place)))
+outcome-size a = pick-both (UpTo 33) (eqb (a .number) 0) (all-size (a .meter)) (omega (arith, pair-size (bytes "refused=") (a .number) (a .place)))
 
 -- 64 bytes hold the text, whatever the bytes
 pub meter-size : (log memory : List ℕ) → length (meterText log memory) ≤ 64
@@ -50,9 +47,6 @@ meter-size log memory = rw length-append (omega (arith, outcome-size (logMeter l
 pub wait-size : (time clocks : ℕ) (m : Measured) → length (waitLine time clocks m) ≤ 64
 unfolding waitLine
 wait-size time clocks m = simp length-append (omega (arith, decimal-ten time, decimal-ten clocks, word-size m))
-
-pub wait-room : (out : List ℕ) (at time clocks : ℕ) (m : Measured) → at + 64 ≤ length out → at + length (waitLine time clocks m) ≤ length out
-wait-room out at time clocks m h = omega (arith, wait-size time clocks m)
 
 -- so does what is written of a step
 pub next-size : (n : Next) → length (nextText n) ≤ 64
@@ -89,15 +83,6 @@ module _ (a : Answer) where
   out-refused h = rw (ne-eqb (a .number) 0 h)
 
 -- what a caller with 64 bytes gets
-module _ (log memory : List ℕ) (out : List ℕ) (h : 64 ≤ length out) where
-  pub whole-room : 0 + length (meterText log memory) ≤ length out
-  whole-room = let s = meter-size log memory in omega arith
-
-  pub whole-text : (r : ℕ) (out′ : List ℕ) → r ≡ placed out 0 (meterText log memory) → out′ ≡ printed out 0 (meterText log memory)
-      → (r ≤ length out′) × (take r out′ ≡ meterText log memory)
-  whole-text r out′ p b =
-      let t = meterText log memory in
-      let e : r ≡ length t = p ∙ (placed-in out 0 t whole-room ∙ omega arith) in
-      let f : out′ ≡ sets out 0 t = b ∙ printed-in out 0 t whole-room in
-      let l : length out′ ≡ length out = ap length f ∙ length-sets out 0 t in
-      (omega (arith, whole-room), ap (take r) f ∙ text-taken out t r e (omega (arith, whole-room)))
+pub whole-text : (log memory out : List ℕ) → 64 ≤ length out → (r : ℕ) (out′ : List ℕ) → r ≡ placed out 0 (meterText log memory) → out′ ≡ printed out 0 (meterText log memory)
+    → (r ≤ length out′) × (take r out′ ≡ meterText log memory)
+whole-text log memory out h r out′ p b = let f = front (meterText log memory) (omega (arith, meter-size log memory)) (puts _ (p, b)) in (f .0, f .2)

@@ -6,6 +6,7 @@ use lib.Dec.{eqb}
 use Rattle.arith.specs.Pick.{pick}
 use Rattle.text.specs.Ascii.{bytes}
 use Rattle.text.specs.Decimal.{decimalText}
+use Rattle.text_lines.specs.Lines.{refusedLine}
 use Rattle.log_rules.specs.Head.{machineOf}
 use Rattle.log_rules.specs.Tree.{acts}
 use Rattle.log_rules.specs.Whole.{treeOf}
@@ -37,10 +38,6 @@ meterWord (Moving low high) = movingWord low high
 -- `all=METER`
 unfoldable pub allLine : Measured → List ℕ
 allLine m = bytes "all=" ++ (meterWord m ++ bytes "\n")
-
--- `refused=NUMBER:PLACE`
-unfoldable pub refusedLine : ℕ → ℕ → List ℕ
-refusedLine number place = bytes "refused=" ++ (decimalText number ++ (bytes ":" ++ (decimalText place ++ bytes "\n")))
 
 -- the meter of the whole log, or the refusal
 unfoldable pub outcomeText : Answer → List ℕ

@@ -1,17 +1,15 @@
 // What `perch meter` writes about a log.
 ghost use mathlib.Core.Path.{_≡_};
-ghost use Prim.Native.Nat.{_+_, _≤_};
-ghost use lib.ListN.{length};
-ghost use Rattle.text_print.specs.Printed.{printed, placed, Put};
-ghost use Rattle.perch_meter.specs.Text.{numbered, movingWord, meterWord, allLine, refusedLine, outcomeText, meterText, waitLine, nextText, isOver};
+ghost use Rattle.text_print.specs.Printed.{printed, placed};
+ghost use Rattle.text_lines.specs.Puts.{Puts};
+ghost use Rattle.perch_meter.specs.Text.{numbered, movingWord, meterWord, allLine, outcomeText, meterText, waitLine, nextText, isOver};
 use meter::Measured;
 use play_meter::Answer;
 use play_meter::waits::Next;
 
 // A key and a number.
 fn numbered_word(out: &mut [u8], at: usize, key: &[u8], n: u64) -> usize
-    requires { ⌜ at + length (numbered (now key) n) ≤ length (now out) ⌝ }
-    ensures { λ r. ⌜ Put (now (out .entry)) at (numbered (now (key .entry)) n) (now (out .exit)) r ⌝ }
+    ensures { λ r. ⌜ Puts (now (out .entry)) at (numbered (now (key .entry)) n) (now (out .exit)) r ⌝ }
 {
     let a = text_print::fixed(out, at, key);
     text_print::decimal(out, a, n)
@@ -19,8 +17,7 @@ fn numbered_word(out: &mut [u8], at: usize, key: &[u8], n: u64) -> usize
 
 // `moving:LOWEST:HIGHEST`.
 fn moving_word(out: &mut [u8], at: usize, low: u64, high: u64) -> usize
-    requires { ⌜ at + length (movingWord low high) ≤ length (now out) ⌝ }
-    ensures { λ r. ⌜ Put (now (out .entry)) at (movingWord low high) (now (out .exit)) r ⌝ }
+    ensures { λ r. ⌜ Puts (now (out .entry)) at (movingWord low high) (now (out .exit)) r ⌝ }
 {
     let a = text_print::fixed(out, at, b"moving:");
     let b = text_print::decimal(out, a, low);
@@ -30,8 +27,7 @@ fn moving_word(out: &mut [u8], at: usize, low: u64, high: u64) -> usize
 
 // A meter in a word.
 fn word(out: &mut [u8], at: usize, m: Measured) -> usize
-    requires { ⌜ at + length (meterWord m) ≤ length (now out) ⌝ }
-    ensures { λ n. ⌜ Put (now (out .entry)) at (meterWord m) (now (out .exit)) n ⌝ }
+    ensures { λ n. ⌜ Puts (now (out .entry)) at (meterWord m) (now (out .exit)) n ⌝ }
 {
     match m {
         Measured::Refused(number) => numbered_word(out, at, b"refused:", number as u64),
@@ -44,42 +40,27 @@ fn word(out: &mut [u8], at: usize, m: Measured) -> usize
 
 // `all=METER`.
 fn all_line(out: &mut [u8], at: usize, m: Measured) -> usize
-    requires { ⌜ at + length (allLine m) ≤ length (now out) ⌝ }
-    ensures { λ r. ⌜ Put (now (out .entry)) at (allLine m) (now (out .exit)) r ⌝ }
+    ensures { λ r. ⌜ Puts (now (out .entry)) at (allLine m) (now (out .exit)) r ⌝ }
 {
     let a = text_print::fixed(out, at, b"all=");
     let b = word(out, a, m);
     text_print::fixed(out, b, b"\n")
 }
 
-// `refused=NUMBER:PLACE`.
-fn refused_line(out: &mut [u8], at: usize, number: u8, place: usize) -> usize
-    requires { ⌜ at + length (refusedLine number place) ≤ length (now out) ⌝ }
-    ensures { λ r. ⌜ Put (now (out .entry)) at (refusedLine number place) (now (out .exit)) r ⌝ }
-{
-    let a = text_print::fixed(out, at, b"refused=");
-    let b = text_print::decimal(out, a, number as u64);
-    let c = text_print::fixed(out, b, b":");
-    let d = text_print::decimal(out, c, place as u64);
-    text_print::fixed(out, d, b"\n")
-}
-
 // The meter of the whole log, or the refusal.
 fn outcome(out: &mut [u8], at: usize, a: Answer) -> usize
-    requires { ⌜ at + length (outcomeText a) ≤ length (now out) ⌝ }
-    ensures { λ r. ⌜ Put (now (out .entry)) at (outcomeText a) (now (out .exit)) r ⌝ }
+    ensures { λ r. ⌜ Puts (now (out .entry)) at (outcomeText a) (now (out .exit)) r ⌝ }
 {
     let m = a.meter;
     if a.number == 0 {
         return all_line(out, at, m);
     }
-    refused_line(out, at, a.number, a.place)
+    text_lines::refused_line(out, at, a.number, a.place)
 }
 
-// The whole text: 64 bytes always hold it.
+// The whole text.
 fn whole(out: &mut [u8], log: &[u8], memory: &[u8]) -> usize
-    requires { ⌜ 64 ≤ length (now out) ⌝ }
-    ensures { λ r. ⌜ Put (now (out .entry)) 0 (meterText (now (log .entry)) (now (memory .entry))) (now (out .exit)) r ⌝ }
+    ensures { λ r. ⌜ Puts (now (out .entry)) 0 (meterText (now (log .entry)) (now (memory .entry))) (now (out .exit)) r ⌝ }
 {
     let t = play_meter::whole(log, memory);
     let a = text_print::fixed(out, 0, b"meter=1\n");
@@ -96,10 +77,9 @@ pub fn answer(log: &[u8], memory: &[u8], out: &mut [u8]) -> usize
     text_print::fixed(out, 0, &text[..n])
 }
 
-// `wait=CLOCK:CLOCKS:METER`: 64 bytes always hold it.
+// `wait=CLOCK:CLOCKS:METER`.
 fn wait_line(out: &mut [u8], at: usize, time: u64, clocks: u32, m: Measured) -> usize
-    requires { ⌜ at + 64 ≤ length (now out) ⌝ }
-    ensures { λ r. ⌜ Put (now (out .entry)) at (waitLine time clocks m) (now (out .exit)) r ⌝ }
+    ensures { λ r. ⌜ Puts (now (out .entry)) at (waitLine time clocks m) (now (out .exit)) r ⌝ }
 {
     let a = text_print::fixed(out, at, b"wait=");
     let b = text_print::decimal(out, a, time);

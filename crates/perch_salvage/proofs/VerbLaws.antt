@@ -1,5 +1,5 @@
 -- With 60,000 bytes and 120,020 words lent the list always has room, and a log that passes comes back as it was. Assumes nothing.
-use mathlib.Core.Path.{_≡_, refl, ap, _∙_}
+use mathlib.Core.Path.{_≡_, refl, ap}
 use mathlib.Core.List.{List}
 use mathlib.Core.Bool.{Bool, true, false}
 use Prim.Native.Nat.{ℕ, _+_, _/_, _≤_}
@@ -7,11 +7,9 @@ use native.Mathlib.Omega.{arith}
 use borrow.Author.Tests.{eq-eqb, ne-eqb, ltb-false, le-ltb}
 use lib.Dec.{ltb}
 use lib.ListN.{length, take, length-append}
-use lib.Seq.{sets, length-sets}
 use Rattle.arith.specs.Pick.{pick, either}
 use Rattle.text.specs.Decimal.{decimalText}
 use Rattle.text_print.specs.Printed.{placed, printed}
-use Rattle.text_print.proofs.StoreLaws.{placed-in, printed-in}
 use Rattle.log_rules.specs.Whole.{heavy, checkOf}
 use Rattle.log_passing.proofs.Passing.{clear}
 use Rattle.log_salvage_rules.specs.Mending.{mended, mendedTree}
@@ -19,7 +17,7 @@ use Rattle.log_salvage_rules.proofs.Few.{few}
 use Rattle.log_salvage.specs.declared.Salvaged.{Salvaged}
 use Rattle.log_salvage.specs.Answer.{numberOf}
 use Rattle.log_salvage.proofs.AnswerLaws.{passing-answer}
-use Rattle.text_place.proofs.Sizes.{text-taken}
+use Rattle.text_lines.proofs.Pieces.{puts, front}
 use Rattle.perch_reasons.specs.Reasons.{reasonText}
 use Rattle.perch_reasons.proofs.Sizes.{reason-size}
 use Rattle.perch_salvage.specs.declared.Outcome.the-variants.{Refused, Done}
@@ -60,10 +58,4 @@ keyed-long key first second line words = simp length-append (omega arith)
 
 -- the words of a reason at the front of 60 bytes
 pub reason-front : (l : List ℕ) (n r : ℕ) (l′ : List ℕ) → 60 ≤ length l → r ≡ placed l 0 (reasonText n) → l′ ≡ printed l 0 (reasonText n) → (r ≤ length l′) × (take r l′ ≡ reasonText n)
-reason-front l n r l′ h p b =
-    let s = reason-size n in
-    let room : 0 + length (reasonText n) ≤ length l = omega arith in
-    let e : r ≡ length (reasonText n) = p ∙ (placed-in l 0 (reasonText n) room ∙ omega arith) in
-    let f : l′ ≡ sets l 0 (reasonText n) = b ∙ printed-in l 0 (reasonText n) room in
-    let q : length l′ ≡ length l = ap length f ∙ length-sets l 0 (reasonText n) in
-    (omega arith, ap (take r) f ∙ text-taken l (reasonText n) r e (omega arith))
+reason-front l n r l′ h p b = let f = front (reasonText n) (omega (arith, reason-size n)) (puts _ (p, b)) in (f .0, f .2)

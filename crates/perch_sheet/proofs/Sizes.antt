@@ -7,14 +7,16 @@ use lib.ListN.{length, length-append}
 use borrow.Author.Tests.{eqb-true}
 use Rattle.arith.proofs.PickLaws.{pick-each}
 use Rattle.text_print.proofs.StoreLaws.{length-four}
-use Rattle.play_text.proofs.TextLaws.{decimal-three, decimal-ten}
+use Rattle.text.specs.Ascii.{bytes}
+use Rattle.text_lines.proofs.Sizes.{keyed-size}
+use Rattle.play_text.proofs.TextLaws.{decimal-three}
 use Rattle.chip_dmc_output.specs.Output.{levelMoved}
 use Rattle.chip_dmc_reader.specs.Reader.{byteAt, nextAddress}
 use Rattle.chip_dmc_output.proofs.RangeLaws.{level-moved-most}
 use Rattle.chip_sheet.specs.Byte.{lowSteps, eightSteps}
 use Rattle.chip_sheet.specs.Sheet.{sheetLevels}
 use Rattle.chip_sheet.proofs.Refusals.{done}
-use Rattle.perch_sheet.specs.Report.{levelLine, levelLines, refusedLine, sheetRefusal, outcomeText, sheetText}
+use Rattle.perch_sheet.specs.Report.{levelLine, levelLines, sheetRefusal, outcomeText, sheetText}
 
 -- a level stays at most 127
 steps-most : (k byte level : ℕ) → level ≤ 127 → lowSteps k byte level ≤ 127
@@ -35,10 +37,6 @@ lines-size memory (suc n) at address level h =
     let m = steps-most 8 (byteAt memory address) level h in
     rw length-append (omega (arith, line-size at l m, lines-size memory n (nextAddress at) (nextAddress address) l m))
 
-refused-size : (number : ℕ) → length (refusedLine number) ≤ 19
-unfolding refusedLine
-refused-size number = simp length-append (omega (arith, decimal-ten number))
-
 outcome-size : (memory : List ℕ) (level address n : ℕ) → length (outcomeText memory level address n) ≤ 36729
 unfolding outcomeText
 outcome-size memory level address n =
@@ -46,7 +44,7 @@ outcome-size memory level address n =
     (λ e.
     let d = done memory level address n 4081 (eqb-true _ _ e) in
     omega (arith, d .length-most, lines-size memory n address address level (d .level-most)))
-    (λ e. omega (arith, refused-size (sheetRefusal memory level address n)))
+    (λ e. omega (arith, keyed-size (bytes "refused=") (sheetRefusal memory level address n)))
 
 -- 40,000 bytes hold the text about any bytes and numbers
 pub sheet-size : (memory : List ℕ) (level address n : ℕ) → length (sheetText memory level address n) ≤ 40000

@@ -3,17 +3,15 @@ mod words;
 
 ghost use mathlib.Core.Path.{_≡_};
 ghost use mathlib.Core.List.{_++_};
-ghost use Prim.Native.Nat.{_+_, _≤_};
 ghost use lib.ListN.{length, drop};
-ghost use Rattle.text_print.specs.Printed.{Put};
-ghost use Rattle.perch_sheet.specs.Report.{levelLine, levelLines, refusedLine, sheetText};
+ghost use Rattle.text_lines.specs.Puts.{Puts};
+ghost use Rattle.perch_sheet.specs.Report.{levelLine, levelLines, sheetText};
 pub use words::Args;
 pub use words::args_of;
 
 // The address in hex, and the level.
 fn level_line(out: &mut [u8], at: usize, address: u16, level: u8) -> usize
-    requires { ⌜ at + length (levelLine address level) ≤ length (now out) ⌝ }
-    ensures { λ r. ⌜ Put (now (out .entry)) at (levelLine address level) (now (out .exit)) r ⌝ }
+    ensures { λ r. ⌜ Puts (now (out .entry)) at (levelLine address level) (now (out .exit)) r ⌝ }
 {
     let a = text_print::hex_four(out, at, address);
     let b = text_print::fixed(out, a, b":");
@@ -23,8 +21,7 @@ fn level_line(out: &mut [u8], at: usize, address: u16, level: u8) -> usize
 
 // A line for each level, the first at an address.
 fn level_lines(out: &mut [u8], at: usize, address: u16, levels: &[u8]) -> usize
-    requires { ⌜ at + length (levelLines address (now levels)) ≤ length (now out) ⌝ }
-    ensures { λ r. ⌜ Put (now (out .entry)) at (levelLines address (now (levels .entry))) (now (out .exit)) r ⌝ }
+    ensures { λ r. ⌜ Puts (now (out .entry)) at (levelLines address (now (levels .entry))) (now (out .exit)) r ⌝ }
 {
     let mut place = at;
     let mut a = address;
@@ -37,20 +34,9 @@ fn level_lines(out: &mut [u8], at: usize, address: u16, levels: &[u8]) -> usize
     place
 }
 
-// `refused=NUMBER`.
-fn refused_line(out: &mut [u8], at: usize, number: u8) -> usize
-    requires { ⌜ at + length (refusedLine number) ≤ length (now out) ⌝ }
-    ensures { λ r. ⌜ Put (now (out .entry)) at (refusedLine number) (now (out .exit)) r ⌝ }
-{
-    let a = text_print::fixed(out, at, b"refused=");
-    let b = text_print::decimal(out, a, number as u64);
-    text_print::fixed(out, b, b"\n")
-}
-
 // The whole text at the front of a buffer.
 fn whole(out: &mut [u8], memory: &[u8], level: u64, address: u64, size: u64) -> usize
-    requires { ⌜ 40000 ≤ length (now out) ⌝ }
-    ensures { λ r. ⌜ Put (now (out .entry)) 0 (sheetText (now (memory .entry)) level address size) (now (out .exit)) r ⌝ }
+    ensures { λ r. ⌜ Puts (now (out .entry)) 0 (sheetText (now (memory .entry)) level address size) (now (out .exit)) r ⌝ }
 {
     let mut levels = [0u8; 4081];
     let w = chip_sheet::sheet(memory, level, address, size, &mut levels);
@@ -59,7 +45,7 @@ fn whole(out: &mut [u8], memory: &[u8], level: u64, address: u64, size: u64) -> 
         let n = w.length as usize;
         return level_lines(out, a, address as u16, &levels[..n]);
     }
-    refused_line(out, a, w.number)
+    text_lines::keyed_line(out, a, b"refused=", w.number as u64)
 }
 
 // The text about a sheet over the front of lent bytes, and its length: 40,000 bytes always hold it.

@@ -6,6 +6,7 @@ use lib.Dec.{eqb}
 use Rattle.arith.specs.Pick.{pick}
 use Rattle.text.specs.Ascii.{bytes}
 use Rattle.text.specs.Decimal.{decimalText}
+use Rattle.text_lines.specs.Lines.{keyedLine, refusedLine}
 use Rattle.chip.specs.declared.State.{State}
 use Rattle.chip_why.specs.Why.{whyAnswer}
 use Rattle.chip_why.specs.declared.Reason.{Reason}
@@ -43,17 +44,12 @@ channelLines s =
     ++ (channelLine (bytes "square2=") false (whyAnswer 1 s)
     ++ channelLine (bytes "noise=") true (whyAnswer 3 s))
 
--- `clock=N`
-unfoldable pub clockLine : ℕ → List ℕ
-clockLine n = bytes "clock=" ++ (decimalText n ++ bytes "\n")
-
--- `refused=NUMBER:PLACE`
-unfoldable pub refusedLine : ℕ → ℕ → List ℕ
-refusedLine number place = bytes "refused=" ++ (decimalText number ++ (bytes ":" ++ (decimalText place ++ bytes "\n")))
-
 -- the clock that was reached, and the channels there; or the refusal
 unfoldable pub outcomeText : At → List ℕ
-outcomeText a = pick (eqb (a .number) 0) (clockLine (a .clock) ++ channelLines (a .state)) (refusedLine (a .number) (a .place))
+outcomeText a =
+    pick (eqb (a .number) 0)
+    (keyedLine (bytes "clock=") (a .clock) ++ channelLines (a .state))
+    (refusedLine (a .number) (a .place))
 
 -- THE TEXT for a log, a sample memory and a clock; each of its lines ends in one line feed
 unfoldable pub whyText : List ℕ → List ℕ → ℕ → List ℕ

@@ -1,10 +1,11 @@
 // What `perch why CLOCK` writes about a log.
 ghost use mathlib.Core.Path.{_≡_};
 ghost use mathlib.Core.List.{_++_};
-ghost use Prim.Native.Nat.{_+_, _≤_};
-ghost use lib.ListN.{length};
-ghost use Rattle.text_print.specs.Printed.{printed, placed, Put};
-ghost use Rattle.perch_why.specs.Text.{stepWord, numbered, reasonWord, channelLine, channelLines, clockLine, refusedLine, outcomeText, whyText};
+ghost use Rattle.text_print.specs.Printed.{printed, placed};
+ghost use Rattle.text.specs.Ascii.{bytes};
+ghost use Rattle.text_lines.specs.Lines.{keyedLine};
+ghost use Rattle.text_lines.specs.Puts.{Puts};
+ghost use Rattle.perch_why.specs.Text.{stepWord, numbered, reasonWord, channelLine, channelLines, outcomeText, whyText};
 use chip::State;
 use chip_why::Reason;
 use play_at::At;
@@ -22,8 +23,7 @@ fn step_word(out: &mut [u8], at: usize, noise: bool) -> usize
 
 // A key and a number.
 fn numbered_word(out: &mut [u8], at: usize, key: &[u8], n: u8) -> usize
-    requires { ⌜ at + length (numbered (now key) n) ≤ length (now out) ⌝ }
-    ensures { λ r. ⌜ Put (now (out .entry)) at (numbered (now (key .entry)) n) (now (out .exit)) r ⌝ }
+    ensures { λ r. ⌜ Puts (now (out .entry)) at (numbered (now (key .entry)) n) (now (out .exit)) r ⌝ }
 {
     let a = text_print::fixed(out, at, key);
     text_print::decimal(out, a, n as u64)
@@ -31,8 +31,7 @@ fn numbered_word(out: &mut [u8], at: usize, key: &[u8], n: u8) -> usize
 
 // A reason in a word.
 fn word(out: &mut [u8], at: usize, noise: bool, r: Reason) -> usize
-    requires { ⌜ at + length (reasonWord noise r) ≤ length (now out) ⌝ }
-    ensures { λ n. ⌜ Put (now (out .entry)) at (reasonWord noise r) (now (out .exit)) n ⌝ }
+    ensures { λ n. ⌜ Puts (now (out .entry)) at (reasonWord noise r) (now (out .exit)) n ⌝ }
 {
     match r {
         Reason::Refused(n) => numbered_word(out, at, b"refused:", n),
@@ -48,8 +47,7 @@ fn word(out: &mut [u8], at: usize, noise: bool, r: Reason) -> usize
 
 // `CHANNEL=WORD`.
 fn channel_line(out: &mut [u8], at: usize, key: &[u8], noise: bool, r: Reason) -> usize
-    requires { ⌜ at + length (channelLine (now key) noise r) ≤ length (now out) ⌝ }
-    ensures { λ n. ⌜ Put (now (out .entry)) at (channelLine (now (key .entry)) noise r) (now (out .exit)) n ⌝ }
+    ensures { λ n. ⌜ Puts (now (out .entry)) at (channelLine (now (key .entry)) noise r) (now (out .exit)) n ⌝ }
 {
     let a = text_print::fixed(out, at, key);
     let b = word(out, a, noise, r);
@@ -58,8 +56,7 @@ fn channel_line(out: &mut [u8], at: usize, key: &[u8], noise: bool, r: Reason) -
 
 // A line for each channel.
 fn channel_lines(out: &mut [u8], at: usize, s: State) -> usize
-    requires { ⌜ at + length (channelLines s) ≤ length (now out) ⌝ }
-    ensures { λ r. ⌜ Put (now (out .entry)) at (channelLines s) (now (out .exit)) r ⌝ }
+    ensures { λ r. ⌜ Puts (now (out .entry)) at (channelLines s) (now (out .exit)) r ⌝ }
 {
     let first = chip_why::why(s, 0);
     let second = chip_why::why(s, 1);
@@ -69,53 +66,28 @@ fn channel_lines(out: &mut [u8], at: usize, s: State) -> usize
     channel_line(out, b, b"noise=", true, noise)
 }
 
-// `clock=N`.
-fn clock_line(out: &mut [u8], at: usize, n: u64) -> usize
-    requires { ⌜ at + length (clockLine n) ≤ length (now out) ⌝ }
-    ensures { λ r. ⌜ Put (now (out .entry)) at (clockLine n) (now (out .exit)) r ⌝ }
-{
-    let a = text_print::fixed(out, at, b"clock=");
-    let b = text_print::decimal(out, a, n);
-    text_print::fixed(out, b, b"\n")
-}
-
-// `refused=NUMBER:PLACE`.
-fn refused_line(out: &mut [u8], at: usize, number: u8, place: usize) -> usize
-    requires { ⌜ at + length (refusedLine number place) ≤ length (now out) ⌝ }
-    ensures { λ r. ⌜ Put (now (out .entry)) at (refusedLine number place) (now (out .exit)) r ⌝ }
-{
-    let a = text_print::fixed(out, at, b"refused=");
-    let b = text_print::decimal(out, a, number as u64);
-    let c = text_print::fixed(out, b, b":");
-    let d = text_print::decimal(out, c, place as u64);
-    text_print::fixed(out, d, b"\n")
-}
-
 // The clock that was reached, and the channels there.
 fn reached_lines(out: &mut [u8], at: usize, clock: u64, s: State) -> usize
-    requires { ⌜ at + length (clockLine clock ++ channelLines s) ≤ length (now out) ⌝ }
-    ensures { λ r. ⌜ Put (now (out .entry)) at (clockLine clock ++ channelLines s) (now (out .exit)) r ⌝ }
+    ensures { λ r. ⌜ Puts (now (out .entry)) at (keyedLine (bytes "clock=") clock ++ channelLines s) (now (out .exit)) r ⌝ }
 {
-    let a = clock_line(out, at, clock);
+    let a = text_lines::keyed_line(out, at, b"clock=", clock);
     channel_lines(out, a, s)
 }
 
 // What was reached, or the refusal.
 fn outcome(out: &mut [u8], at: usize, t: At) -> usize
-    requires { ⌜ at + length (outcomeText t) ≤ length (now out) ⌝ }
-    ensures { λ r. ⌜ Put (now (out .entry)) at (outcomeText t) (now (out .exit)) r ⌝ }
+    ensures { λ r. ⌜ Puts (now (out .entry)) at (outcomeText t) (now (out .exit)) r ⌝ }
 {
     let s = t.state;
     if t.number == 0 {
         return reached_lines(out, at, t.clock, s);
     }
-    refused_line(out, at, t.number, t.place)
+    text_lines::refused_line(out, at, t.number, t.place)
 }
 
-// The whole text: 128 bytes always hold it.
+// The whole text.
 fn whole(out: &mut [u8], log: &[u8], memory: &[u8], clock: u64) -> usize
-    requires { ⌜ 128 ≤ length (now out) ⌝ }
-    ensures { λ r. ⌜ Put (now (out .entry)) 0 (whyText (now (log .entry)) (now (memory .entry)) clock) (now (out .exit)) r ⌝ }
+    ensures { λ r. ⌜ Puts (now (out .entry)) 0 (whyText (now (log .entry)) (now (memory .entry)) clock) (now (out .exit)) r ⌝ }
 {
     let t = play_at::state_at(log, memory, clock);
     let a = text_print::fixed(out, 0, b"why=1\n");

@@ -7,7 +7,7 @@ ghost use mathlib.Core.List.{[], _∷_};
 ghost use Prim.Native.Nat.{_+_, _≤_};
 ghost use lib.ListN.{length};
 ghost use lib.Seq.{sets};
-ghost use Rattle.text_print.specs.Printed.{printed, placed};
+ghost use Rattle.text_print.specs.Printed.{printed, placed, Put};
 ghost use Rattle.text_place.specs.Shown.{visible, shownByte, shown, blank, shownLine, markLine};
 
 // Whether a byte is written as itself.
@@ -75,8 +75,7 @@ fn blank(out: &mut [u8], at: usize, s: &[u8]) -> usize
 // The first 60 bytes of the place's line, at the front of a buffer.
 fn line_in(out: &mut [u8], log: &[u8], place: usize) -> usize
     requires { ⌜ 241 ≤ length (now out) ⌝ }
-    ensures { λ r. ⌜ r ≡ length (shownLine (now (log .entry)) place) ⌝ }
-    ensures { λ r. ⌜ now (out .exit) ≡ sets (now (out .entry)) 0 (shownLine (now (log .entry)) place) ⌝ }
+    ensures { λ r. ⌜ Put (now (out .entry)) 0 (shownLine (now (log .entry)) place) (now (out .exit)) r ⌝ }
 {
     let a = shown(out, 0, first(line_at(log, place), 60));
     text_print::fixed(out, a, b"\n")
@@ -85,8 +84,7 @@ fn line_in(out: &mut [u8], log: &[u8], place: usize) -> usize
 // The mark below the place, at the front of a buffer.
 fn mark_in(out: &mut [u8], log: &[u8], place: usize) -> usize
     requires { ⌜ 242 ≤ length (now out) ⌝ }
-    ensures { λ r. ⌜ r ≡ length (markLine (now (log .entry)) place) ⌝ }
-    ensures { λ r. ⌜ now (out .exit) ≡ sets (now (out .entry)) 0 (markLine (now (log .entry)) place) ⌝ }
+    ensures { λ r. ⌜ Put (now (out .entry)) 0 (markLine (now (log .entry)) place) (now (out .exit)) r ⌝ }
 {
     let a = blank(out, 0, first(front_at(log, place), 60));
     text_print::fixed(out, a, b"^\n")

@@ -1,41 +1,14 @@
 use borrow.Author.Needs.{needs}
+use Rattle.text_lines.proofs.Pieces.{puts}
 use Rattle.perch_why.proofs.Sizes.{out-reached, out-refused}
 use Rattle.perch_why.proofs.outcome.Statement.{statement}
 use Rattle.perch_why.proofs.outcome.Tie as tie
 
-reached-lines-requires : tie.Need-reached-lines-requires
-reached-lines-requires c κs =
-    let e = out-reached (c .before .before .before .before .before .args .t) (c .before .if1 .taken) in
-    rw e at (c .before .before .before .before .before .pre)
-
-same-length : tie.Need-same-length
-same-length c = search needs
-
 returns : tie.Need-returns
-returns c =
-    let e = out-reached (c .before .before .before .before .before .before .before .before .args .t) (c .before .before .before .before .if1 .taken) in
-    rw e (c .before .before .reached-lines .ensures)
-
-refused-line-requires : tie.Need-refused-line-requires
-refused-line-requires c κs =
-    let e = out-refused (c .before .before .before .before .before .args .t) (c .before .if1 .left) in
-    rw e at (c .before .before .before .before .before .pre)
-
-same-length-2 : tie.Need-same-length-2
-same-length-2 c = search needs
+returns c = rw (out-reached (c .before .before .before .before .before .before .before .before .args .t) (c .before .before .before .before .if1 .taken)) (c .before .before .reached-lines .ensures)
 
 returns-2 : tie.Need-returns-2
-returns-2 c =
-    let e = out-refused (c .before .before .before .before .before .before .before .before .args .t) (c .before .before .before .before .if1 .left) in
-    rw e (c .before .before .refused-line .ensures)
+returns-2 c = rw (out-refused (c .before .before .before .before .before .before .before .before .args .t) (c .before .before .before .before .if1 .left)) (puts _ (c .before .before .refused-line .ensures))
 
 pub outcome-spec : {M : Type 1} → statement M
-outcome-spec =
-    tie.close
-    (tie.spec
-    reached-lines-requires
-    same-length
-    returns
-    refused-line-requires
-    same-length-2
-    returns-2)
+outcome-spec = tie.close (tie.spec (λ c κs. tt) (λ c. search needs) returns (λ c κs. tt) (λ c. search needs) returns-2)
