@@ -49,13 +49,13 @@ fn poured(out: &[u8], at: usize) -> usize
 fn pour(log: &[u8], memory: &[u8], out: &mut [u8])
     requires { ⌜ 64 ≤ length (now out) ⌝ }
 {
-    let mut g = play_meter::waits::start(log);
+    let mut m = play_meter::waits::start(log);
     let mut at: usize = 0;
     let mut left: u32 = 2000002;
     while 0 < left {
-        let p = play_meter::waits::pass(g, log, memory);
+        let p = play_meter::waits::pass(m, log, memory);
         let n = p.next;
-        g = p.gauge;
+        m = p.moment;
         at = line_on(out, at, n);
         if perch_meter::is_over(n) {
             program_io::write_front(STDOUT_FILENO, out, at);

@@ -8,16 +8,17 @@ use lib.ListN.{length}
 use Rattle.log_rules.specs.Whole.{checkOf}
 use Rattle.reading.specs.Saying.{Gives, ends, goes, gives}
 use Rattle.chip.specs.Range.{Bytes}
+use Rattle.play_walk.specs.declared.Moment.{Moment}
+use Rattle.play_walk.specs.Walk.{walkStart}
 use Rattle.play_meter.specs.declared.Answer.{Answer}
-use Rattle.play_meter.specs.declared.waits.Gauge.{Gauge}
 use Rattle.play_meter.specs.Meters.{WaitMeter, logMeter}
-use Rattle.play_meter.specs.Passing.{gaugeStart, passOf}
+use Rattle.play_meter.specs.Passing.{passOf}
 use Rattle.play_meter.proofs.WaitLaws.{waits-said}
 use Rattle.play_meter.proofs.WalkLaws.{meter-is}
 use Rattle.perch_meter.specs.Text.{meterText, waitLine, waitsText, meterWaitsText, nextText, stepsText}
 
 module _ (log memory : List ℕ) where
-  said-text : {g : Gauge} {l : List WaitMeter} {k : ℕ} → Gives (passOf log memory) g l k → (f : ℕ) → k ≤ f → stepsText log memory f g ≡ waitsText l
+  said-text : {m : Moment} {l : List WaitMeter} {k : ℕ} → Gives (passOf log memory) m l k → (f : ℕ) → k ≤ f → stepsText log memory f m ≡ waitsText l
   unfolding stepsText waitsText nextText
   said-text (ends k e p) zero h = absurd (omega arith)
   said-text (goes k e t p) zero h = absurd (omega arith)
@@ -29,7 +30,7 @@ module _ (log memory : List ℕ) where
 
   -- what the program writes for a log that passes: the text, and then the lines of its steps
   pub joined : length memory ≡ 32768 → Bytes memory → checkOf log .number ≡ 0
-      → meterText log memory ++ stepsText log memory 2000002 (gaugeStart log) ≡ meterWaitsText log memory
+      → meterText log memory ++ stepsText log memory 2000002 (walkStart log) ≡ meterWaitsText log memory
   unfolding meterWaitsText
   joined long bytes fine =
       let none : logMeter log memory .number ≡ 0 = ap (λ (a : Answer). a .number) (meter-is log memory long fine) in

@@ -54,6 +54,7 @@ unfolding nextText
 next-size Next.Over = omega arith
 next-size Next.Moved = omega arith
 next-size (Next.Wait time clocks m) = wait-size time clocks m
+next-size (Next.Refused k p) = omega arith
 
 -- no text
 pub placed-none : (out : List ℕ) (at : ℕ) → at ≡ placed out at []

@@ -11,10 +11,10 @@ use Rattle.log_rules.specs.Head.{machineOf}
 use Rattle.log_rules.specs.Tree.{acts}
 use Rattle.log_rules.specs.Whole.{treeOf}
 use Rattle.chip.specs.Range.{powerOn}
+use Rattle.play_walk.specs.declared.Moment.{Moment}
 use Rattle.meter.specs.declared.Measured.{Measured}
 use Rattle.meter.specs.declared.Measured.the-variants.{Refused, NoLevels, Silent, Steady, Moving}
 use Rattle.play_meter.specs.declared.Answer.{Answer}
-use Rattle.play_meter.specs.declared.waits.Gauge.{Gauge}
 use Rattle.play_meter.specs.declared.waits.Next.{Next}
 use Rattle.play_meter.specs.Meters.{WaitMeter, waitsFrom, logMeter}
 use Rattle.play_meter.specs.Passing.{passNext, passOf}
@@ -67,15 +67,17 @@ unfoldable pub nextText : Next → List ℕ
 nextText Next.Over = []
 nextText Next.Moved = []
 nextText (Next.Wait time clocks m) = waitLine time clocks m
+nextText (Next.Refused k p) = []
 
 abbrev pub isOver : Next → Bool
 isOver Next.Over = true
 isOver Next.Moved = false
 isOver (Next.Wait time clocks m) = false
+isOver (Next.Refused k p) = true
 
 -- what is written of n steps, or of those up to the end (from a log's beginning, all its waits: proofs/Joined)
-unfoldable pub stepsText : List ℕ → List ℕ → ℕ → Gauge → List ℕ
-stepsText log memory zero g = []
-stepsText log memory (suc n) g =
-    nextText (passNext (passOf log memory g .said))
-    ++ pick (isOver (passNext (passOf log memory g .said))) [] (stepsText log memory n (passOf log memory g .state))
+unfoldable pub stepsText : List ℕ → List ℕ → ℕ → Moment → List ℕ
+stepsText log memory zero m = []
+stepsText log memory (suc n) m =
+    nextText (passNext (passOf log memory m .said))
+    ++ pick (isOver (passNext (passOf log memory m .said))) [] (stepsText log memory n (passOf log memory m .state))

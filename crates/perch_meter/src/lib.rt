@@ -109,10 +109,11 @@ pub fn put_next(out: &mut [u8], at: usize, n: Next) -> usize
         Next::Over => at,
         Next::Moved => at,
         Next::Wait(time, clocks, m) => put_wait(out, at, time, clocks, m),
+        Next::Refused(_, _) => at,
     }
 }
 
-// Whether a step found the log's end.
+// Whether a step found the log's end, or was refused.
 pub fn is_over(n: Next) -> bool
     ensures { λ r. ⌜ r ≡ isOver n ⌝ }
 {
@@ -120,5 +121,6 @@ pub fn is_over(n: Next) -> bool
         Next::Over => true,
         Next::Moved => false,
         Next::Wait(_, _, _) => false,
+        Next::Refused(_, _) => true,
     }
 }

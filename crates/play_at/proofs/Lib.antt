@@ -1,3 +1,2 @@
-pub mod ClockLaws
 pub mod Heard
 pub mod WalkLaws

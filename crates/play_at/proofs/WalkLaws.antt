@@ -2,98 +2,58 @@
 use Prim.Native.Nat.{ℕ, _+_, _-_, _≤_, _<_}
 use mathlib.Core.Path.{_≡_, refl, sym, ap, _∙_}
 use mathlib.Core.Bool.{Bool, true, false}
-use mathlib.Core.List.{List, _∷_}
+use mathlib.Core.List.{List}
 use native.Mathlib.Omega.{arith}
 use lib.Dec.{ltb}
 use lib.ListN.{length}
 use borrow.Author.Tests.{lt-ltb, le-ltb, eq-eqb, ne-eqb}
 use Rattle.arith.specs.Iterate.{iterate}
 use Rattle.arith.specs.Pick.{pick}
-use Rattle.bus.specs.declared.Access as busAccess
 use Rattle.log_line.specs.declared.Act.{Act}
-use Rattle.log_line.specs.declared.Act.the-variants.{Wait, Access}
 use Rattle.log_rules.specs.Head.{machineOf}
 use Rattle.log_rules.specs.Tree.{acts}
 use Rattle.log_rules.specs.Whole.{treeOf, checkOf}
 use Rattle.log_rules.specs.declared.Checked.{Checked}
-use Rattle.log_cursor.specs.declared.Cursor.{Cursor}
-use Rattle.log_cursor.specs.Stepping.{beginning, stepOf, told}
-use Rattle.log_cursor.specs.declared.Given.{Given}
+use Rattle.log_cursor.specs.Stepping.{stepOf}
 use Rattle.log_cursor.proofs.Whole.{cursor-gives}
-use Rattle.reading.specs.Saying.{over, on, Gives, ends, goes, gives}
-use Rattle.reading.proofs.SayingLaws.{within}
+use Rattle.reading.specs.Saying.{Gives}
 use Rattle.chip.specs.Clock.{chipClock}
 use Rattle.chip.specs.Range.{inRange, powerOn}
 use Rattle.chip.specs.declared.State.{State}
 use Rattle.chip.proofs.RangeLaws.{power-on-in}
-use Rattle.chip_access.specs.Access.{accessed}
-use Rattle.chip_access.specs.declared.Outcome.{Outcome}
+use Rattle.chip_access.specs.Access.{accessState}
+use Rattle.play_walk.specs.declared.Moment.{Moment}
+use Rattle.play_walk.specs.declared.Walked.{Walked}
+use Rattle.play_walk.specs.Walk.{momentOf, walkStart, walkStep}
+use Rattle.play_walk.proofs.WalkLaws.{Onward, access, wait, moved, end, step-on, some-left, step-time}
 use Rattle.play_at.specs.declared.At.{At}
-use Rattle.play_at.specs.declared.Moment.{Moment}
+use Rattle.play_at.specs.declared.Stand.{Stand}
 use Rattle.play_at.specs.Reached.{atOf, refusedAt, reached, stateAt}
-use Rattle.play_at.specs.Walking.{momentOf, waitTo, accessTo, actTo, foundTo, Fine, Walking}
+use Rattle.play_at.specs.Walking.{standOf, waitTo, metTo, Fine, Walking}
 
--- ONE ACT
+-- ONE WAIT
 
 -- a wait that goes past the clock, and one that doesn't
-module _ (memory : List ℕ) (c n : ℕ) (m : Moment) (h : m .time ≤ c) where
-  pub wait-cut : c - m .time < n → momentOf true c (iterate (chipClock memory) (c - m .time) (m .state)) ≡ waitTo memory c n m
+module _ (memory : List ℕ) (c n : ℕ) (m : Moment) (next : Stand) (s : State) (fine : Fine c m) where
+  pub cut-fine : c - m .time < n → s ≡ iterate (chipClock memory) (c - m .time) (m .state) → inRange s ≡ true
+      → next ≡ standOf true (momentOf (m .cursor) s c) → (next ≡ waitTo memory c n m) × Fine c (next .moment)
   unfolding waitTo
-  wait-cut l = rw (lt-ltb c (m .time + n) (omega arith))
+  cut-fine l is r e =
+      (e ∙ rw (lt-ltb c (m .time + n) (omega (arith, fine .early)), is) refl, rw e (record { early = omega arith; ranged = r }))
 
-  pub wait-whole : n ≤ c - m .time → momentOf false (m .time + n) (iterate (chipClock memory) n (m .state)) ≡ waitTo memory c n m
+  pub whole-fine : n ≤ c - m .time → s ≡ iterate (chipClock memory) n (m .state) → inRange s ≡ true
+      → next ≡ standOf false (momentOf (m .cursor) s (m .time + n)) → (next ≡ waitTo memory c n m) × Fine c (next .moment)
   unfolding waitTo
-  wait-whole l = rw (le-ltb c (m .time + n) (omega arith))
-
--- where a wait comes to, in n clocks or in those up to the clock
-pub cut-fine : (memory : List ℕ) (c n w : ℕ) (m next : Moment) (s : State) → w ≡ n → Fine c m → c - m .time < w
-    → s ≡ iterate (chipClock memory) (c - m .time) (m .state) → inRange s ≡ true → next ≡ momentOf true c s → (next ≡ waitTo memory c n m) × Fine c next
-cut-fine memory c n w m next s e f l is r en =
-    let now : c - m .time < n = omega arith in
-    (en ∙ (ap (momentOf true c) is ∙ wait-cut memory c n m (f .early) now), rw en (record { early = omega arith; ranged = r }))
-
-pub whole-fine : (memory : List ℕ) (c n w : ℕ) (m next : Moment) (s : State) → w ≡ n → Fine c m → w ≤ c - m .time
-    → s ≡ iterate (chipClock memory) w (m .state) → inRange s ≡ true → next ≡ momentOf false (m .time + w) s → (next ≡ waitTo memory c n m) × Fine c next
-whole-fine memory c n w m next s e f l is r en =
-    let h = f .early in
-    (en ∙ (ap (momentOf false (m .time + w)) is ∙ rw e (wait-whole memory c n m h (rw e at l))), rw en (record { early = omega arith; ranged = r }))
-
--- an access keeps the time, and the state in range
-pub access-fine : (c : ℕ) (x : busAccess.Access) (m next : Moment) (a : Outcome) → Fine c m → a ≡ accessed x (m .state) → (inRange (m .state) ≡ true → inRange (a .state) ≡ true)
-    → next ≡ momentOf false (m .time) (a .state) → (next ≡ accessTo x m) × Fine c next
-unfolding accessTo
-access-fine c x m next a f is kept e = (e ∙ rw is refl, rw e (record { early = f .early; ranged = kept (f .ranged) }))
-
--- an act first, and then the others, unless the clock is reached
-module _ (memory : List ℕ) (c : ℕ) where
-  first-act : (a : Act) (l : List Act) (m : Moment)
-      → reached memory c (a ∷ l) (m .time) (m .state)
-      ≡ pick (actTo memory c a m .over) (atOf (actTo memory c a m .time) (actTo memory c a m .state)) (reached memory c l (actTo memory c a m .time) (actTo memory c a m .state))
-  unfolding reached actTo accessTo waitTo
-  first-act (Wait n) l m = by (ltb c (m .time + n))
-    where
-      cut : Moment
-      cut = momentOf true c (iterate (chipClock memory) (c - m .time) (m .state))
-
-      whole : Moment
-      whole = momentOf false (m .time + n) (iterate (chipClock memory) n (m .state))
-
-      by : (t : Bool)
-          → pick t (atOf (cut .time) (cut .state)) (reached memory c l (whole .time) (whole .state))
-          ≡ pick (pick t cut whole .over) (atOf (pick t cut whole .time) (pick t cut whole .state)) (reached memory c l (pick t cut whole .time) (pick t cut whole .state))
-      by true = refl
-      by false = refl
-  first-act (Access x) l m = refl
+  whole-fine l is r e =
+      let h = fine .early in
+      (e ∙ rw (le-ltb c (m .time + n) (omega arith), is) refl, rw e (record { early = omega arith; ranged = r }))
 
 -- THE WALK
 
 -- one step of the walk: it is over with the answer, or the walk goes on
-pub record Onward (log memory : List ℕ) (c : ℕ) (cursor : Cursor) (m : Moment) (left : ℕ) : Type 0 where
-  pub over : m .over ≡ true → atOf (m .time) (m .state) ≡ reached memory c (acts (treeOf log)) 0 (powerOn (machineOf log))
-  pub on : m .over ≡ false → Walking log memory c cursor m (left - 1)
-
-less : (k f : ℕ) → k < f → k ≤ f - 1
-less k f h = omega arith
+pub record Ongoing (log memory : List ℕ) (c : ℕ) (t : Stand) (left : ℕ) : Type 0 where
+  pub over : t .over ≡ true → atOf (t .moment .time) (t .moment .state) ≡ reached memory c (acts (treeOf log)) 0 (powerOn (machineOf log))
+  pub on : t .over ≡ false → Walking log memory c (t .moment) (left - 1)
 
 false-true : {A : Type 0} → _≡_ {A = Bool} false true → A
 false-true e = let x : _≡_ {A = ℕ} 0 1 = cc in absurd (omega arith)
@@ -102,47 +62,51 @@ module _ (log memory : List ℕ) (c : ℕ) where
   abbrev Whole : At
   Whole = reached memory c (acts (treeOf log)) 0 (powerOn (machineOf log))
 
-  -- by what the cursor's step says
-  step-on : {cursor : Cursor} {rest : List Act} {left : ℕ} → Gives (stepOf log) cursor rest left → (m : Moment)
-      → reached memory c rest (m .time) (m .state) ≡ Whole
-      → (x : Given) → x ≡ told (stepOf log cursor .said) → (next : Moment) → next ≡ foundTo memory c x m → Fine c next
-      → Onward log memory c (stepOf log cursor .state) next left
-  unfolding foundTo reached
-  step-on (ends f e p) m same x fx next en fine =
-      let is : next ≡ momentOf true (m .time) (m .state) = en ∙ rw (fx, e) refl in
+  -- where the walk goes on, and where it is over
+  goes-on : {left : ℕ} (m : Moment) (t : Stand) → t ≡ standOf false m → Fine c (t .moment) → (l : List Act) → Gives (stepOf log) (m .cursor) l (left - 1)
+      → reached memory c l (m .time) (m .state) ≡ Whole → Ongoing log memory c t left
+  goes-on m t e fine l g same =
       record {
-        over = λ o. rw is same;
-        on = λ o. false-true (sym o ∙ ap (λ (k : Moment). k .over) is);
-      }
-  step-on {rest = rest} {left = left} (goes {k = k} f e g p) m same x fx next en fine =
-      let is : next ≡ momentOf false (m .time) (m .state) = en ∙ rw (fx, e) refl in
-      record {
-        over = λ o. false-true (sym (ap (λ (k : Moment). k .over) is) ∙ o);
-        on = λ o. record { fine = fine; rest = rest; gives = within (stepOf log) (left - 1) (less k left p) g; same = rw is same };
-      }
-  step-on {left = left} (gives {a = a} {l = l} {k = k} f e g p) m same x fx next en fine =
-      let is : next ≡ actTo memory c a m = en ∙ rw (fx, e) refl in
-      let whole : pick (next .over) (atOf (next .time) (next .state)) (reached memory c l (next .time) (next .state)) ≡ Whole = rw is (sym (first-act memory c a l m) ∙ same) in
-      record {
-        over = λ o. rw o at whole;
-        on = λ o. record { fine = fine; rest = l; gives = within (stepOf log) (left - 1) (less k left p) g; same = rw o at whole };
+        over = λ o. false-true (sym (ap (λ (k : Stand). k .over) e) ∙ o);
+        on = λ o. record { fine = fine; rest = l; gives = rw e g; same = rw e same };
       }
 
-  pub walk-on : (cursor : Cursor) (m : Moment) (left : ℕ) → Walking log memory c cursor m left
-      → (x : Given) → x ≡ told (stepOf log cursor .said) → (next : Moment) → next ≡ foundTo memory c x m → Fine c next
-      → Onward log memory c (stepOf log cursor .state) next left
-  walk-on cursor m left w = step-on (w .gives) m (w .same)
+  is-over : {left : ℕ} (m : Moment) (t : Stand) → t ≡ standOf true m → atOf (m .time) (m .state) ≡ Whole → Ongoing log memory c t left
+  is-over m t e same =
+      record {
+        over = λ o. rw e same;
+        on = λ o. false-true (sym o ∙ ap (λ (k : Stand). k .over) e);
+      }
 
-  -- the steps are enough
-  none-left : {cursor : Cursor} {rest : List Act} {left : ℕ} → Gives (stepOf log) cursor rest left → left ≡ 0 → ⊥
-  none-left (ends f e p) z = omega arith
-  none-left (goes f e g p) z = omega arith
-  none-left (gives f e g p) z = omega arith
+  -- by what the step met
+  by-met : (m : Moment) {rest : List Act} {left : ℕ} {w : Walked} → Onward log m rest left w → reached memory c rest (m .time) (m .state) ≡ Whole
+      → (t : Stand) → t ≡ metTo memory c (w .met) (w .moment) → Fine c (t .moment) → Ongoing log memory c t left
+  unfolding metTo waitTo reached
+  by-met m (access x l k r g e f) same t i fine =
+      goes-on (momentOf k (accessState x (m .state)) (m .time)) t (i ∙ rw (e, f) refl) fine l g (rw r at same)
+  by-met m {left = left} (wait n l k r g e f) same t i fine = by (ltb c (m .time + n)) (i ∙ rw (e, f) refl) (rw r at same)
+    where
+      cut : Moment
+      cut = momentOf k (iterate (chipClock memory) (c - m .time) (m .state)) c
 
-  pub walk-left : {A : Type 0} (cursor : Cursor) (m : Moment) (left : ℕ) → Walking log memory c cursor m left → left ≡ 0 → A
-  walk-left cursor m left w z = absurd (none-left (w .gives) z)
+      whole : Moment
+      whole = momentOf k (iterate (chipClock memory) n (m .state)) (m .time + n)
 
-  pub walk-start : checkOf log .number ≡ 0 → Walking log memory c beginning (momentOf false 0 (powerOn (machineOf log))) 2000002
+      by : (b : Bool) → t ≡ pick b (standOf true cut) (standOf false whole)
+          → pick b (atOf c (cut .state)) (reached memory c l (whole .time) (whole .state)) ≡ Whole → Ongoing log memory c t left
+      by true i same = is-over cut t i same
+      by false i same = goes-on whole t i fine l g same
+  by-met m {rest = rest} (moved k g e f) same t i fine = goes-on (momentOf k (m .state) (m .time)) t (i ∙ rw (e, f) refl) fine rest g same
+  by-met m (end k r e f) same t i fine = is-over (momentOf k (m .state) (m .time)) t (i ∙ rw (e, f) refl) (rw r at same)
+
+  pub walk-on : (m : Moment) (left : ℕ) → Walking log memory c m left → (w : Walked) → w ≡ walkStep log m
+      → (t : Stand) → t ≡ metTo memory c (w .met) (w .moment) → Fine c (t .moment) → Ongoing log memory c t left
+  walk-on m left k w e = by-met m (step-on log m (k .gives) w e) (k .same)
+
+  pub walk-left : {A : Type 0} (m : Moment) (left : ℕ) → Walking log memory c m left → left ≡ 0 → A
+  walk-left m left w z = absurd (omega (arith, some-left log (w .gives)))
+
+  pub walk-start : checkOf log .number ≡ 0 → Walking log memory c (walkStart log) 2000002
   walk-start h =
       record {
         fine = record { early = omega arith; ranged = power-on-in (machineOf log) };
@@ -150,6 +114,12 @@ module _ (log memory : List ℕ) (c : ℕ) where
         gives = cursor-gives log h;
         same = refl;
       }
+
+  -- the moment behind a step is at the clock or before it, in a state in range
+  pub step-fine : (m : Moment) (left : ℕ) → Walking log memory c m left → (w : Walked) → w ≡ walkStep log m
+      → (inRange (m .state) ≡ true → inRange (w .moment .state) ≡ true) → Fine c (w .moment)
+  step-fine m left k w e kept =
+      record { early = rw (step-time log m w e) (k .fine .early); ranged = kept (k .fine .ranged) }
 
 -- THE ANSWER
 

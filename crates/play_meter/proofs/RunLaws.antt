@@ -21,9 +21,8 @@ use Rattle.meter.specs.declared.Span.{Span}
 use Rattle.meter.specs.Levels.{lowest, highest}
 use Rattle.meter.specs.Records.{levelsIn, recordLevels}
 use Rattle.meter.specs.Spans.{spanOver}
-use Rattle.play_at.specs.Walking.{portion}
-use Rattle.play_at.proofs.ClockLaws.{nearer}
-use Rattle.play_meter.specs.Walking.{changed, meterMoment, clocksOn}
+use Rattle.play_walk.proofs.ClockLaws.{portion, nearer}
+use Rattle.play_meter.specs.Walking.{changed, heardOf, clocksOn}
 use Rattle.play_meter.proofs.HeardLaws.{span-append, changed-add}
 
 -- the levels of records
@@ -124,10 +123,10 @@ module _ (memory : List ℕ) (s : State) (span : Span) (left : ℕ) (words after
         some = n .some;
         most = n .most;
         ranged = n .ranged;
-        same = ap₂ (meterMoment false) (n .same) heard;
+        same = ap₂ (heardOf false) (n .same) heard;
       }
 
 -- no clock
-pub clocks-none : (memory : List ℕ) (n : ℕ) (s : State) (span : Span) → n ≡ 0 → clocksOn memory n s span ≡ meterMoment false s span
+pub clocks-none : (memory : List ℕ) (n : ℕ) (s : State) (span : Span) → n ≡ 0 → clocksOn memory n s span ≡ heardOf false s span
 unfolding clocksOn changed iterate lowest highest
 clocks-none memory n s span z = rw z

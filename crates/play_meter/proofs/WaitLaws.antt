@@ -18,7 +18,7 @@ use Rattle.log_rules.specs.Whole.{treeOf, checkOf}
 use Rattle.log_passing.proofs.ActLaws.{Every, every-acts, clocksIn, clocks-listed}
 use Rattle.log_passing.proofs.Passing.{clear, stands}
 use Rattle.log_cursor.specs.declared.Cursor.{Cursor}
-use Rattle.log_cursor.specs.Stepping.{stepOf, told}
+use Rattle.log_cursor.specs.Stepping.{stepOf}
 use Rattle.log_cursor.proofs.Whole.{cursor-gives}
 use Rattle.reading.specs.Saying.{over, on, says, Gives, ends, goes, gives}
 use Rattle.reading.proofs.SayingLaws.{by-says, by-on, by-over}
@@ -28,9 +28,10 @@ use Rattle.chip.specs.declared.State.{State}
 use Rattle.chip.proofs.RangeLaws.{StateRanged, state-in, state-back, clock-kept, power-on-in}
 use Rattle.chip_access.specs.Access.{accessState}
 use Rattle.chip_access.proofs.AccessLaws.{Bytewide, access-kept}
+use Rattle.play_walk.specs.Walk.{momentOf, walkStart, actMet, actState, givenMet, walkStep}
 use Rattle.play_meter.specs.Meters.{waitMeter, waitsFrom}
-use Rattle.play_meter.specs.Passing.{go, gaugeOf, gaugeStart, actPass, foundPass, passOf}
-use Rattle.play_meter.proofs.PassLaws.{ready-is, pass-some}
+use Rattle.play_meter.specs.Passing.{go, metPass, passOf}
+use Rattle.play_meter.proofs.PassLaws.{pass-some}
 
 -- a value that a log writes is a byte
 bytewide : (x : busAccess.Access) → Allowed (Access x) → Bytewide x
@@ -43,29 +44,29 @@ clocks-ranged memory bytes n s h = state-back _ (iterate-keeps StateRanged (chip
 module _ (log memory : List ℕ) (long : length memory ≡ 32768) (bytes : Bytes memory) where
   -- a step by what the cursor says
   module _ (t : ℕ) (s : State) (c : Cursor) (ranged : inRange s ≡ true) (early : t ≤ 2000000000) where
-    here-pass : passOf log memory (gaugeOf t s c) ≡ foundPass memory (gaugeOf t s c) (stepOf log c .state) (told (stepOf log c .said))
-    here-pass = sym (pass-some log memory (gaugeOf t s c) (ready-is memory (gaugeOf t s c) (record { long = long; ranged = ranged; early = early })))
+    here-pass : passOf log memory (momentOf c s t) ≡ metPass memory (walkStep log (momentOf c s t) .met) (walkStep log (momentOf c s t) .moment)
+    here-pass = sym (pass-some log memory (momentOf c s t) long ranged early)
 
-    pass-over : stepOf log c .said ≡ over → passOf log memory (gaugeOf t s c) ≡ go over (gaugeOf t s (stepOf log c .state))
-    unfolding foundPass
+    pass-over : stepOf log c .said ≡ over → passOf log memory (momentOf c s t) ≡ go over (momentOf (stepOf log c .state) s t)
+    unfolding metPass walkStep givenMet
     pass-over e = here-pass ∙ rw e refl
 
-    pass-on : stepOf log c .said ≡ on → passOf log memory (gaugeOf t s c) ≡ go on (gaugeOf t s (stepOf log c .state))
-    unfolding foundPass
+    pass-on : stepOf log c .said ≡ on → passOf log memory (momentOf c s t) ≡ go on (momentOf (stepOf log c .state) s t)
+    unfolding metPass walkStep givenMet
     pass-on e = here-pass ∙ rw e refl
 
     pass-wait : (n : ℕ) → stepOf log c .said ≡ says (Wait n)
-        → passOf log memory (gaugeOf t s c) ≡ go (says (waitMeter memory n t s)) (gaugeOf (t + n) (iterate (chipClock memory) n s) (stepOf log c .state))
-    unfolding foundPass actPass
+        → passOf log memory (momentOf c s t) ≡ go (says (waitMeter memory n t s)) (momentOf (stepOf log c .state) (iterate (chipClock memory) n s) (t + n))
+    unfolding metPass walkStep givenMet actMet actState
     pass-wait n e = here-pass ∙ rw e refl
 
     pass-access : (x : busAccess.Access) → stepOf log c .said ≡ says (Access x)
-        → passOf log memory (gaugeOf t s c) ≡ go on (gaugeOf t (accessState x s) (stepOf log c .state))
-    unfolding foundPass actPass
+        → passOf log memory (momentOf c s t) ≡ go on (momentOf (stepOf log c .state) (accessState x s) t)
+    unfolding metPass walkStep givenMet actMet actState
     pass-access x e = here-pass ∙ rw e refl
 
   acts-said : {c : Cursor} {l : List Act} {f : ℕ} → Gives (stepOf log) c l f → (t : ℕ) (s : State) → Every l → inRange s ≡ true → t + clocksIn l ≤ 2000000000
-      → Gives (passOf log memory) (gaugeOf t s c) (waitsFrom memory l t s) f
+      → Gives (passOf log memory) (momentOf c s t) (waitsFrom memory l t s) f
   unfolding waitsFrom clocksIn actClocks
   acts-said {c = c} (ends f e p) t s w h b = by-over (passOf log memory) f (pass-over t s c h (omega arith) e) p
   acts-said {c = c} (goes f e g p) t s w h b =
@@ -78,7 +79,7 @@ module _ (log memory : List ℕ) (long : length memory ≡ 32768) (bytes : Bytes
       (acts-said g t (accessState x s) (w .1) (access-kept x s (bytewide x (w .0)) h) (omega arith)) p
 
   -- in 2,000,002 steps at most
-  pub waits-said : checkOf log .number ≡ 0 → Gives (passOf log memory) (gaugeStart log) (waitsFrom memory (acts (treeOf log)) 0 (powerOn (machineOf log))) 2000002
+  pub waits-said : checkOf log .number ≡ 0 → Gives (passOf log memory) (walkStart log) (waitsFrom memory (acts (treeOf log)) 0 (powerOn (machineOf log))) 2000002
   waits-said h =
       let c = clear log h .in-clocks in
       let d = clocks-listed (treeOf log) in

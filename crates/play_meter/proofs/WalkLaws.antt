@@ -1,9 +1,8 @@
 -- The walk of a log that passes: act by act to the lowest and the highest level of all its lines. Assumes nothing.
-use Prim.Native.Nat.{ℕ, _+_, _-_, _≤_, _<_}
+use Prim.Native.Nat.{ℕ, _+_, _-_}
 use mathlib.Core.Path.{_≡_, refl, sym, ap, _∙_}
 use mathlib.Core.Bool.{Bool, true, false}
 use mathlib.Core.List.{List, [], _∷_, _++_}
-use native.Mathlib.Nat.{add-zero}
 use native.Mathlib.Omega.{arith}
 use lib.Dec.{eqb}
 use lib.ListN.{length}
@@ -14,15 +13,13 @@ use Rattle.bus.specs.declared.Access as busAccess
 use Rattle.log_line.specs.declared.Act.{Act}
 use Rattle.log_line.specs.declared.Act.the-variants.{Wait, Access}
 use Rattle.log_rules.specs.Head.{machineOf}
-use Rattle.log_rules.specs.Tree.{acts, actClocks}
+use Rattle.log_rules.specs.Tree.{acts}
 use Rattle.log_rules.specs.Whole.{treeOf, checkOf}
 use Rattle.log_rules.specs.declared.Checked.{Checked}
 use Rattle.log_cursor.specs.declared.Cursor.{Cursor}
-use Rattle.log_cursor.specs.Stepping.{beginning, stepOf, told}
-use Rattle.log_cursor.specs.declared.Given.{Given}
+use Rattle.log_cursor.specs.Stepping.{stepOf}
 use Rattle.log_cursor.proofs.Whole.{cursor-gives}
-use Rattle.reading.specs.Saying.{over, on, Gives, ends, goes, gives}
-use Rattle.reading.proofs.SayingLaws.{within}
+use Rattle.reading.specs.Saying.{Gives}
 use Rattle.chip.specs.Clock.{chipClock}
 use Rattle.chip.specs.Level.{stateLevel}
 use Rattle.chip.specs.Range.{inRange, powerOn}
@@ -30,13 +27,17 @@ use Rattle.chip.specs.declared.State.{State}
 use Rattle.chip.proofs.RangeLaws.{power-on-in}
 use Rattle.chip_access.specs.Access.{accessState}
 use Rattle.play_rules.specs.Sound.{heard, entriesFrom, entriesOf}
+use Rattle.play_walk.specs.declared.Moment.{Moment}
+use Rattle.play_walk.specs.declared.Walked.{Walked}
+use Rattle.play_walk.specs.Walk.{momentOf, walkStart, walkStep}
+use Rattle.play_walk.proofs.WalkLaws.{Onward, access, wait, moved, end, step-on, some-left}
 use Rattle.meter.specs.declared.Span.{Span}
 use Rattle.meter.specs.Levels.{lowest, highest}
 use Rattle.meter.specs.Spans.{spanAt, spanOver, toldOf}
 use Rattle.meter.proofs.Answers.{told-is}
-use Rattle.play_meter.specs.declared.Moment.{Moment}
+use Rattle.play_meter.specs.declared.Heard.{Heard}
 use Rattle.play_meter.specs.Meters.{levelsOf, actsMeter, refusedAnswer, logMeter}
-use Rattle.play_meter.specs.Walking.{changed, meterMoment, clocksOn, heardBy, accessOn, actOn, foundOn, spanFor, spanOf, MeterWalking}
+use Rattle.play_meter.specs.Walking.{changed, heardOf, clocksOn, heardBy, metOn, spanFor, spanOf, MeterWalking}
 use Rattle.play_meter.proofs.HeardLaws.{span-append, levels-read, levels-heard, levels-waited}
 
 -- ONE ACT
@@ -69,21 +70,12 @@ module _ (memory : List ℕ) where
   unfolding spanFor entriesFrom
   access-first x l t s span = ap (spanOver span) (levels-read x t s _) ∙ access-span t s (accessState x s) span l
 
-  first-act : (a : Act) (l : List Act) (t : ℕ) (m : Moment)
-      → spanFor memory (a ∷ l) t (m .state) (m .span) ≡ spanFor memory l (t + actClocks a) (actOn memory a m .state) (actOn memory a m .span)
-  unfolding actOn clocksOn accessOn actClocks
-  first-act (Wait n) l t m = wait-first n l t (m .state) (m .span)
-  first-act (Access x) l t m = rw add-zero (access-first x l t (m .state) (m .span))
-
 -- THE WALK
 
--- one step of the walk: it is over with the answer, or the walk goes on
-pub record Onward (log memory : List ℕ) (cursor : Cursor) (m : Moment) (left : ℕ) : Type 0 where
-  pub over : m .over ≡ true → m .span ≡ spanOf log memory
-  pub on : m .over ≡ false → MeterWalking log memory cursor m (left - 1)
-
-less : (k f : ℕ) → k < f → k ≤ f - 1
-less k f h = omega arith
+-- one step of the walk, to the cursor c: it is over with the answer, or the walk goes on
+pub record Ongoing (log memory : List ℕ) (c : Cursor) (h : Heard) (left : ℕ) : Type 0 where
+  pub over : h .over ≡ true → h .span ≡ spanOf log memory
+  pub on : h .over ≡ false → (t : ℕ) → MeterWalking log memory (momentOf c (h .state) t) (h .span) (left - 1)
 
 false-true : {A : Type 0} → _≡_ {A = Bool} false true → A
 false-true e = let x : _≡_ {A = ℕ} 0 1 = cc in absurd (omega arith)
@@ -93,52 +85,43 @@ ended : (memory : List ℕ) (t : ℕ) (s : State) (span : Span) → spanFor memo
 unfolding spanFor entriesFrom levelsOf lowest highest
 ended memory t s span = refl
 
-clocks-over : (memory : List ℕ) (a : Act) (m : Moment) → actOn memory a m .over ≡ false
-unfolding actOn clocksOn accessOn
-clocks-over memory (Wait n) m = refl
-clocks-over memory (Access x) m = refl
-
 module _ (log memory : List ℕ) where
-  -- by what the cursor's step says
-  step-on : {cursor : Cursor} {rest : List Act} {left : ℕ} → Gives (stepOf log) cursor rest left → (t : ℕ) (m : Moment)
-      → spanFor memory rest t (m .state) (m .span) ≡ spanOf log memory
-      → (x : Given) → x ≡ told (stepOf log cursor .said) → (next : Moment) → next ≡ foundOn memory x m → inRange (next .state) ≡ true
-      → Onward log memory (stepOf log cursor .state) next left
-  unfolding foundOn
-  step-on (ends f e p) t m same x fx next en fine =
-      let is : next ≡ meterMoment true (m .state) (m .span) = en ∙ rw (fx, e) refl in
+  -- where the walk goes on
+  goes-on : {c k : Cursor} {left : ℕ} (s : State) (span : Span) (h : Heard) → h ≡ heardOf false s span → inRange (h .state) ≡ true → c ≡ k → (t : ℕ) (l : List Act)
+      → Gives (stepOf log) k l (left - 1) → spanFor memory l t s span ≡ spanOf log memory → Ongoing log memory c h left
+  goes-on s span h e fine i t l g same =
       record {
-        over = λ o. rw is (sym (ended memory t (m .state) (m .span)) ∙ same);
-        on = λ o. false-true (sym o ∙ ap (λ (k : Moment). k .over) is);
-      }
-  step-on {rest = rest} {left = left} (goes {k = k} f e g p) t m same x fx next en fine =
-      let is : next ≡ meterMoment false (m .state) (m .span) = en ∙ rw (fx, e) refl in
-      record {
-        over = λ o. false-true (sym (ap (λ (k : Moment). k .over) is) ∙ o);
-        on = λ o. record { ranged = fine; time = t; rest = rest; gives = within (stepOf log) (left - 1) (less k left p) g; same = rw is same };
-      }
-  step-on {left = left} (gives {a = a} {l = l} {k = k} f e g p) t m same x fx next en fine =
-      let is : next ≡ actOn memory a m = en ∙ rw (fx, e) refl in
-      record {
-        over = λ o. false-true (sym (ap (λ (k : Moment). k .over) is ∙ clocks-over memory a m) ∙ o);
-        on = λ o. record { ranged = fine; time = t + actClocks a; rest = l; gives = within (stepOf log) (left - 1) (less k left p) g; same = rw is (sym (first-act memory a l t m) ∙ same) };
+        over = λ o. false-true (sym (ap (λ (k : Heard). k .over) e) ∙ o);
+        on = λ o u. record { ranged = fine; time = t; rest = l; gives = rw i g; same = rw e same };
       }
 
-  pub walk-on : (cursor : Cursor) (m : Moment) (left : ℕ) → MeterWalking log memory cursor m left
-      → (x : Given) → x ≡ told (stepOf log cursor .said) → (next : Moment) → next ≡ foundOn memory x m → inRange (next .state) ≡ true
-      → Onward log memory (stepOf log cursor .state) next left
-  walk-on cursor m left w = step-on (w .gives) (w .time) m (w .same)
+  -- by what the step met
+  by-met : (m : Moment) (t : ℕ) (span : Span) {rest : List Act} {left : ℕ} {w : Walked} → Onward log m rest left w
+      → spanFor memory rest t (m .state) span ≡ spanOf log memory
+      → (h : Heard) → h ≡ metOn memory (w .met) (w .moment .state) span → inRange (h .state) ≡ true → Ongoing log memory (w .moment .cursor) h left
+  unfolding metOn clocksOn
+  by-met m t span (access x l k r g e f) same h i fine =
+      goes-on (accessState x (m .state)) (heardBy span (stateLevel (m .state)) (stateLevel (accessState x (m .state)))) h (i ∙ rw (e, f) refl) fine (ap (λ (n : Moment). n .cursor) f)
+      t l g (sym (access-first memory x l t (m .state) span) ∙ rw r at same)
+  by-met m t span (wait n l k r g e f) same h i fine =
+      goes-on (iterate (chipClock memory) n (m .state)) (spanOver span (changed memory n (m .state))) h (i ∙ rw (e, f) refl) fine (ap (λ (n : Moment). n .cursor) f)
+      (t + n) l g (sym (wait-first memory n l t (m .state) span) ∙ rw r at same)
+  by-met m t span {rest = rest} (moved k g e f) same h i fine = goes-on (m .state) span h (i ∙ rw (e, f) refl) fine (ap (λ (n : Moment). n .cursor) f) t rest g same
+  by-met m t span (end k r e f) same h i fine =
+      let is : h ≡ heardOf true (m .state) span = i ∙ rw (e, f) refl in
+      record {
+        over = λ o. rw is (sym (ended memory t (m .state) span) ∙ rw r at same);
+        on = λ o. false-true (sym o ∙ ap (λ (k : Heard). k .over) is);
+      }
 
-  -- the steps are enough
-  none-left : {cursor : Cursor} {rest : List Act} {left : ℕ} → Gives (stepOf log) cursor rest left → left ≡ 0 → ⊥
-  none-left (ends f e p) z = omega arith
-  none-left (goes f e g p) z = omega arith
-  none-left (gives f e g p) z = omega arith
+  pub walk-on : (m : Moment) (span : Span) (left : ℕ) → MeterWalking log memory m span left → (w : Walked) → w ≡ walkStep log m
+      → (h : Heard) → h ≡ metOn memory (w .met) (w .moment .state) span → inRange (h .state) ≡ true → Ongoing log memory (w .moment .cursor) h left
+  walk-on m span left k w e = by-met m (k .time) span (step-on log m (k .gives) w e) (k .same)
 
-  pub walk-left : {A : Type 0} (cursor : Cursor) (m : Moment) (left : ℕ) → MeterWalking log memory cursor m left → left ≡ 0 → A
-  walk-left cursor m left w z = absurd (none-left (w .gives) z)
+  pub walk-left : {A : Type 0} (m : Moment) (span : Span) (left : ℕ) → MeterWalking log memory m span left → left ≡ 0 → A
+  walk-left m span left w z = absurd (omega (arith, some-left log (w .gives)))
 
-  pub walk-start : checkOf log .number ≡ 0 → MeterWalking log memory beginning (meterMoment false (powerOn (machineOf log)) (spanAt (stateLevel (powerOn (machineOf log))))) 2000002
+  pub walk-start : checkOf log .number ≡ 0 → MeterWalking log memory (walkStart log) (spanAt (stateLevel (walkStart log .state))) 2000002
   unfolding spanOf
   walk-start h =
       record {

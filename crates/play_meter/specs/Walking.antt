@@ -6,25 +6,22 @@ use mathlib.Core.List.{List, [], _∷_}
 use lib.Dec.{eqb}
 use Rattle.arith.specs.Iterate.{iterate}
 use Rattle.arith.specs.Pick.{pick}
-use Rattle.bus.specs.declared.Access as busAccess
 use Rattle.log_line.specs.declared.Act.{Act}
-use Rattle.log_line.specs.declared.Act.the-variants.{Wait, Access}
 use Rattle.log_rules.specs.Head.{machineOf}
 use Rattle.log_rules.specs.Tree.{acts}
 use Rattle.log_rules.specs.Whole.{treeOf}
-use Rattle.log_cursor.specs.declared.Cursor.{Cursor}
-use Rattle.log_cursor.specs.declared.Given.{Given}
 use Rattle.log_cursor.specs.Stepping.{stepOf}
 use Rattle.reading.specs.Saying.{Gives}
 use Rattle.chip.specs.Clock.{chipClock}
 use Rattle.chip.specs.Level.{stateLevel}
 use Rattle.chip.specs.Range.{inRange, powerOn}
 use Rattle.chip.specs.declared.State.{State}
-use Rattle.chip_access.specs.Access.{accessState}
 use Rattle.play_rules.specs.Sound.{entriesFrom}
+use Rattle.play_walk.specs.declared.Moment.{Moment}
+use Rattle.play_walk.specs.declared.Met.{Met}
 use Rattle.meter.specs.declared.Span.{Span}
 use Rattle.meter.specs.Spans.{spanAt, spanOver}
-use Rattle.play_meter.specs.declared.Moment.{Moment}
+use Rattle.play_meter.specs.declared.Heard.{Heard}
 use Rattle.play_meter.specs.Meters.{levelsOf}
 
 -- the levels after those of n clocks that change it
@@ -34,32 +31,24 @@ changed memory (suc n) s =
     pick (eqb (stateLevel (chipClock memory s)) (stateLevel s)) (changed memory n (chipClock memory s))
     (stateLevel (chipClock memory s) ∷ changed memory n (chipClock memory s))
 
-abbrev pub meterMoment : Bool → State → Span → Moment
-meterMoment over s span = record { over = over; state = s; span = span }
+abbrev pub heardOf : Bool → State → Span → Heard
+heardOf over s span = record { over = over; state = s; span = span }
 
 -- n clocks
-unfoldable pub clocksOn : List ℕ → ℕ → State → Span → Moment
-clocksOn memory n s span = meterMoment false (iterate (chipClock memory) n s) (spanOver span (changed memory n s))
+unfoldable pub clocksOn : List ℕ → ℕ → State → Span → Heard
+clocksOn memory n s span = heardOf false (iterate (chipClock memory) n s) (spanOver span (changed memory n s))
 
 -- with the level after an access, where it differs from that before
 unfoldable pub heardBy : Span → ℕ → ℕ → Span
 heardBy span before after = pick (eqb after before) span (spanOver span (after ∷ []))
 
--- an access
-unfoldable pub accessOn : busAccess.Access → Moment → Moment
-accessOn x m = meterMoment false (accessState x (m .state)) (heardBy (m .span) (stateLevel (m .state)) (stateLevel (accessState x (m .state))))
-
--- an act
-unfoldable pub actOn : List ℕ → Act → Moment → Moment
-actOn memory (Wait n) m = clocksOn memory n (m .state) (m .span)
-actOn memory (Access x) m = accessOn x m
-
--- what a step of the cursor found: at the log's end all is over
-unfoldable pub foundOn : List ℕ → Given → Moment → Moment
-foundOn memory (Given.Act a) m = actOn memory a m
-foundOn memory Given.Moved m = meterMoment false (m .state) (m .span)
-foundOn memory Given.End m = meterMoment true (m .state) (m .span)
-foundOn memory (Given.Refused k p) m = meterMoment true (m .state) (m .span)
+-- what a step of the walk met, and the state behind it: at the log's end all is over
+unfoldable pub metOn : List ℕ → Met → State → Span → Heard
+metOn memory Met.Moved s span = heardOf false s span
+metOn memory (Met.Access x b a) s span = heardOf false s (heardBy span b a)
+metOn memory (Met.Wait n) s span = clocksOn memory n s span
+metOn memory Met.End s span = heardOf true s span
+metOn memory (Met.Refused k p) s span = heardOf true s span
 
 -- the lowest and the highest of what was heard and of the lines that the acts still bring
 unfoldable pub spanFor : List ℕ → List Act → ℕ → State → Span → Span
@@ -69,10 +58,10 @@ spanFor memory l t s span = spanOver span (levelsOf (entriesFrom memory t (state
 unfoldable pub spanOf : List ℕ → List ℕ → Span
 spanOf log memory = spanFor memory (acts (treeOf log)) 0 (powerOn (machineOf log)) (spanAt (stateLevel (powerOn (machineOf log))))
 
--- on the way: the acts that the cursor still gives, within `left` steps, lead to what the whole log leads to
-pub record MeterWalking (log memory : List ℕ) (cursor : Cursor) (m : Moment) (left : ℕ) : Type 0 where
+-- on the way: the acts still to come, said within `left` steps, lead to what the whole log leads to
+pub record MeterWalking (log memory : List ℕ) (m : Moment) (span : Span) (left : ℕ) : Type 0 where
   pub ranged : inRange (m .state) ≡ true
   pub time : ℕ
   pub rest : List Act
-  pub gives : Gives (stepOf log) cursor rest left
-  pub same : spanFor memory rest time (m .state) (m .span) ≡ spanOf log memory
+  pub gives : Gives (stepOf log) (m .cursor) rest left
+  pub same : spanFor memory rest time (m .state) span ≡ spanOf log memory

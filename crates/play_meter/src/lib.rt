@@ -8,13 +8,11 @@ ghost use Rattle.log_rules.specs.Head.{machineOf};
 ghost use Rattle.log_rules.specs.Tree.{acts};
 ghost use Rattle.log_rules.specs.Whole.{treeOf, checkOf};
 ghost use Rattle.play_meter.specs.Meters.{actsMeter, refusedAnswer, logMeter};
-ghost use Rattle.play_meter.specs.Walking.{meterMoment, clocksOn, heardBy, accessOn, actOn, foundOn};
-use bus::Access;
+ghost use Rattle.play_meter.specs.Walking.{heardOf, clocksOn, heardBy, metOn};
 use chip::State;
-use log_cursor::Given;
-use log_line::Act;
 use meter::Measured;
 use meter::Span;
+use play_walk::Met;
 
 pub mod waits;
 
@@ -25,17 +23,17 @@ pub struct Answer {
     pub meter: Measured,
 }
 
-// A moment of a log: the state, the lowest and the highest level so far, and whether the log is over.
-pub struct Moment {
+// A state of a log, the lowest and the highest level so far, and whether the log is over.
+pub struct Heard {
     pub over: bool,
     pub state: State,
     pub span: Span,
 }
 
-fn moment_of(over: bool, s: State, span: Span) -> Moment
-    ensures { λ r. ⌜ r ≡ meterMoment over s span ⌝ }
+fn heard_of(over: bool, s: State, span: Span) -> Heard
+    ensures { λ r. ⌜ r ≡ heardOf over s span ⌝ }
 {
-    Moment {
+    Heard {
         over: over,
         state: s,
         span: span,
@@ -53,7 +51,7 @@ fn refused(number: u8, place: usize) -> Answer
 }
 
 // n clocks, run by run, with the levels of their records: a run ends early where the words are full, and does a clock at least.
-fn clocks_on(s: State, span: Span, memory: &[u8], n: u64, words: &mut [u32]) -> Moment
+fn clocks_on(s: State, span: Span, memory: &[u8], n: u64, words: &mut [u32]) -> Heard
     requires { ⌜ (length (now memory) ≡ 32768) × (inRange s ≡ true) ⌝ }
     requires { ⌜ 2 ≤ length (now words) ⌝ }
     ensures { λ r. ⌜ r ≡ clocksOn (now (memory .entry)) n s span ⌝ }
@@ -68,7 +66,7 @@ fn clocks_on(s: State, span: Span, memory: &[u8], n: u64, words: &mut [u32]) -> 
         left -= arith::wide_u32(r.done);
         state = r.state;
     }
-    moment_of(false, state, heard)
+    heard_of(false, state, heard)
 }
 
 // With the level after an access, where it differs from that before.
@@ -82,48 +80,19 @@ fn heard_by(span: Span, before: u16, after: u16) -> Span
     }
 }
 
-// An access of the log.
-fn access_on(m: Moment, x: Access) -> Moment
-    requires { ⌜ inRange (m .state) ≡ true ⌝ }
-    ensures { λ r. ⌜ r ≡ accessOn x m ⌝ }
-    ensures { λ r. ⌜ inRange (r .state) ≡ true ⌝ }
-{
-    let s = m.state;
-    let span = m.span;
-    let a = chip_access::accessed(s, x);
-    let next = a.state;
-    moment_of(false, next, heard_by(span, s.level(), next.level()))
-}
-
-// An act of the log.
-fn act_on(m: Moment, memory: &[u8], a: Act, words: &mut [u32]) -> Moment
-    requires { ⌜ (length (now memory) ≡ 32768) × (inRange (m .state) ≡ true) ⌝ }
+// What a step of the walk met; s is the state behind it.
+fn met_on(x: Met, s: State, span: Span, memory: &[u8], words: &mut [u32]) -> Heard
+    requires { ⌜ (length (now memory) ≡ 32768) × (inRange s ≡ true) ⌝ }
     requires { ⌜ 2 ≤ length (now words) ⌝ }
-    ensures { λ r. ⌜ r ≡ actOn (now (memory .entry)) a m ⌝ }
+    ensures { λ r. ⌜ r ≡ metOn (now (memory .entry)) x s span ⌝ }
     ensures { λ r. ⌜ inRange (r .state) ≡ true ⌝ }
 {
-    let s = m.state;
-    let span = m.span;
-    match a {
-        Act::Wait(n) => clocks_on(s, span, memory, arith::wide_u32(n), words),
-        Act::Access(x) => access_on(m, x),
-    }
-}
-
-// What a step of the cursor found.
-fn found_on(m: Moment, memory: &[u8], f: Given, words: &mut [u32]) -> Moment
-    requires { ⌜ (length (now memory) ≡ 32768) × (inRange (m .state) ≡ true) ⌝ }
-    requires { ⌜ 2 ≤ length (now words) ⌝ }
-    ensures { λ r. ⌜ r ≡ foundOn (now (memory .entry)) f m ⌝ }
-    ensures { λ r. ⌜ inRange (r .state) ≡ true ⌝ }
-{
-    let s = m.state;
-    let span = m.span;
-    match f {
-        Given::Act(a) => act_on(m, memory, a, words),
-        Given::Moved => moment_of(false, s, span),
-        Given::End => moment_of(true, s, span),
-        Given::Refused(_, _) => moment_of(true, s, span),
+    match x {
+        Met::Moved => heard_of(false, s, span),
+        Met::Access(_, before, after) => heard_of(false, s, heard_by(span, before, after)),
+        Met::Wait(n) => clocks_on(s, span, memory, arith::wide_u32(n), words),
+        Met::End => heard_of(true, s, span),
+        Met::Refused(_, _) => heard_of(true, s, span),
     }
 }
 
@@ -133,22 +102,25 @@ fn walk(log: &[u8], memory: &[u8], words: &mut [u32]) -> Measured
     requires { ⌜ 2 ≤ length (now words) ⌝ }
     ensures { λ r. ⌜ r ≡ actsMeter (machineOf (now (log .entry))) (now (memory .entry)) (acts (treeOf (now (log .entry)))) ⌝ }
 {
-    let mut cursor = log_cursor::start();
-    let first = chip::power_on(log_read::is_pal(log));
-    let mut m = moment_of(false, first, meter::at_level(first.level() as u32));
+    let mut m = play_walk::start(log);
+    let first = m.state;
+    let mut span = meter::at_level(first.level() as u32);
     let mut left: u32 = 2000002;
     while 0 < left {
-        let s = log_cursor::step(log, cursor);
-        let f = s.found;
-        cursor = s.cursor;
-        m = found_on(m, memory, f, words);
-        if m.over {
-            let span = m.span;
+        let w = play_walk::step(log, m);
+        let met = w.met;
+        let here = w.moment;
+        let s = here.state;
+        let h = met_on(met, s, span, memory, words);
+        span = h.span;
+        if h.over {
             return meter::told(span);
         }
+        let c = here.cursor;
+        let next = h.state;
+        m = play_walk::moment_of(c, next, here.time);
         left -= 1;
     }
-    let span = m.span;
     meter::told(span)
 }
 

@@ -20,6 +20,12 @@ returns-3 : tie.Need-returns-3
 unfolding nextText
 returns-3 c = rw (c .before .before .before .before .before .n .given .1) (c .before .before .put-wait .ensures)
 
+returns-4 : tie.Need-returns-4
+unfolding nextText
+returns-4 c =
+    let a = c .before .before .before .args in
+    rw (c .enum-told3 .given .1) (placed-none (a .out .now) (a .at), printed-none (a .out .now) (a .at))
+
 pub put-next-spec : {M : Type 1} → statement M
 put-next-spec =
     tie.close
@@ -28,7 +34,9 @@ put-next-spec =
     (λ c. search needs)
     (λ c. search needs)
     (λ c κs. tt)
+    (λ c. search needs)
     returns
     returns-2
     (λ c. search needs)
-    returns-3)
+    returns-3
+    returns-4)

@@ -1,7 +1,5 @@
-use borrow.Author.Needs.{needs}
 use mathlib.Core.Path.{_≡_, sym, ap, _∙_}
 use mathlib.Core.Bool.{false}
-use native.Mathlib.Omega.{arith}
 use Rattle.chip.specs.Range.{inRange}
 use Rattle.chip.proofs.RangeLaws.{power-on-in}
 use Rattle.log_rules.specs.declared.Checked.{Checked}
@@ -26,14 +24,14 @@ returns-2 c =
 
 walk-requires : tie.Need-walk-requires
 walk-requires c κs =
-    ((sym (ap (λ (k : Checked). k .number) (c .before .before .before .check .ensures)) ∙ c .before .if2 .left, c .before .before .before .before .if1 .left), omega arith)
+    (sym (ap (λ (k : Checked). k .number) (c .before .before .check .ensures)) ∙ c .if2 .left, c .before .before .before .if1 .left)
 
 returns-3 : tie.Need-returns-3
 returns-3 c =
-    let a = c .before .before .before .before .before .before .before .before .before .args in
-    let w = c .before .walk in
-    let fine : checkOf (a .log .now) .number ≡ 0 = sym (ap (λ (k : Checked). k .number) (c .before .before .before .before .before .check .ensures)) ∙ c .before .before .before .if2 .left in
-    (w .ensures .0 ∙ sym (at-is (a .log .now) (a .memory .now) (a .clock) (c .before .before .before .before .before .before .if1 .left) fine), w .ensures .1)
+    let a = c .before .before .before .before .before .before .before .args in
+    let w = c .walk in
+    let fine : checkOf (a .log .now) .number ≡ 0 = sym (ap (λ (k : Checked). k .number) (c .before .before .before .check .ensures)) ∙ c .before .if2 .left in
+    (w .ensures .0 ∙ sym (at-is (a .log .now) (a .memory .now) (a .clock) (c .before .before .before .before .if1 .left) fine), w .ensures .1)
 
 pub state-at-spec : {M : Type 1} → statement M
 state-at-spec =
@@ -44,6 +42,5 @@ state-at-spec =
     (λ c κs. tt)
     (λ c κs. tt)
     returns-2
-    (λ c. search needs)
     walk-requires
     returns-3)

@@ -57,7 +57,7 @@ returns : tie.Need-returns Inv-loop μ-loop
 returns c =
     let l = c .before .before .loop in
     let z : l .left ≡ 0 = omega (arith, c .before .loop-test .left) in
-    (c .moment-of .ensures ∙ (sym (clocks-none (c .before .before .before .before .before .args .memory .now) (l .left) (l .state) (l .heard) z) ∙ l .inv .2), rw (c .moment-of .ensures) (l .inv .0))
+    (c .heard-of .ensures ∙ (sym (clocks-none (c .before .before .before .before .before .args .memory .now) (l .left) (l .state) (l .heard) z) ∙ l .inv .2), rw (c .heard-of .ensures) (l .inv .0))
 
 pub clocks-on-spec : {M : Type 1} → statement M
 clocks-on-spec =

@@ -8,9 +8,9 @@ use Rattle.arith.specs.Iterate.{iterate}
 use Rattle.arith.proofs.IterateLaws.{iterate-zero}
 use Rattle.chip.specs.Clock.{chipClock}
 use Rattle.chip.specs.Range.{inRange}
-use Rattle.play_at.proofs.ClockLaws.{nearer}
-use Rattle.play_at.proofs.clocks_on.Statement.{statement}
-use Rattle.play_at.proofs.clocks_on.Tie as tie
+use Rattle.play_walk.proofs.ClockLaws.{nearer}
+use Rattle.play_walk.proofs.runs_on.Statement.{statement}
+use Rattle.play_walk.proofs.runs_on.Tie as tie
 
 abbrev Inv-loop : tie.InvT-loop
 Inv-loop memory n words₀ state₀ left₀ words state left =
@@ -62,8 +62,8 @@ returns c =
     let z : l .left ≡ 0 = omega (arith, c .loop-test .left) in
     (sym (ap (λ (k : ℕ). iterate f k (l .state)) z ∙ iterate-zero f (l .state)) ∙ l .inv .2, l .inv .0)
 
-pub clocks-on-spec : {M : Type 1} → statement M
-clocks-on-spec =
+pub runs-on-spec : {M : Type 1} → statement M
+runs-on-spec =
     tie.close
     (tie.spec
     Inv-loop

@@ -1,23 +1,31 @@
 -- A wait by runs: a run's state is so many clocks on as it did, and it does one at least. Assumes nothing.
-use Prim.Native.Nat.{ℕ, zero, suc, _+_, _-_, _/_, _≤_, _<_}
+use Prim.Native.Nat.{ℕ, zero, suc, _+_, _-_, _/_, _≤_, _<_, min}
 use mathlib.Core.Path.{_≡_, refl, sym, ap, _∙_}
 use mathlib.Core.Bool.{true, false}
 use mathlib.Core.List.{List}
 use native.Mathlib.Omega.{arith}
 use lib.ListN.{length}
+use borrow.Author.Tests.{eq-eqb, eqb-true}
 use Rattle.arith.specs.Iterate.{iterate}
+use Rattle.arith.specs.Pick.{both}
 use Rattle.arith.proofs.IterateLaws.{iterate-add}
+use Rattle.arith.proofs.PickLaws.{both-left, both-right}
 use Rattle.reading.specs.Reading.{Clockwork, plain}
 use Rattle.reading.proofs.ReadingLaws.{plain-went}
 use Rattle.chip.specs.Clock.{chipClock}
 use Rattle.chip.specs.Range.{inRange, Bytes}
 use Rattle.chip.specs.declared.State.{State}
+use Rattle.chip_api.specs.Answer.{isMemory}
 use Rattle.run_answer.specs.Run.{chipClockwork, readBy, answered, answer}
 use Rattle.run_answer.specs.declared.Ran.{Ran}
 use Rattle.run_answer.proofs.AnswerLaws.{number-none}
 use Rattle.play_rules.proofs.RoomLaws.{plain-all, plain-most, plain-few, plain-room}
 use Rattle.play_rules.proofs.WaitLaws.{plain-ranged}
-use Rattle.play_at.specs.Walking.{portion}
+use Rattle.play_walk.specs.Walk.{clocksOn}
+
+-- so many of the clocks left as a run may do
+abbrev pub portion : ℕ → ℕ
+portion n = min n 1000000
 
 module _ {S : Type 0} (m : Clockwork S) where
   -- with room for a record and a clock to do, a machine that is never full does a clock at least
@@ -55,3 +63,11 @@ nearer memory s left words r long bytes fine room some e =
           ap (iterate (chipClock memory) (left - p .done)) (plain-went (chipClockwork memory) (length words / 2) n s)
           ∙ (sym (iterate-add (chipClock memory) (p .done) (left - p .done) s) ∙ ap (λ (k : ℕ). iterate (chipClock memory) k s) (sym split));
     })
+
+-- with a sample memory of its length and a state in range, all the clocks are worked
+pub clocks-on-is : (memory : List ℕ) (n : ℕ) (s : State) → length memory ≡ 32768 → inRange s ≡ true → clocksOn memory n s ≡ iterate (chipClock memory) n s
+unfolding clocksOn
+clocks-on-is memory n s long fine = rw (eq-eqb (length memory) 32768 long, fine)
+
+pub worked : (memory : List ℕ) (s : State) → both (isMemory memory) (inRange s) ≡ true → (length memory ≡ 32768) × (inRange s ≡ true)
+worked memory s e = (eqb-true (length memory) 32768 (both-left (isMemory memory) (inRange s) e), both-right (isMemory memory) (inRange s) e)
