@@ -11,7 +11,7 @@ use Rattle.reading.specs.Saying.{Said, over, on, refused}
 use Rattle.log_line.specs.declared.Act.{Act}
 use Rattle.log_line.specs.declared.Act.the-variants.{Wait}
 use Rattle.log_line.specs.declared.Line.{Line}
-use Rattle.log_line.specs.declared.Line.the-variants.{Header, Machine, One, Loop, Done, Stop, Bad}
+use Rattle.log_line.specs.declared.Line.the-variants.{Header, Machine, One, Loop, Done, Stop, NoForm, NoRegister}
 use Rattle.log_line.specs.Printed.{Allowed, Printable}
 use Rattle.log_fault.specs.declared.Stand.{Stand}
 use Rattle.log_fault.specs.declared.Spotted.{Spotted as Spot}
@@ -81,7 +81,8 @@ module _ (c : Cursor) where
   followed-says d p Done h k =
       pick-both SaidIn (eqb d 0) {a = go (refused 8 (c .at)) c} {b = turned c d p (getD (c .left) (d - 1) 0)} k (turned-says d p (getD (c .left) (d - 1) 0))
   followed-says d p (Stop n) h k = pick-both SaidIn (eqb d 0) {a = go over c} {b = go (refused 8 (c .at)) c} tt k
-  followed-says d p (Bad n) h k = k
+  followed-says d p NoForm h k = k
+  followed-says d p NoRegister h k = k
 
   read-says : (r : Reading) → ReadWithin (c .at) r → SaidIn (readStep c r)
   unfolding readStep
@@ -91,7 +92,7 @@ module _ (c : Cursor) where
 step-says : (log : List ℕ) (c : Cursor) → FoundIn (told (stepOf log c .said))
 unfolding stepOf
 step-says log c =
-    let st = standing (c .at) (loopsOpen c) in
+    let st = standing log (c .at) (loopsOpen c) in
     read-says c (readIn st log (c .at)) (read-within st log (c .at))
 
 pub found-in : (log : List ℕ) (c : Cursor) → FoundIn (nextOf log c .found)
@@ -152,7 +153,8 @@ module _ (c : Cursor) (f : CursorFits c) where
       pick-both GoFits (eqb d 0) {a = go (refused 8 (c .at)) c} {b = turned c d p (getD (c .left) (d - 1) 0)} f
       (turned-fits d p (getD (c .left) (d - 1) 0) h k (f .left .1 (d - 1)))
   followed-fits d p (Stop n) h k w = pick-both GoFits (eqb d 0) {a = go over c} {b = go (refused 8 (c .at)) c} f f
-  followed-fits d p (Bad n) h k w = f
+  followed-fits d p NoForm h k w = f
+  followed-fits d p NoRegister h k w = f
 
   read-step-fits : (r : Reading) → ReadWithin (c .at) r → GoFits (readStep c r)
   unfolding readStep
@@ -162,7 +164,7 @@ module _ (c : Cursor) (f : CursorFits c) where
 step-fits : (log : List ℕ) (c : Cursor) → CursorFits c → CursorFits (stepOf log c .state)
 unfolding stepOf
 step-fits log c f =
-    let st = standing (c .at) (loopsOpen c) in
+    let st = standing log (c .at) (loopsOpen c) in
     read-step-fits c f (readIn st log (c .at)) (read-within st log (c .at))
 
 pub next-fits : (log : List ℕ) (n : ℕ) (c : Cursor) → CursorFits c → CursorFits (nextIn (stepOf log) n c .state)
@@ -191,7 +193,8 @@ module _ (c : Cursor) where
   followed-stays d p Done =
       pick-both (Stays c) (eqb d 0) {a = go (refused 8 (c .at)) c} {b = turned c d p (getD (c .left) (d - 1) 0)} (λ e. refl) (turned-stays d p (getD (c .left) (d - 1) 0))
   followed-stays d p (Stop n) = pick-both (Stays c) (eqb d 0) {a = go over c} {b = go (refused 8 (c .at)) c} (λ e. refl) (λ e. refl)
-  followed-stays d p (Bad n) = λ e. refl
+  followed-stays d p NoForm = λ e. refl
+  followed-stays d p NoRegister = λ e. refl
 
   read-stays : (r : Reading) → Stays c (readStep c r)
   unfolding readStep
@@ -200,4 +203,4 @@ module _ (c : Cursor) where
 
 pub step-stays : (log : List ℕ) (c : Cursor) → stepOf log c .said ≡ over → stepOf log c .state ≡ c
 unfolding stepOf
-step-stays log c = read-stays c (readIn (standing (c .at) (loopsOpen c)) log (c .at))
+step-stays log c = read-stays c (readIn (standing log (c .at) (loopsOpen c)) log (c .at))

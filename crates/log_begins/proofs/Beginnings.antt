@@ -10,7 +10,7 @@ use Rattle.text.specs.Ascii.{bytes}
 use Rattle.text.specs.Decimal.{decimalText}
 use Rattle.log_line.specs.declared.Act.the-variants.{Wait, Access}
 use Rattle.log_line.specs.declared.Line.{Line}
-use Rattle.log_line.specs.declared.Line.the-variants.{Header, Machine, One, Loop, Done, Stop, Bad}
+use Rattle.log_line.specs.declared.Line.the-variants.{Header, Machine, One, Loop, Done, Stop, NoForm, NoRegister}
 use Rattle.log_line.specs.Printed.{actText, ended, lineText}
 use Rattle.log_begins.specs.declared.Keys.{Keys}
 use Rattle.log_form.specs.Forms.{along, nothing, beginsNumber}
@@ -147,7 +147,8 @@ module _ (k : Keys) (s : List ℕ) where
   complete (Stop n) a r rest e =
       any-later _ _ (any-later _ _ (any-later _ _ (any-later _ _ (any-later _ _ (any-later _ _ (any-later _ _ (any-here _ _
       (both-true _ _ a (keyed-complete (bytes "stop=") rest 0 2000000000 n stop-wide refl (omega arith) r e)))))))))
-  complete (Bad n) a r rest e = absurd r
+  complete NoForm a r rest e = absurd r
+  complete NoRegister a r rest e = absurd r
 
   pub begins-complete : Fronts k s → begins k s ≡ true
   begins-complete f = complete (f .line) (f .may) (f .right) (f .rest) (f .is)

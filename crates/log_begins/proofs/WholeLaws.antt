@@ -23,7 +23,7 @@ use Rattle.text.proofs.HexLaws.{hex-complete, hex-sound}
 use Rattle.text.proofs.KeyLaws.{starts-split}
 use Rattle.log_line.specs.declared.Act.the-variants.{Wait, Access}
 use Rattle.log_line.specs.declared.Line.{Line}
-use Rattle.log_line.specs.declared.Line.the-variants.{Header, Machine, One, Loop, Done, Stop, Bad}
+use Rattle.log_line.specs.declared.Line.the-variants.{Header, Machine, One, Loop, Done, Stop, NoForm, NoRegister}
 use Rattle.log_line.specs.Said.{counted, written, writeOf, waitOf, loopOf, stopOf, unfedLine, lineOf}
 use Rattle.log_line.specs.Printed.{actText, ended, lineText, Printable, NoFeed, empty, byte, OneLine}
 use Rattle.log_line.proofs.BodyLaws.{line-feed}
@@ -57,7 +57,7 @@ write-said r v h l = ended-said _ ∙ (body-said r v ∙ ap₂ written (hex-comp
 -- what a line of right form is read as: itself, or 4
 pub data Reads : Line → Line → Type 0 where
   itself : {l : Line} → Printable l → Reads l l
-  four : {r v : ℕ} → Reads (One (Access (Write r v))) (Bad 4)
+  four : {r v : ℕ} → Reads (One (Access (Write r v))) NoRegister
 
 pub reads : (l : Line) → RightForm l → Reads l (lineOf (lineText l))
 unfolding written
@@ -71,7 +71,8 @@ reads (One (Access Read)) p = subst (Reads (One (Access Read))) (sym (printed-re
 reads (Loop n) p = subst (Reads (Loop n)) (sym (printed-read (Loop n) p)) (itself p)
 reads Done p = subst (Reads Done) (sym (printed-read Done p)) (itself p)
 reads (Stop n) p = subst (Reads (Stop n)) (sym (printed-read (Stop n) p)) (itself p)
-reads (Bad k) p = absurd p
+reads NoForm p = absurd p
+reads NoRegister p = absurd p
 
 -- ITS TEXT IS ONE LINE
 
@@ -100,7 +101,8 @@ form-line (One (Access Read)) p = one-line (One (Access Read)) p
 form-line (Loop n) p = one-line (Loop n) p
 form-line Done p = one-line Done p
 form-line (Stop n) p = one-line (Stop n) p
-form-line (Bad k) p = absurd p
+form-line NoForm p = absurd p
+form-line NoRegister p = absurd p
 
 -- bytes that end in a line feed and stand at the front of one line are all of it
 
@@ -140,9 +142,9 @@ whole-text l s rest p f e =
 
 module _ (s : List ℕ) where
   abbrev Four : Line → Type 0
-  Four l = l ≡ Bad 4 → WriteOf s
+  Four l = l ≡ NoRegister → WriteOf s
 
-  counted-four : (f : ℕ → Line) → ((n : ℕ) → f n ≡ Bad 4 → ⊥) → (d : Number) → Four (counted f d)
+  counted-four : (f : ℕ → Line) → ((n : ℕ) → f n ≡ NoRegister → ⊥) → (d : Number) → Four (counted f d)
   unfolding counted
   counted-four f h (Is n) e = absurd (h n e)
   counted-four f h None e = absurd (let z : _≡_ {A = ℕ} 0 4 = cc in omega arith)
@@ -169,7 +171,7 @@ module _ (s : List ℕ) where
             ∙ (ap (λ (w : ℕ). take 4 v ++ (w ∷ drop 5 v)) c ∙ ap₂ (λ (w u : List ℕ). w ++ (58 ∷ u)) (x .is) (y .is)));
       }
 
-  formless-four : Four (Bad 0)
+  formless-four : Four NoForm
   formless-four e = absurd (let z : _≡_ {A = ℕ} 0 4 = cc in omega arith)
 
   write-four : (v : List ℕ) → s ≡ ended (bytes "write=" ++ v) → Four (writeOf v)
@@ -183,7 +185,7 @@ module _ (s : List ℕ) where
       q (hex 4 (take 4 v)) (hex 2 (drop 5 v)) refl refl)
       (λ e. formless-four)
 
-  plain-four : (l : Line) → (l ≡ Bad 4 → _≡_ {A = ℕ} 0 1) → Four l
+  plain-four : (l : Line) → (l ≡ NoRegister → _≡_ {A = ℕ} 0 1) → Four l
   plain-four l h e = absurd (let z = h e in omega arith)
 
   body-four : (t : List ℕ) → s ≡ ended t → Four (unfedLine t)
@@ -198,7 +200,7 @@ module _ (s : List ℕ) where
       pick-each Four (startsWith (bytes "stop=") t) (λ e. counted-four Stop (λ n z. absurd (let w : _≡_ {A = ℕ} 0 1 = cc in omega arith)) _) λ e.
       pick-each Four (exactly (bytes "machine=pal") t) (λ e. plain-four Machine (λ z. cc)) λ e. formless-four
 
-  line-four : lineOf s ≡ Bad 4 → WriteOf s
+  line-four : lineOf s ≡ NoRegister → WriteOf s
   unfolding lineOf
   line-four =
       pick-each Four (eqb (getD s (length s - 1) 0) 10)
@@ -227,7 +229,8 @@ printable-form (One (Access Read)) p = p
 printable-form (Loop n) p = p
 printable-form Done p = p
 printable-form (Stop n) p = p
-printable-form (Bad k) p = p
+printable-form NoForm p = p
+printable-form NoRegister p = p
 
 -- s is the whole text of a line of right form, line feed and all
 pub record OfForm (s : List ℕ) : Type 0 where
@@ -235,21 +238,21 @@ pub record OfForm (s : List ℕ) : Type 0 where
   pub right : RightForm line
   pub is : s ≡ lineText line
 
--- a line is read as nothing, `Bad 0`, exactly where it is not of right form
+-- a line says `NoForm` exactly where it is not of right form
 
-pub reads-of-form : (s : List ℕ) → (lineOf s ≡ Bad 0 → ⊥) → OfForm s
+pub reads-of-form : (s : List ℕ) → (lineOf s ≡ NoForm → ⊥) → OfForm s
 reads-of-form s h = go (lineOf s) refl (line-found s)
   where
     go : (l : Line) → lineOf s ≡ l → Found s l → OfForm s
     go l e (right q p) = record { line = l; right = printable-form l p; is = q }
-    go l e (fault k (inl q) b) =
-        let w = line-four s (e ∙ (b ∙ ap Bad q)) in
+    go l e (fault (inl q)) =
+        let w = line-four s (e ∙ q) in
         record { line = One (Access (Write (w .register) (w .value))); right = (w .high, w .small); is = w .is }
-    go l e (fault k (inr q) b) = absurd (h (e ∙ (b ∙ ap Bad q)))
+    go l e (fault (inr q)) = absurd (h (e ∙ q))
 
-pub of-form-reads : (s : List ℕ) → OfForm s → lineOf s ≡ Bad 0 → ⊥
+pub of-form-reads : (s : List ℕ) → OfForm s → lineOf s ≡ NoForm → ⊥
 of-form-reads s f e = go (f .line) (lineOf (lineText (f .line))) (reads (f .line) (f .right)) (sym (ap lineOf (f .is)) ∙ e)
   where
-    go : (l m : Line) → Reads l m → m ≡ Bad 0 → ⊥
+    go : (l m : Line) → Reads l m → m ≡ NoForm → ⊥
     go l m (itself p) e = subst Printable e p
-    go l m four e = let z : _≡_ {A = ℕ} 4 0 = cc in omega arith
+    go l m four e = let z : _≡_ {A = ℕ} 0 1 = cc in omega arith

@@ -6,7 +6,7 @@ use mathlib.Core.List.{List, _++_}
 use Rattle.bus.specs.declared.Access.the-variants.{Write, Read}
 use Rattle.log_line.specs.declared.Act.the-variants.{Wait, Access}
 use Rattle.log_line.specs.declared.Line.{Line}
-use Rattle.log_line.specs.declared.Line.the-variants.{Header, Machine, One, Loop, Done, Stop, Bad}
+use Rattle.log_line.specs.declared.Line.the-variants.{Header, Machine, One, Loop, Done, Stop, NoForm, NoRegister}
 use Rattle.log_line.specs.Printed.{lineText, Printable}
 use Rattle.log_begins.specs.declared.Keys.{Keys}
 
@@ -17,7 +17,8 @@ allowed k (One a) = k .acts
 allowed k (Loop n) = k .loops
 allowed k Done = k .done
 allowed k (Stop n) = k .stop
-allowed k (Bad n) = false
+allowed k NoForm = false
+allowed k NoRegister = false
 
 -- within document 01's limits, but for a write's register, which is any of four hex digits
 abbrev pub RightForm : Line → Type 0
@@ -29,7 +30,8 @@ RightForm (One (Access Read)) = Printable (One (Access Read))
 RightForm (Loop n) = Printable (Loop n)
 RightForm Done = Printable Done
 RightForm (Stop n) = Printable (Stop n)
-RightForm (Bad k) = Printable (Bad k)
+RightForm NoForm = Printable NoForm
+RightForm NoRegister = Printable NoRegister
 
 -- s stands at the front of the text of a line that is allowed and right
 pub record Fronts (k : Keys) (s : List ℕ) : Type 0 where

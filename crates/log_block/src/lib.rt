@@ -78,7 +78,8 @@ fn opened(l: Line, at: usize, next: usize) -> Step
         Line::Loop(n) => Step::Open(n, next),
         Line::Done => Step::Plain(Part::Close(at, next)),
         Line::Stop(n) => Step::Plain(Part::Halt(at, next, n)),
-        Line::Bad(k) => Step::Plain(Part::Refused(k, at)),
+        Line::NoForm => Step::Plain(Part::Refused(14, at)),
+        Line::NoRegister => Step::Plain(Part::Refused(4, at)),
     }
 }
 

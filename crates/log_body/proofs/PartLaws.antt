@@ -13,7 +13,7 @@ use denote.Enum.Declared.{tagOf}
 use Rattle.arith.specs.Pick.{pick, both}
 use Rattle.arith.proofs.PickLaws.{both-left, both-right}
 use Rattle.log_line.specs.declared.Line.{Line}
-use Rattle.log_line.specs.declared.Line.the-variants.{Header, Machine, One, Loop, Done, Stop, Bad}
+use Rattle.log_line.specs.declared.Line.the-variants.{Header, Machine, One, Loop, Done, Stop, NoForm, NoRegister}
 use Rattle.log_line.specs.Printed.{lineText}
 use Rattle.log_rules.specs.declared.Reading.{Reading}
 use Rattle.log_rules.specs.declared.Reading.the-variants.{Item, Refused}
@@ -213,7 +213,8 @@ here-by log o (Item Machine p) e h b k = absurd (let z : _≡_ {A = ℕ} 0 1 = c
 here-by log o (Item (One a) p) e h b k = absurd (let z : _≡_ {A = ℕ} 0 1 = cc in omega arith)
 here-by log o (Item Done p) e h b k = absurd (let z : _≡_ {A = ℕ} 0 1 = cc in omega arith)
 here-by log o (Item (Stop n) p) e h b k = absurd (let z : _≡_ {A = ℕ} 0 1 = cc in omega arith)
-here-by log o (Item (Bad m) p) e h b k = absurd (let z : _≡_ {A = ℕ} 0 1 = cc in omega arith)
+here-by log o (Item NoForm p) e h b k = absurd (let z : _≡_ {A = ℕ} 0 1 = cc in omega arith)
+here-by log o (Item NoRegister p) e h b k = absurd (let z : _≡_ {A = ℕ} 0 1 = cc in omega arith)
 here-by log o (Refused m p) e h b k = absurd (let z : _≡_ {A = ℕ} 0 1 = cc in omega arith)
 
 here-loop : (log : List ℕ) (o : ℕ) → checkOf log .number ≡ 0 → beginsLoop log o ≡ true → Here log o

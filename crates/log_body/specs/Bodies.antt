@@ -7,7 +7,7 @@ use lib.ListN.{length, getD, take, drop}
 use lib.Dec.{eqb}
 use Rattle.arith.specs.Pick.{pick, both, either}
 use Rattle.log_line.specs.declared.Line.{Line}
-use Rattle.log_line.specs.declared.Line.the-variants.{Header, Machine, One, Loop, Done, Stop, Bad}
+use Rattle.log_line.specs.declared.Line.the-variants.{Header, Machine, One, Loop, Done, Stop, NoForm, NoRegister}
 use Rattle.log_line.specs.Said.{lineOf}
 use Rattle.log_rules.specs.declared.Reading.{Reading}
 use Rattle.log_rules.specs.declared.Reading.the-variants.{Item, Refused}
@@ -27,7 +27,8 @@ isLoop Machine = false
 isLoop (One a) = false
 isLoop Done = false
 isLoop (Stop n) = false
-isLoop (Bad k) = false
+isLoop NoForm = false
+isLoop NoRegister = false
 
 unfoldable pub readsLoop : Reading → Bool
 readsLoop (Item l next) = isLoop l
@@ -53,7 +54,8 @@ isDone Machine = false
 isDone (One a) = false
 isDone (Loop n) = false
 isDone (Stop n) = false
-isDone (Bad k) = false
+isDone NoForm = false
+isDone NoRegister = false
 
 unfoldable pub inner : ℕ → Line → ℕ
 inner d (Loop n) = d + 1
@@ -62,7 +64,8 @@ inner d Header = d
 inner d Machine = d
 inner d (One a) = d
 inner d (Stop n) = d
-inner d (Bad k) = d
+inner d NoForm = d
+inner d NoRegister = d
 
 -- where the `done` begins that closes a loop, d loops being open inside it: the first line of ls begins at `at`
 unfoldable pub doneFrom : ℕ → ℕ → List (List ℕ) → ℕ

@@ -34,7 +34,8 @@ fn is_loop(l: Line) -> bool
         Line::One(_) => false,
         Line::Done => false,
         Line::Stop(_) => false,
-        Line::Bad(_) => false,
+        Line::NoForm => false,
+        Line::NoRegister => false,
     }
 }
 

@@ -51,10 +51,10 @@ module _ (log : List ℕ) (c : Cursor) (at d : ℕ) (s l : List ℕ) (h : At c a
   unfolding loopsOpen
   open-is = rw (h .depth, le-leb d 8 (h .low))
 
-  step-in : (x : Line) (p : ℕ) → readIn (standing at d) log at ≡ Item x p → stepOf log c ≡ followed c d p x
+  step-in : (x : Line) (p : ℕ) → readIn (standing log at d) log at ≡ Item x p → stepOf log c ≡ followed c d p x
   unfolding stepOf readStep
   step-in x p e =
-      ap₂ (λ (i k : ℕ). readStep c (readIn (standing i k) log i)) (h .place) open-is
+      ap₂ (λ (i k : ℕ). readStep c (readIn (standing log i k) log i)) (h .place) open-is
       ∙ (ap (readStep c) e ∙ ap (λ (k : ℕ). followed c k p x) open-is)
 
   step-by : (x : Line) (p : ℕ) → Goes d x → readAt log at ≡ Item x p → stepOf log c ≡ followed c d p x
@@ -237,7 +237,7 @@ headed = movedTo beginning 0 6
 headed-at : At headed 6 0 [] []
 headed-at = record { place = refl; depth = refl; low = omega arith; starts = refl; left = refl; room = refl; space = refl }
 
-machine-said : (log : List ℕ) (p : ℕ) → readIn (standing 6 0) log 6 ≡ Item Machine p → stepOf log headed ≡ go on (movedTo headed 0 p)
+machine-said : (log : List ℕ) (p : ℕ) → readIn (standing log 6 0) log 6 ≡ Item Machine p → stepOf log headed ≡ go on (movedTo headed 0 p)
 unfolding followed
 machine-said log p e = step-in log headed 6 0 [] [] headed-at Machine p e
 
@@ -253,7 +253,7 @@ module _ (log : List ℕ) (t : Tree) (p q r n : ℕ) (e : readAt log 0 ≡ Item 
       let i = lines-turns h in
       by-on (stepOf log) 2000002 (header-said log 6 e) (turns-give log t headed p q r n (rw z headed-at) h) (omega arith)
 
-  pub begin-pal : readIn (standing 6 0) log 6 ≡ Item Machine p → Gives (stepOf log) beginning (acts t) 2000002
+  pub begin-pal : readIn (standing log 6 0) log 6 ≡ Item Machine p → Gives (stepOf log) beginning (acts t) 2000002
   begin-pal m =
       let i = lines-turns h in
       by-on (stepOf log) 2000002 (header-said log 6 e)

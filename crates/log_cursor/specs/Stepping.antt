@@ -6,7 +6,7 @@ use lib.Dec.{eqb, leb, ltb}
 use Rattle.arith.specs.Pick.{pick}
 use Rattle.log_line.specs.declared.Act.{Act}
 use Rattle.log_line.specs.declared.Line.{Line}
-use Rattle.log_line.specs.declared.Line.the-variants.{Header, Machine, One, Loop, Done, Stop, Bad}
+use Rattle.log_line.specs.declared.Line.the-variants.{Header, Machine, One, Loop, Done, Stop, NoForm, NoRegister}
 use Rattle.log_rules.specs.declared.Reading.{Reading}
 use Rattle.log_rules.specs.declared.Reading.the-variants.{Item, Refused}
 use Rattle.log_rules.specs.Reading.{standing, readIn}
@@ -45,6 +45,13 @@ foundPlace Given.Moved = 0
 foundPlace Given.End = 0
 foundPlace (Given.Refused k p) = p
 
+-- and its value, the act
+abbrev pub foundActs : Given → List Act
+foundActs (Given.Act a) = a ∷ []
+foundActs Given.Moved = []
+foundActs Given.End = []
+foundActs (Given.Refused k p) = []
+
 -- at a log's beginning
 abbrev pub beginning : Cursor
 beginning =
@@ -76,7 +83,7 @@ unfoldable pub turned : Cursor → ℕ → ℕ → ℕ → Go
 turned c d p n = pick (eqb n 0) (go on (movedTo c (d - 1) p)) (go on (again c d n))
 
 -- with d loops open, the line at the cursor says l and the next one begins at p; a line that is right there opens no ninth loop, closes one
--- that is open, and stops where none is
+-- that is open, stops where none is, and is not at fault itself
 unfoldable pub followed : Cursor → ℕ → ℕ → Line → Go
 followed c d p Header = go on (movedTo c d p)
 followed c d p Machine = go on (movedTo c d p)
@@ -84,7 +91,8 @@ followed c d p (One a) = go (says a) (movedTo c d p)
 followed c d p (Loop n) = pick (ltb d 8) (go on (entered c d p n)) (go (refused 7 (c .at)) c)
 followed c d p Done = pick (eqb d 0) (go (refused 8 (c .at)) c) (turned c d p (getD (c .left) (d - 1) 0))
 followed c d p (Stop n) = pick (eqb d 0) (go over c) (go (refused 8 (c .at)) c)
-followed c d p (Bad k) = go (refused k (c .at)) c
+followed c d p NoForm = go (refused 14 (c .at)) c
+followed c d p NoRegister = go (refused 4 (c .at)) c
 
 -- what was read at the cursor
 unfoldable pub readStep : Cursor → Reading → Go
@@ -93,7 +101,7 @@ readStep c (Refused k p) = go (refused k p) c
 
 -- one step: at most one line
 unfoldable pub stepOf : List ℕ → Cursor → Go
-stepOf log c = readStep c (readIn (standing (c .at) (loopsOpen c)) log (c .at))
+stepOf log c = readStep c (readIn (standing log (c .at) (loopsOpen c)) log (c .at))
 
 -- the refusal of a line that was not read; an item is none
 abbrev pub refusedBy : Cursor → Reading → Go

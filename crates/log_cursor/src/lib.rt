@@ -200,8 +200,12 @@ fn follow(c: Cursor, d: usize, next: usize, l: Line) -> Stepped
         Line::Loop(n) => at_loop(c, d, next, n),
         Line::Done => at_done(c, d, next),
         Line::Stop(n) => at_stop(c, d, next, n),
-        Line::Bad(k) => Stepped {
-            found: Given::Refused(k, c.at),
+        Line::NoForm => Stepped {
+            found: Given::Refused(14, c.at),
+            cursor: c,
+        },
+        Line::NoRegister => Stepped {
+            found: Given::Refused(4, c.at),
             cursor: c,
         },
     }

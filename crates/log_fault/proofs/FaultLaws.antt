@@ -12,10 +12,11 @@ use lib.Dec.{eqb}
 use Rattle.arith.specs.Pick.{pick, both}
 use Rattle.arith.proofs.PickLaws.{pick-each}
 use Rattle.log_line.specs.declared.Line.{Line}
-use Rattle.log_line.specs.declared.Line.the-variants.{Header, Machine, One, Loop, Done, Stop, Bad}
+use Rattle.log_line.specs.declared.Line.the-variants.{Header, Machine, One, Loop, Done, Stop, NoForm, NoRegister}
 use Rattle.log_line.specs.Said.{lineOf}
 use Rattle.log_line.specs.Printed.{ended, lineText, Printable}
 use Rattle.log_line.proofs.BodyLaws.{line-other}
+use Rattle.log_line.proofs.Forth.{AtFault}
 use Rattle.log_line.proofs.LineLaws.{read-printed, printed-read}
 use Rattle.log_fault.specs.declared.Stand.{Stand}
 use Rattle.log_fault.specs.declared.Stand.the-variants.{First, Among, Alone}
@@ -64,7 +65,7 @@ came st s = go (wholeOf (keysOf st) (lineOf s)) refl
 -- WHAT STANDS AT THE START OF A LINE BY ITSELF
 
 pub data Starts (k : Keys) (l : Line) (n : ℕ) : Type 0 where
-  by-four : n ≡ 4 → l ≡ Bad 4 → k .acts ≡ true → Starts k l n
+  by-four : n ≡ 4 → l ≡ NoRegister → k .acts ≡ true → Starts k l n
   by-seven : n ≡ 7 → (m : ℕ) → l ≡ Loop m → k .loops ≡ false → k .log ≡ false → Starts k l n
   by-done : n ≡ 8 → l ≡ Done → k .done ≡ false → k .log ≡ false → Starts k l n
   by-stop : n ≡ 8 → (m : ℕ) → l ≡ Stop m → k .stop ≡ false → k .log ≡ false → Starts k l n
@@ -96,12 +97,12 @@ starts k (Stop m) n e = go (k .stop) (k .log) refl refl e
     go true b p q e = zero-one (cc)
     go false true p q e = zero-one (cc)
     go false false p q e = by-stop (cc) m refl p q
-starts k (Bad m) n e = go (eqb m 4) (k .acts) refl refl e
+starts k NoForm n e = zero-one (cc)
+starts k NoRegister n e = go (k .acts) refl e
   where
-    go : (a b : Bool) → eqb m 4 ≡ a → k .acts ≡ b → pick (both a b) (Start 4) Other ≡ Start n → Starts k (Bad m) n
-    go true true p q e = by-four (cc) (ap Bad (eqb-true m 4 p)) q
-    go true false p q e = zero-one (cc)
-    go false b p q e = zero-one (cc)
+    go : (b : Bool) → k .acts ≡ b → pick b (Start 4) Other ≡ Start n → Starts k NoRegister n
+    go true q e = by-four (cc) refl q
+    go false q e = zero-one (cc)
 
 pub starts-small : (k : Keys) (l : Line) (n : ℕ) → wholeOf k l ≡ Start n → n ≤ 8
 starts-small k l n e = go (starts k l n e)
@@ -115,46 +116,51 @@ starts-small k l n e = go (starts k l n e)
 -- a line that is fine is allowed, and no line at fault
 pub record Fair (k : Keys) (l : Line) : Type 0 where
   pub may : allowed k l ≡ true
-  pub sound : (n : ℕ) → l ≡ Bad n → ⊥
+  pub sound : AtFault l → ⊥
+
+free : {l : Line} → (l ≡ NoRegister → ⊥) → (l ≡ NoForm → ⊥) → AtFault l → ⊥
+free f g (inl e) = f e
+free f g (inr e) = g e
 
 pub fair : (k : Keys) (l : Line) → wholeOf k l ≡ Fine → Fair k l
 unfolding wholeOf allowed
 fair k Header e = go (k .log) refl e
   where
     go : (b : Bool) → k .log ≡ b → pick b Fine Other ≡ Fine → Fair k Header
-    go true q e = record { may = q; sound = λ n z. zero-one (cc) }
+    go true q e = record { may = q; sound = free (λ z. zero-one (cc)) (λ z. zero-one (cc)) }
     go false q e = zero-one (cc)
 fair k Machine e = go (k .machine) refl e
   where
     go : (b : Bool) → k .machine ≡ b → pick b Fine Other ≡ Fine → Fair k Machine
-    go true q e = record { may = q; sound = λ n z. zero-one (cc) }
+    go true q e = record { may = q; sound = free (λ z. zero-one (cc)) (λ z. zero-one (cc)) }
     go false q e = zero-one (cc)
 fair k (One a) e = go (k .acts) refl e
   where
     go : (b : Bool) → k .acts ≡ b → pick b Fine Other ≡ Fine → Fair k (One a)
-    go true q e = record { may = q; sound = λ n z. zero-one (cc) }
+    go true q e = record { may = q; sound = free (λ z. zero-one (cc)) (λ z. zero-one (cc)) }
     go false q e = zero-one (cc)
 fair k (Loop m) e = go (k .loops) (k .log) refl e
   where
     go : (b c : Bool) → k .loops ≡ b → pick b Fine (pick (not c) (Start 7) Other) ≡ Fine → Fair k (Loop m)
-    go true c q e = record { may = q; sound = λ n z. zero-one (cc) }
+    go true c q e = record { may = q; sound = free (λ z. zero-one (cc)) (λ z. zero-one (cc)) }
     go false true q e = zero-one (cc)
     go false false q e = zero-one (cc)
 fair k Done e = go (k .done) (k .log) refl e
   where
     go : (b c : Bool) → k .done ≡ b → pick b Fine (pick (not c) (Start 8) Other) ≡ Fine → Fair k Done
-    go true c q e = record { may = q; sound = λ n z. zero-one (cc) }
+    go true c q e = record { may = q; sound = free (λ z. zero-one (cc)) (λ z. zero-one (cc)) }
     go false true q e = zero-one (cc)
     go false false q e = zero-one (cc)
 fair k (Stop m) e = go (k .stop) (k .log) refl e
   where
     go : (b c : Bool) → k .stop ≡ b → pick b Fine (pick (not c) (Start 8) Other) ≡ Fine → Fair k (Stop m)
-    go true c q e = record { may = q; sound = λ n z. zero-one (cc) }
+    go true c q e = record { may = q; sound = free (λ z. zero-one (cc)) (λ z. zero-one (cc)) }
     go false true q e = zero-one (cc)
     go false false q e = zero-one (cc)
-fair k (Bad m) e = go (both (eqb m 4) (k .acts)) e
+fair k NoForm e = zero-one (cc)
+fair k NoRegister e = go (k .acts) e
   where
-    go : (b : Bool) → pick b (Start 4) Other ≡ Fine → Fair k (Bad m)
+    go : (b : Bool) → pick b (Start 4) Other ≡ Fine → Fair k NoRegister
     go true e = zero-one (cc)
     go false e = zero-one (cc)
 
@@ -166,7 +172,8 @@ may-fine k (One a) e = rw e
 may-fine k (Loop n) e = rw e
 may-fine k Done e = rw e
 may-fine k (Stop n) e = rw e
-may-fine k (Bad n) e = absurd (false≢true e)
+may-fine k NoForm e = absurd (false≢true e)
+may-fine k NoRegister e = absurd (false≢true e)
 
 -- RIGHT: exactly the text of a line that is allowed and within document 01's limits
 
@@ -314,7 +321,7 @@ module _ (st : Stand) (s : List ℕ) where
 pub record Four (k : Keys) (s : List ℕ) (i : ℕ) : Type 0 where
   pub place : i ≡ 0
   pub may : k .acts ≡ true
-  pub write : lineOf s ≡ Bad 4
+  pub write : lineOf s ≡ NoRegister
 
 pub record Seven (st : Stand) (s : List ℕ) (i : ℕ) : Type 0 where
   pub place : i ≡ 0
@@ -401,7 +408,7 @@ module _ (st : Stand) (s : List ℕ) (i : ℕ) where
 -- and the other way round
 
 module _ (s : List ℕ) where
-  pub line-four : (st : Stand) → keysOf st .acts ≡ true → lineOf s ≡ Bad 4 → spotOf st s ≡ Wrong 4 0
+  pub line-four : (st : Stand) → keysOf st .acts ≡ true → lineOf s ≡ NoRegister → spotOf st s ≡ Wrong 4 0
   unfolding spotOf spotted wholeOf
   line-four st a e = rw (e, a)
 

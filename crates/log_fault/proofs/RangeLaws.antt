@@ -19,7 +19,7 @@ use Rattle.text.proofs.KeyLaws.{starts-split, starts-length}
 use Rattle.text.proofs.DecimalLaws.{decimal-sound}
 use Rattle.log_line.specs.declared.Act.the-variants.{Wait, Access}
 use Rattle.log_line.specs.declared.Line.{Line}
-use Rattle.log_line.specs.declared.Line.the-variants.{Header, Machine, One, Loop, Done, Stop, Bad}
+use Rattle.log_line.specs.declared.Line.the-variants.{Header, Machine, One, Loop, Done, Stop, NoForm, NoRegister}
 use Rattle.log_line.specs.Said.{lineOf}
 use Rattle.log_line.specs.Printed.{actText, ended, lineText}
 use Rattle.log_fault.specs.declared.Stand.{Stand}
@@ -70,7 +70,8 @@ module _ (k : Keys) where
   wait-only (Loop n) x e a = absurd (let z : _≡_ {A = ℕ} 119 108 = cc in omega arith)
   wait-only Done x e a = absurd (let z : _≡_ {A = ℕ} 119 100 = cc in omega arith)
   wait-only (Stop n) x e a = absurd (let z : _≡_ {A = ℕ} 119 115 = cc in omega arith)
-  wait-only (Bad n) x e a = absurd (false≢true a)
+  wait-only NoForm x e a = absurd (false≢true a)
+  wait-only NoRegister x e a = absurd (false≢true a)
 
   loop-only : (l : Line) (x : List ℕ) → bytes "loop=" ++ x ≡ lineText l → allowed k l ≡ true → k .loops ≡ true
   unfolding lineText actText ended allowed
@@ -82,7 +83,8 @@ module _ (k : Keys) where
   loop-only (Loop n) x e a = a
   loop-only Done x e a = absurd (let z : _≡_ {A = ℕ} 108 100 = cc in omega arith)
   loop-only (Stop n) x e a = absurd (let z : _≡_ {A = ℕ} 108 115 = cc in omega arith)
-  loop-only (Bad n) x e a = absurd (false≢true a)
+  loop-only NoForm x e a = absurd (false≢true a)
+  loop-only NoRegister x e a = absurd (false≢true a)
 
   stop-only : (l : Line) (x : List ℕ) → bytes "stop=" ++ x ≡ lineText l → allowed k l ≡ true → k .stop ≡ true
   unfolding lineText actText ended allowed
@@ -94,7 +96,8 @@ module _ (k : Keys) where
   stop-only (Loop n) x e a = absurd (let z : _≡_ {A = ℕ} 115 108 = cc in omega arith)
   stop-only Done x e a = absurd (let z : _≡_ {A = ℕ} 115 100 = cc in omega arith)
   stop-only (Stop n) x e a = a
-  stop-only (Bad n) x e a = absurd (false≢true a)
+  stop-only NoForm x e a = absurd (false≢true a)
+  stop-only NoRegister x e a = absurd (false≢true a)
 
 -- A DECIMAL KEY BEFORE THE FIRST BYTE AT FAULT
 

@@ -8,7 +8,7 @@ use borrow.Author.Tests.{ltb-true, eqb-true, lt-ltb, eq-eqb}
 use lib.ListN.{length}
 use Rattle.log_line.specs.declared.Act.{Act}
 use Rattle.log_line.specs.declared.Line.{Line}
-use Rattle.log_line.specs.declared.Line.the-variants.{Header, Machine, One, Loop, Done, Stop, Bad}
+use Rattle.log_line.specs.declared.Line.the-variants.{Header, Machine, One, Loop, Done, Stop, NoForm, NoRegister}
 use Rattle.log_line.specs.Said.{lineOf}
 use Rattle.log_fault.specs.declared.Stand.{Stand}
 use Rattle.log_fault.specs.declared.Stand.the-variants.{First, Among, Alone}
@@ -67,7 +67,8 @@ lets-by m d (One x) a = turn act
 lets-by m d (Loop n) a = turn (opens (ltb-true d 8 a))
 lets-by m d Done a = turn (closes (ltb-true 0 d a))
 lets-by m d (Stop n) a = turn (ends (eqb-true d 0 a))
-lets-by m d (Bad n) a = absurd (false≢true a)
+lets-by m d NoForm a = absurd (false≢true a)
+lets-by m d NoRegister a = absurd (false≢true a)
 
 pub lets : (m : Bool) (d : ℕ) (s : List ℕ) (l : Line) → spotOf (Among m d) s ≡ Right l → Lets m d l
 lets m d s l e = lets-by m d l (told (Among m d) s l e .may)
@@ -92,7 +93,8 @@ first-by (One x) a = absurd (false≢true a)
 first-by (Loop n) a = absurd (false≢true a)
 first-by Done a = absurd (false≢true a)
 first-by (Stop n) a = absurd (false≢true a)
-first-by (Bad n) a = absurd (false≢true a)
+first-by NoForm a = absurd (false≢true a)
+first-by NoRegister a = absurd (false≢true a)
 
 pub first-header : (s : List ℕ) (l : Line) → spotOf First s ≡ Right l → l ≡ Header
 first-header s l e = first-by l (told First s l e .may)

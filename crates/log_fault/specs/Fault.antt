@@ -6,7 +6,7 @@ use lib.ListN.{length, take}
 use lib.Dec.{eqb}
 use Rattle.arith.specs.Pick.{pick, both}
 use Rattle.log_line.specs.declared.Line.{Line}
-use Rattle.log_line.specs.declared.Line.the-variants.{Header, Machine, One, Loop, Done, Stop, Bad}
+use Rattle.log_line.specs.declared.Line.the-variants.{Header, Machine, One, Loop, Done, Stop, NoForm, NoRegister}
 use Rattle.log_line.specs.Said.{lineOf}
 use Rattle.log_form.specs.Forms.{reach}
 use Rattle.log_begins.specs.declared.Keys.{Keys}
@@ -27,7 +27,8 @@ wholeOf k (One a) = pick (k .acts) Fine Other
 wholeOf k (Loop n) = pick (k .loops) Fine (pick (not (k .log)) (Start 7) Other)
 wholeOf k Done = pick (k .done) Fine (pick (not (k .log)) (Start 8) Other)
 wholeOf k (Stop n) = pick (k .stop) Fine (pick (not (k .log)) (Start 8) Other)
-wholeOf k (Bad n) = pick (both (eqb n 4) (k .acts)) (Start 4) Other
+wholeOf k NoForm = Other
+wholeOf k NoRegister = pick (k .acts) (Start 4) Other
 
 -- i is the first byte with which no allowed right line begins. 17: "line feed missing", the log ends where what stands could still begin such a line;
 -- 14: "unknown key", "a fault up to the `=` is the key's"; 16: "value outside its range", at "the value's first digit"; 15: "value not of its shape"

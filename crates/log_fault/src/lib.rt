@@ -112,7 +112,8 @@ fn as_whole(k: Keys, l: Line) -> Whole
         Line::Loop(_) => fine_if(k.loops, start_if(!k.log, 7)),
         Line::Done => fine_if(k.done, start_if(!k.log, 8)),
         Line::Stop(_) => fine_if(k.stop, start_if(!k.log, 8)),
-        Line::Bad(n) => start_if(arith::both_of(n == 4, k.acts), 4),
+        Line::NoForm => Whole::Other,
+        Line::NoRegister => start_if(k.acts, 4),
     }
 }
 

@@ -12,7 +12,7 @@ use Rattle.text.specs.Decimal.{decimalText}
 use Rattle.log_rules.specs.declared.Reading.{Reading}
 use Rattle.log_rules.specs.declared.Reading.the-variants.{Item, Refused}
 use Rattle.log_line.specs.declared.Line.{Line}
-use Rattle.log_line.specs.declared.Line.the-variants.{Header, Machine, One, Loop, Done, Stop, Bad}
+use Rattle.log_line.specs.declared.Line.the-variants.{Header, Machine, One, Loop, Done, Stop, NoForm, NoRegister}
 use Rattle.log_rules.specs.Reading.{readAt}
 use Rattle.log_rules.proofs.PlaceLaws.{had-at, next-le, next-pos}
 use Rattle.log_fold.specs.Moves.{plainMove, loopMove, actLine, actEndBy, actEnd, copiesAt, suitsOf, chosenIn, loopText, moveText}
@@ -74,7 +74,8 @@ module _ (log : List ℕ) (at : ℕ) (h : at ≤ length log) where
   act-line-in (Loop n) next a b = (omega arith, h)
   act-line-in Done next a b = (omega arith, h)
   act-line-in (Stop n) next a b = (omega arith, h)
-  act-line-in (Bad n) next a b = (omega arith, h)
+  act-line-in NoForm next a b = (omega arith, h)
+  act-line-in NoRegister next a b = (omega arith, h)
 
   act-by-in : (r : Reading) → readAt log at ≡ r → (at ≤ actEndBy at r) × (actEndBy at r ≤ length log)
   act-by-in (Item l next) e =

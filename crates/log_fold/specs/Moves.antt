@@ -9,7 +9,7 @@ use Rattle.arith.specs.Pick.{pick, both}
 use Rattle.text.specs.Key.{startsWith}
 use Rattle.text.specs.Decimal.{decimalText}
 use Rattle.log_line.specs.declared.Line.{Line}
-use Rattle.log_line.specs.declared.Line.the-variants.{Header, Machine, One, Loop, Done, Stop, Bad}
+use Rattle.log_line.specs.declared.Line.the-variants.{Header, Machine, One, Loop, Done, Stop, NoForm, NoRegister}
 use Rattle.log_line.specs.Printed.{lineText}
 use Rattle.log_rules.specs.declared.Reading.{Reading}
 use Rattle.log_rules.specs.declared.Reading.the-variants.{Item, Refused}
@@ -33,7 +33,8 @@ actLine at next (One a) = next
 actLine at next (Loop n) = at
 actLine at next Done = at
 actLine at next (Stop n) = at
-actLine at next (Bad k) = at
+actLine at next NoForm = at
+actLine at next NoRegister = at
 
 abbrev pub actEndBy : ℕ → Reading → ℕ
 actEndBy at (Item l next) = actLine at next l
@@ -96,7 +97,8 @@ lineMove log at k next (One a) = chosenIn 16 log at k next at
 lineMove log at k next (Loop n) = plainMove (blockEnd next (blockAnswer (readBlock log next 1)))
 lineMove log at k next Done = plainMove next
 lineMove log at k next (Stop n) = plainMove next
-lineMove log at k next (Bad j) = plainMove next
+lineMove log at k next NoForm = plainMove next
+lineMove log at k next NoRegister = plainMove next
 
 abbrev pub moveBy : List ℕ → ℕ → ℕ → Reading → Move
 moveBy log at k (Item l next) = lineMove log at k next l

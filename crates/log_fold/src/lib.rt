@@ -58,7 +58,8 @@ fn act_line(at: usize, next: usize, l: Line) -> usize
         Line::Loop(_) => at,
         Line::Done => at,
         Line::Stop(_) => at,
-        Line::Bad(_) => at,
+        Line::NoForm => at,
+        Line::NoRegister => at,
     }
 }
 
@@ -200,7 +201,8 @@ fn line_move(log: &[u8], at: usize, k: u64, next: usize, l: Line, marks: &mut [u
         Line::Loop(_) => plain(block_end(read_block(log, next, 1), next)),
         Line::Done => plain(next),
         Line::Stop(_) => plain(next),
-        Line::Bad(_) => plain(next),
+        Line::NoForm => plain(next),
+        Line::NoRegister => plain(next),
     }
 }
 

@@ -14,7 +14,7 @@ use Rattle.arith.specs.Pick.{pick}
 use Rattle.log_line.specs.declared.Act.{Act}
 use Rattle.log_line.specs.declared.Act.the-variants.{Wait}
 use Rattle.log_line.specs.declared.Line.{Line}
-use Rattle.log_line.specs.declared.Line.the-variants.{Header, Machine, One, Loop, Done, Stop, Bad}
+use Rattle.log_line.specs.declared.Line.the-variants.{Header, Machine, One, Loop, Done, Stop, NoForm, NoRegister}
 use Rattle.log_rules.specs.declared.Reading.{Reading}
 use Rattle.log_rules.specs.declared.Reading.the-variants.{Item}
 use Rattle.log_rules.specs.declared.Block.{Block}
@@ -102,7 +102,8 @@ Next log i d r (Item Header p) = ⊥
 Next log i d r (Item Machine p) = ⊥
 Next log i d r (Item Done p) = ⊥
 Next log i d r (Item (Stop n) p) = ⊥
-Next log i d r (Item (Bad k) p) = ⊥
+Next log i d r (Item NoForm p) = ⊥
+Next log i d r (Item NoRegister p) = ⊥
 Next log i d r (Reading.Refused k p) = ⊥
 
 next-by : {log : List ℕ} {i d : ℕ} {t : Tree} {e : Ending} (r : ℕ) → r ≤ 1000000 → r < length (actsAt log i d) → Reads log i d t e → Next log i d r (readAt log i)
@@ -132,11 +133,12 @@ inside-lost (Stopped p q m t) n from d r o = refl
 inside-lost (Block.Refused k p) n from d r o = refl
 
 -- what `match` knows of a line that is neither an act nor a loop
-pub next-other : (log : List ℕ) (i d r : ℕ) (l : Line) (p : ℕ) → OneOf (0 ∷ 1 ∷ 4 ∷ 5 ∷ 6 ∷ []) (tagOf Rattle.log_line.proofs.Line.the-type l) → Next log i d r (Item l p) → ⊥
+pub next-other : (log : List ℕ) (i d r : ℕ) (l : Line) (p : ℕ) → OneOf (0 ∷ 1 ∷ 4 ∷ 5 ∷ 6 ∷ 7 ∷ []) (tagOf Rattle.log_line.proofs.Line.the-type l) → Next log i d r (Item l p) → ⊥
 next-other log i d r Header p o h = h
 next-other log i d r Machine p o h = h
-next-other log i d r (One a) p o h = miss (0 ∷ 1 ∷ 4 ∷ 5 ∷ 6 ∷ []) 2 tt o
-next-other log i d r (Loop n) p o h = miss (0 ∷ 1 ∷ 4 ∷ 5 ∷ 6 ∷ []) 3 tt o
+next-other log i d r (One a) p o h = miss (0 ∷ 1 ∷ 4 ∷ 5 ∷ 6 ∷ 7 ∷ []) 2 tt o
+next-other log i d r (Loop n) p o h = miss (0 ∷ 1 ∷ 4 ∷ 5 ∷ 6 ∷ 7 ∷ []) 3 tt o
 next-other log i d r Done p o h = h
 next-other log i d r (Stop n) p o h = h
-next-other log i d r (Bad k) p o h = h
+next-other log i d r NoForm p o h = h
+next-other log i d r NoRegister p o h = h

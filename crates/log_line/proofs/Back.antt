@@ -23,7 +23,7 @@ use Rattle.text.proofs.DecimalLaws.{decimal-complete}
 use Rattle.text.proofs.HexLaws.{hex-complete}
 use Rattle.log_line.specs.declared.Act.the-variants.{Wait, Access}
 use Rattle.log_line.specs.declared.Line.{Line}
-use Rattle.log_line.specs.declared.Line.the-variants.{Header, Machine, One, Loop, Done, Stop, Bad}
+use Rattle.log_line.specs.declared.Line.the-variants.{Header, Machine, One, Loop, Done, Stop, NoForm, NoRegister}
 use Rattle.log_line.specs.Said.{counted, written, writeOf, waitOf, loopOf, stopOf, unfedLine, lineOf}
 use Rattle.log_line.specs.Printed.{actText, ended, lineText, Printable}
 use Rattle.log_line.proofs.BodyLaws.{counted-is, line-feed}
@@ -103,4 +103,5 @@ read-back (One (Access Read)) p = ended-said _ ∙ read-said
 read-back (Loop n) p = ended-said _ ∙ loop-said n (p .0) (p .1)
 read-back Done p = ended-said _ ∙ done-said
 read-back (Stop n) p = ended-said _ ∙ stop-said n p
-read-back (Bad k) p = absurd p
+read-back NoForm p = absurd p
+read-back NoRegister p = absurd p

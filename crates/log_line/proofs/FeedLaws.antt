@@ -15,7 +15,7 @@ use Rattle.text.specs.Hex.{hexByte, hexText}
 use Rattle.log_line.specs.declared.Act.{Act}
 use Rattle.log_line.specs.declared.Act.the-variants.{Wait, Access}
 use Rattle.log_line.specs.declared.Line.{Line}
-use Rattle.log_line.specs.declared.Line.the-variants.{Header, Machine, One, Loop, Done, Stop, Bad}
+use Rattle.log_line.specs.declared.Line.the-variants.{Header, Machine, One, Loop, Done, Stop, NoForm, NoRegister}
 use Rattle.log_line.specs.Printed.{actText, ended, lineText, Printable, NoFeed, empty, byte, OneLine}
 
 -- of bytes that are written out, by a test
@@ -87,4 +87,5 @@ text-line (One a) p = ended-line _ (act-clear a)
 text-line (Loop n) p = ended-line _ (joined (bytes "loop=") (decimalText n) (tested (bytes "loop=") refl) (decimal-clear n))
 text-line Done p = ended-line _ (tested (bytes "done=loop") refl)
 text-line (Stop n) p = ended-line _ (joined (bytes "stop=") (decimalText n) (tested (bytes "stop=") refl) (decimal-clear n))
-text-line (Bad k) p = absurd p
+text-line NoForm p = absurd p
+text-line NoRegister p = absurd p

@@ -26,19 +26,23 @@ use Rattle.text.proofs.HexLaws.{hex-sound}
 use Rattle.text.proofs.KeyLaws.{starts-split, exactly-is}
 use Rattle.log_line.specs.declared.Act.the-variants.{Wait, Access}
 use Rattle.log_line.specs.declared.Line.{Line}
-use Rattle.log_line.specs.declared.Line.the-variants.{Header, Machine, One, Loop, Done, Stop, Bad}
+use Rattle.log_line.specs.declared.Line.the-variants.{Header, Machine, One, Loop, Done, Stop, NoForm, NoRegister}
 use Rattle.log_line.specs.Said.{counted, written, writeOf, waitOf, loopOf, stopOf, unfedLine, lineOf}
 use Rattle.log_line.specs.Printed.{actText, ended, lineText, Printable}
 
+-- a line that is not right by itself: a write to no register, or one not of the form
+abbrev pub AtFault : Line → Type 0
+AtFault l = (l ≡ NoRegister) ⊎ (l ≡ NoForm)
+
 pub data Found (s : List ℕ) (l : Line) : Type 0 where
   right : s ≡ lineText l → Printable l → Found s l
-  fault : (k : ℕ) → (k ≡ 4) ⊎ (k ≡ 0) → l ≡ Bad k → Found s l
+  fault : AtFault l → Found s l
 
-formless : (s : List ℕ) → Found s (Bad 0)
-formless s = fault 0 (inr refl) refl
+formless : (s : List ℕ) → Found s NoForm
+formless s = fault (inr refl)
 
-four : (s : List ℕ) → Found s (Bad 4)
-four s = fault 4 (inl refl) refl
+four : (s : List ℕ) → Found s NoRegister
+four s = fault (inl refl)
 
 -- a number behind a key
 number-found : (s v : List ℕ) (lo hi : ℕ) (f : ℕ → Line) → hi < 10 ^ 10

@@ -4,35 +4,25 @@ use mathlib.Core.List.{List}
 use mathlib.Core.Logic.{_⊎_}
 use Prim.Native.Nat.{ℕ}
 use Rattle.log_line.specs.declared.Line.{Line}
-use Rattle.log_line.specs.declared.Line.the-variants.{Bad}
+use Rattle.log_line.specs.declared.Line.the-variants.{NoForm, NoRegister}
 use Rattle.log_line.specs.Said.{lineOf}
 use Rattle.log_line.specs.Printed.{lineText, Printable, OneLine}
 use Rattle.log_line.proofs.Back.{read-back}
 use Rattle.log_line.proofs.FeedLaws.{text-line}
-use Rattle.log_line.proofs.Forth.{Found, right, fault, line-found}
+use Rattle.log_line.proofs.Forth.{AtFault, Found, right, fault, line-found}
 
 -- what is printed is read back as that line
 pub printed-read : (l : Line) → Printable l → lineOf (lineText l) ≡ l
 printed-read = read-back
 
 -- what is read is what is printed
-pub read-printed : (s : List ℕ) (l : Line) → lineOf s ≡ l → ((k : ℕ) → l ≡ Bad k → ⊥) → (s ≡ lineText l) × Printable l
+pub read-printed : (s : List ℕ) (l : Line) → lineOf s ≡ l → (AtFault l → ⊥) → (s ≡ lineText l) × Printable l
 read-printed s l e not-bad = go (lineOf s) e (line-found s)
   where
     go : (m : Line) → m ≡ l → Found s m → (s ≡ lineText l) × Printable l
     go m q (right t p) = (t ∙ ap lineText q, subst Printable q p)
-    go m q (fault k h b) = absurd (not-bad k (sym q ∙ b))
+    go m q (fault h) = absurd (not-bad (subst AtFault q h))
 
 -- a line's text is one line
 pub one-line : (l : Line) → Printable l → OneLine (lineText l)
 one-line = text-line
-
--- a line that is not right by itself is `Bad 4`, a write to no register, or `Bad 0`, not of the form
-pub bad-number : (s : List ℕ) (k : ℕ) → lineOf s ≡ Bad k → (k ≡ 4) ⊎ (k ≡ 0)
-bad-number s k e = go (lineOf s) e (line-found s)
-  where
-    go : (m : Line) → m ≡ Bad k → Found s m → (k ≡ 4) ⊎ (k ≡ 0)
-    go m q (right t p) = absurd (subst Printable q p)
-    go m q (fault j h b) =
-        let same : j ≡ k = cc in
-        subst (λ (x : ℕ). (x ≡ 4) ⊎ (x ≡ 0)) same h

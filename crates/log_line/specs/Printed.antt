@@ -11,7 +11,7 @@ use Rattle.text.specs.Hex.{hexText}
 use Rattle.log_line.specs.declared.Act.{Act}
 use Rattle.log_line.specs.declared.Act.the-variants.{Wait, Access}
 use Rattle.log_line.specs.declared.Line.{Line}
-use Rattle.log_line.specs.declared.Line.the-variants.{Header, Machine, One, Loop, Done, Stop, Bad}
+use Rattle.log_line.specs.declared.Line.the-variants.{Header, Machine, One, Loop, Done, Stop, NoForm, NoRegister}
 
 -- an act, without its line feed
 unfoldable pub actText : Act → List ℕ
@@ -31,7 +31,8 @@ lineText (One a) = ended (actText a)
 lineText (Loop n) = ended (bytes "loop=" ++ decimalText n)
 lineText Done = ended (bytes "done=loop")
 lineText (Stop n) = ended (bytes "stop=" ++ decimalText n)
-lineText (Bad k) = []
+lineText NoForm = []
+lineText NoRegister = []
 
 -- an act within document 01's limits
 abbrev pub Allowed : Act → Type 0
@@ -47,7 +48,8 @@ Printable (One a) = Allowed a
 Printable (Loop n) = (2 ≤ n) × (n ≤ 255)
 Printable Done = Unit {0}
 Printable (Stop n) = n ≤ 2000000000
-Printable (Bad k) = ⊥
+Printable NoForm = ⊥
+Printable NoRegister = ⊥
 
 -- bytes of which none is a line feed
 pub data NoFeed : List ℕ → Type 0 where

@@ -17,25 +17,25 @@ use Rattle.text.specs.declared.Number.{Number}
 use Rattle.text.specs.declared.Number.the-variants.{Is, None}
 use Rattle.log_line.specs.declared.Act.the-variants.{Wait, Access}
 use Rattle.log_line.specs.declared.Line.{Line}
-use Rattle.log_line.specs.declared.Line.the-variants.{Header, Machine, One, Loop, Done, Stop, Bad}
+use Rattle.log_line.specs.declared.Line.the-variants.{Header, Machine, One, Loop, Done, Stop, NoForm, NoRegister}
 
 -- a number that was read as what it stands for; with none the line is not of the form
 unfoldable pub counted : (ℕ → Line) → Number → Line
 counted f (Is n) = f n
-counted f None = Bad 0
+counted f None = NoForm
 
 -- refusal 4: "register not among $4000..$4013, $4015, $4017"
 unfoldable pub written : Number → Number → Line
-written None v = Bad 0
-written (Is r) None = Bad 0
-written (Is r) (Is v) = pick (isRegister r) (One (Access (Write r v))) (Bad 4)
+written None v = NoForm
+written (Is r) None = NoForm
+written (Is r) (Is v) = pick (isRegister r) (One (Access (Write r v))) NoRegister
 
 -- RRRR:VV of `write=RRRR:VV` (58 is the colon)
 unfoldable pub writeOf : List ℕ → Line
 writeOf s =
     pick (both (eqb (length s) 7) (eqb (getD s 4 0) 58))
     (written (hex 4 (take 4 s)) (hex 2 (drop 5 s)))
-    (Bad 0)
+    NoForm
 
 -- N of `wait=N` (1..1000000), of `loop=N` (2..255), of `stop=N` (0..2000000000)
 
@@ -59,11 +59,11 @@ unfedLine s =
     (pick (exactly (bytes "done=loop") s) Done
     (pick (startsWith (bytes "stop=") s) (stopOf (drop 5 s))
     (pick (exactly (bytes "machine=pal") s) Machine
-    (Bad 0))))))))
+    NoForm)))))))
 
 -- "Lines end in one line feed"
 unfoldable pub lineOf : List ℕ → Line
 lineOf s =
     pick (eqb (getD s (length s - 1) 0) 10)
     (unfedLine (take (length s - 1) s))
-    (Bad 0)
+    NoForm

@@ -12,8 +12,8 @@ pub enum Act {
     Access(Access),
 }
 
-// What one whole line says. `Bad(4)` is a write of right form to no register; `Bad(0)` a line not of the form, whose number and place go by where
-// it stands (crate spot).
+// What one whole line says. `NoRegister` is a write of right form to no register (4); `NoForm` a line not of the form, whose number and place go by
+// where it stands (crate log_fault).
 pub enum Line {
     Header,
     Machine,
@@ -21,7 +21,8 @@ pub enum Line {
     Loop(u8),
     Done,
     Stop(u32),
-    Bad(u8),
+    NoForm,
+    NoRegister,
 }
 
 // Behind `wait=`.
@@ -30,7 +31,7 @@ fn wait_of(s: &[u8]) -> Line
 {
     let d = text::decimal_in(s, 1, 1000000);
     let Number::Is(n) = d else {
-        return Line::Bad(0);
+        return Line::NoForm;
     };
     Line::One(Act::Wait(n))
 }
@@ -41,7 +42,7 @@ fn loop_of(s: &[u8]) -> Line
 {
     let d = text::decimal_in(s, 2, 255);
     let Number::Is(n) = d else {
-        return Line::Bad(0);
+        return Line::NoForm;
     };
     Line::Loop(n as u8)
 }
@@ -52,7 +53,7 @@ fn stop_of(s: &[u8]) -> Line
 {
     let d = text::decimal_in(s, 0, 2000000000);
     let Number::Is(n) = d else {
-        return Line::Bad(0);
+        return Line::NoForm;
     };
     Line::Stop(n)
 }
@@ -64,7 +65,7 @@ fn access(register: u16, value: u8) -> Line
     if bus::is_register(register) {
         Line::One(Act::Access(Access::Write(register, value)))
     } else {
-        Line::Bad(4)
+        Line::NoRegister
     }
 }
 
@@ -74,11 +75,11 @@ fn fields(register: &[u8], value: &[u8]) -> Line
 {
     let h = text::hex4(register);
     let Number::Is(r) = h else {
-        return Line::Bad(0);
+        return Line::NoForm;
     };
     let l = text::hex2(value);
     let Number::Is(v) = l else {
-        return Line::Bad(0);
+        return Line::NoForm;
     };
     access(r as u16, v as u8)
 }
@@ -88,10 +89,10 @@ fn write_of(s: &[u8]) -> Line
     ensures { λ r. ⌜ r ≡ writeOf (now (s .entry)) ⌝ }
 {
     if s.len() != 7 {
-        return Line::Bad(0);
+        return Line::NoForm;
     }
     if s[4] != b':' {
-        return Line::Bad(0);
+        return Line::NoForm;
     }
     fields(&s[..4], &s[5..])
 }
@@ -124,7 +125,7 @@ fn body_of(s: &[u8]) -> Line
     if text::exact(s, b"machine=pal") {
         return Line::Machine;
     }
-    Line::Bad(0)
+    Line::NoForm
 }
 
 // What one line says, with its line feed; any other bytes are a line not of the form.
@@ -132,12 +133,12 @@ pub fn line_of(l: &[u8]) -> Line
     ensures { λ r. ⌜ r ≡ lineOf (now (l .entry)) ⌝ }
 {
     if l.len() == 0 {
-        return Line::Bad(0);
+        return Line::NoForm;
     }
     let end = l.len() - 1;
     if l[end] == 10 {
         body_of(&l[..end])
     } else {
-        Line::Bad(0)
+        Line::NoForm
     }
 }

@@ -127,7 +127,7 @@ passes {log} c =
 pub record Passing (log : List ℕ) : Type 0 where
   pub header : readAt log 0 ≡ Item Header 6
   pub ntsc : machineOf log ≡ false → startOf log ≡ 6
-  pub pal : machineOf log ≡ true → readIn (standing 6 0) log 6 ≡ Item Machine (startOf log)
+  pub pal : machineOf log ≡ true → readIn (standing log 6 0) log 6 ≡ Item Machine (startOf log)
   pub head : log ≡ headText (machineOf log) ++ drop (startOf log) log
   pub place : ℕ
   pub behind : ℕ

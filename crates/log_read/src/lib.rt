@@ -5,7 +5,7 @@ use log_rules::Reading;
 ghost use mathlib.Core.Path.{_≡_};
 ghost use Rattle.log_rules.specs.Lines.{nextLine};
 ghost use Rattle.log_rules.specs.Head.{machineOf, startOf};
-ghost use Rattle.log_rules.specs.Reading.{readingNumber, readingPlace, taken, Reaches, standing, readIn, readAt};
+ghost use Rattle.log_rules.specs.Reading.{readingNumber, readingPlace, taken, Reaches, isSecond, standing, readIn, readAt};
 
 // The number of a reading: 0, or the refusal's.
 pub fn number(r: Reading) -> u8
@@ -84,6 +84,13 @@ pub fn read_in(log: &[u8], at: usize, stand: Stand) -> Reading
     item_of(at, e, log_fault::spot(&log[at..e], stand))
 }
 
+// Whether the line that begins at a place is the second.
+fn is_second(log: &[u8], at: usize) -> bool
+    ensures { λ r. ⌜ r ≡ isSecond (now (log .entry)) at ⌝ }
+{
+    arith::both_of(at == 6, text::starts(log, b"log=1\n"))
+}
+
 // The line that begins at a place, where no depth is known.
 pub fn read(log: &[u8], at: usize) -> Reading
     ensures { λ r. ⌜ r ≡ readAt (now (log .entry)) at ⌝ }
@@ -91,23 +98,23 @@ pub fn read(log: &[u8], at: usize) -> Reading
     if at == 0 {
         return read_in(log, at, Stand::First);
     }
-    read_in(log, at, Stand::Alone(at == 6))
+    read_in(log, at, Stand::Alone(is_second(log, at)))
 }
 
 // How a line stands that begins at a place, with so many loops open.
-fn stand_of(at: usize, depth: u64) -> Stand
-    ensures { λ r. ⌜ r ≡ standing at depth ⌝ }
+fn stand_of(log: &[u8], at: usize, depth: u64) -> Stand
+    ensures { λ r. ⌜ r ≡ standing (now (log .entry)) at depth ⌝ }
 {
     if at == 0 {
         Stand::First
     } else {
-        Stand::Among(at == 6, depth)
+        Stand::Among(is_second(log, at), depth)
     }
 }
 
 // The line that begins at a place, with so many loops open.
 pub fn read_inside(log: &[u8], at: usize, depth: u64) -> Reading
-    ensures { λ r. ⌜ r ≡ readIn (standing at depth) (now (log .entry)) at ⌝ }
+    ensures { λ r. ⌜ r ≡ readIn (standing (now (log .entry)) at depth) (now (log .entry)) at ⌝ }
 {
-    read_in(log, at, stand_of(at, depth))
+    read_in(log, at, stand_of(log, at, depth))
 }

@@ -32,7 +32,7 @@ use Rattle.log_fault.proofs.Standing.{first-header}
 use Rattle.log_rules.proofs.TotalLaws.{length-times}
 use Rattle.log_rules.proofs.Derived.{Ending, closes, stops, Reads, an-act, a-loop, a-done, a-stop, Derived, derived, inside-loop}
 use Rattle.log_rules.proofs.JudgeLaws.{linesFrom, judgeAt, lines-at, judge-at, judge-none, after, bridge, bridge-second}
-use Rattle.log_rules.proofs.HeadLaws.{pal-long, had-second, second-next, first-next, ntsc-second, ntsc-start, pal-start}
+use Rattle.log_rules.proofs.HeadLaws.{pal-long, had-second, second-next, first-next, first-second, ntsc-second, ntsc-start, pal-start}
 
 -- THE LINES FROM A PLACE ON STAND FOR WHAT IS READ THERE
 
@@ -173,7 +173,7 @@ module _ (log : List ℕ) (short : length log ≤ 60000) (some : 0 < length log)
     ntsc-head m =
         let long : 6 ≤ length log = rw (first-next log e) at (next-le log 0 (omega arith)) in
         record {
-          found = at-second ∙ bridge-second log short long (ntsc-second log e m);
+          found = at-second ∙ bridge-second log short long (first-second log e) (ntsc-second log e m);
           tree = ap innermost (blocks-at had-first);
           stop = stop-at had-first;
         }

@@ -6,7 +6,7 @@ use native.Mathlib.Omega.{arith}
 use lib.ListN.{length}
 use Rattle.log_line.specs.declared.Act.{Act}
 use Rattle.log_line.specs.declared.Line.{Line}
-use Rattle.log_line.specs.declared.Line.the-variants.{Header, Machine, One, Loop, Done, Stop, Bad}
+use Rattle.log_line.specs.declared.Line.the-variants.{Header, Machine, One, Loop, Done, Stop, NoForm, NoRegister}
 use Rattle.log_rules.specs.declared.Reading.{Reading}
 use Rattle.log_rules.specs.declared.Reading.the-variants.{Item}
 use Rattle.log_rules.specs.Reading.{standing, readIn, readAt}
@@ -69,18 +69,19 @@ module _ (log : List ℕ) (at d : ℕ) where
       body-on n p (readBlock log p (d + 1)) l k (b .0) (rec p (d + 1) (b .0) (b .1)) (got-behind log p (d + 1)) (λ p i j. rec p d i j)
   line-on Done p l (inner z (closes-on k)) b rec = a-done l k
   line-on (Stop n) p l (inner z (ends-on k)) b rec = rw k (a-stop l)
-  line-on (Bad k) p l w b rec = tt
+  line-on NoForm p l w b rec = tt
+  line-on NoRegister p l w b rec = tt
 
-  read-on : (s : Reading) → readIn (standing at d) log at ≡ s → BegunBehind at (length log) d (begunBy at s)
+  read-on : (s : Reading) → readIn (standing log at d) log at ≡ s → BegunBehind at (length log) d (begunBy at s)
       → ((p e : ℕ) → at < p → p ≤ length log → Derived log p e (readBlock log p e))
       → Derived log at d (onward (λ p. readBlock log p d) (piece (readBlock log) d (begunBy at s)))
   unfolding begunBy piece onward
   read-on (Reading.Refused k p) l b rec = tt
-  read-on (Item m p) l b rec = line-on m p (from-depth log at d m p l) (stands at d (bytesAt log at) m (had (standing at d) log at m p l .found)) b rec
+  read-on (Item m p) l b rec = line-on m p (from-depth log at d m p l) (stands log at d (bytesAt log at) m (had (standing log at d) log at m p l .found)) b rec
 
   step-on : ((p e : ℕ) → at < p → p ≤ length log → Derived log p e (readBlock log p e)) → Derived log at d (readBlock log at d)
   unfolding readPart readBegun
-  step-on rec = rw (unrolled log at d) (read-on (readIn (standing at d) log at) refl (begun-on log at d) rec)
+  step-on rec = rw (unrolled log at d) (read-on (readIn (standing log at d) log at) refl (begun-on log at d) rec)
 
 derived-in : (f : ℕ) (log : List ℕ) (at d : ℕ) → length log ≤ at + f → Derived log at d (readBlock log at d)
 derived-in zero log at d h = step-on log at d (λ p e i j. absurd (omega arith))

@@ -78,17 +78,17 @@ onward-behind rec at most (shut p q) h r = h
 onward-behind rec at most (halt p q n) h r = tt
 onward-behind rec at most (bad k p) h r = tt
 
-begun-by-behind : (log : List ℕ) (at d : ℕ) (r : Reading) → HadIn (standing at d) log at r → BegunBehind at (length log) d (begunBy at r)
+begun-by-behind : (log : List ℕ) (at d : ℕ) (r : Reading) → HadIn (standing log at d) log at r → BegunBehind at (length log) d (begunBy at r)
 unfolding begunBy
 begun-by-behind log at d (Item l next) h =
     begun-behind at next d (length log) l (rw (h .on) (next-pos log at (h .inside))) (rw (h .on) (let z : at ≤ length log = omega (arith, h .inside) in next-le log at z))
-    (stands at d (bytesAt log at) l (h .found))
+    (stands log at d (bytesAt log at) l (h .found))
 begun-by-behind log at d (Reading.Refused k p) h = tt
 
 -- every line that is read leads on
 pub begun-on : (log : List ℕ) (at d : ℕ) → BegunBehind at (length log) d (readBegun log at d)
 unfolding readBegun
-begun-on log at d = begun-by-behind log at d (readIn (standing at d) log at) (had-in (standing at d) log at)
+begun-on log at d = begun-by-behind log at d (readIn (standing log at d) log at) (had-in (standing log at d) log at)
 
 in-behind : (f : ℕ) (log : List ℕ) (at d : ℕ) → Behind at (length log) (blockIn f log at d)
 unfolding blockIn

@@ -18,7 +18,7 @@ use Rattle.log_fault.proofs.FaultLaws.{right-line, line-right}
 use Rattle.log_rules.specs.declared.Reading.the-variants.{Item}
 use Rattle.log_rules.specs.Lines.{lineLen, bytesAt, nextLine}
 use Rattle.log_rules.specs.Head.{headText, machineOf, startOf}
-use Rattle.log_rules.specs.Reading.{standing, readIn}
+use Rattle.log_rules.specs.Reading.{isSecond, standing, readIn}
 use Rattle.log_rules.proofs.PlaceLaws.{Had, bytes-long, line-split, read-some}
 
 header-long : length (lineText Header) ≡ 6
@@ -60,6 +60,12 @@ module _ (log : List ℕ) (p : machineOf log ≡ true) where
   unfolding bytesAt
   second-bytes = rw (second-rest, second-len (drop 18 log)) (second-take (drop 18 log))
 
+  second-is : isSecond log 6 ≡ true
+  unfolding isSecond
+  second-is =
+      ap (startsWith (lineText Header)) (pal-split ∙ append-assoc (lineText Header) (lineText Machine) (drop 18 log))
+      ∙ starts-joined (lineText Header) (lineText Machine ++ drop 18 log)
+
   pub second-next : nextLine log 6 ≡ 18
   unfolding nextLine
   second-next = rw (second-rest, second-len (drop 18 log))
@@ -75,6 +81,11 @@ module _ (log : List ℕ) (e : spotOf First (bytesAt log 0) ≡ Right Header) wh
   first-rest =
       let r = right-line First (bytesAt log 0) Header e in
       line-split log 0 ∙ rw (r .is, first-next)
+
+  -- the line behind it is the second
+  pub first-second : isSecond log 6 ≡ true
+  unfolding isSecond
+  first-second = ap (startsWith (lineText Header)) first-rest ∙ starts-joined (lineText Header) (drop 6 log)
 
   -- without the second line it is NTSC
   pub ntsc-second : machineOf log ≡ false → spotOf (Among true 0) (bytesAt log 6) ≡ Right Machine → ⊥
@@ -110,6 +121,6 @@ module _ (log : List ℕ) (short : length log ≤ 60000) (p : machineOf log ≡ 
         on = sym (second-next log p);
       }
 
-  pub read-second : readIn (standing 6 0) log 6 ≡ Item Machine 18
+  pub read-second : readIn (standing log 6 0) log 6 ≡ Item Machine 18
   unfolding standing
-  read-second = read-some (Among true 0) log 6 short (had-second .inside) ∙ rw (had-second .found, second-next log p)
+  read-second = rw (second-is log p) (read-some (Among true 0) log 6 short (had-second .inside) ∙ rw (had-second .found, second-next log p))

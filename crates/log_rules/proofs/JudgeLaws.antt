@@ -13,7 +13,7 @@ use Rattle.log_line.specs.declared.Line.{Line}
 use Rattle.log_line.specs.declared.Line.the-variants.{Machine, One, Loop, Done, Stop}
 use Rattle.log_line.specs.Said.{lineOf}
 use Rattle.log_rules.specs.Lines.{onto, linesOf, lineLen, bytesAt, nextLine}
-use Rattle.log_rules.specs.Reading.{standing, readIn, taken}
+use Rattle.log_rules.specs.Reading.{isSecond, standing, readIn, taken}
 use Rattle.log_rules.specs.Judge.{Verdict, wrong, Stand, second, among, over, foundAt, verdict, leaves, behind, ending, unless, judge}
 use Rattle.log_rules.specs.Tree.{Tree, act, loop}
 use Rattle.log_rules.specs.Block.{whole, bad, Got, closed, stopped, refused, Begun, begun, begunBy, readBegun, looped, piece, before, onward, readBlock, readPart}
@@ -115,19 +115,19 @@ module _ (log : List ℕ) (short : length log ≤ 60000) (at d : ℕ) where
 
 -- how a line stands that begins at `at`, is the second line or isn't, and has d loops open: by the judgement
 record Stood (log : List ℕ) (at d : ℕ) (m : Bool) (s : Stand) : Type 0 where
-  six : eqb at 6 ≡ m
+  place : isSecond log at ≡ m
   now : verdict s at (bytesAt log at) ≡ foundAt at (spotOf (Among m d) (bytesAt log at))
   then : behind s (bytesAt log at) ≡ leaves d (lineOf (bytesAt log at))
   last : ending s at ≡ wrong 18 at
   turns : spotOf (Among m d) (bytesAt log at) ≡ Right Machine → ⊥
 
 among-stood : (log : List ℕ) (at d : ℕ) → 6 < at → Stood log at d false (among d)
-unfolding verdict behind ending
-among-stood log at d h = record { six = ne-eqb at 6 (λ q. omega arith); now = refl; then = refl; last = refl; turns = second-only d (bytesAt log at) }
+unfolding isSecond verdict behind ending
+among-stood log at d h = record { place = rw (ne-eqb at 6 (λ q. omega arith)); now = refl; then = refl; last = refl; turns = second-only d (bytesAt log at) }
 
-second-stood : (log : List ℕ) → (spotOf (Among true 0) (bytesAt log 6) ≡ Right Machine → ⊥) → Stood log 6 0 true second
+second-stood : (log : List ℕ) → isSecond log 6 ≡ true → (spotOf (Among true 0) (bytesAt log 6) ≡ Right Machine → ⊥) → Stood log 6 0 true second
 unfolding verdict behind ending
-second-stood log h = record { six = refl; now = refl; then = refl; last = refl; turns = h }
+second-stood log i h = record { place = i; now = refl; then = refl; last = refl; turns = h }
 
 module _ (log : List ℕ) (short : length log ≤ 60000) (at d : ℕ) (m : Bool) (s : Stand) (stood : Stood log at d m s) (z : 0 < at) where
   line-goes : (l : Line) → spotOf (Among m d) (bytesAt log at) ≡ Right l → Goes d l
@@ -153,13 +153,13 @@ module _ (log : List ℕ) (short : length log ≤ 60000) (at d : ℕ) (m : Bool)
   begun-at : at < length log → readBegun log at d ≡ begunBy at (taken at (nextLine log at) (spotOf (Among m d) (bytesAt log at)))
   unfolding readBegun
   begun-at h =
-      ap (λ (st : Standing). begunBy at (readIn st log at)) (standing-on at d z ∙ ap (λ (b : Bool). Among b d) (stood .six))
+      ap (λ (st : Standing). begunBy at (readIn st log at)) (standing-on log at d z ∙ ap (λ (b : Bool). Among b d) (stood .place))
       ∙ ap (begunBy at) (read-some (Among m d) log at short h)
 
   -- at the log's end there is none
   none-told : at ≤ length log → length log ≤ at → judgeAt log s at ≡ Onward log short at d (readBegun log at d)
   unfolding Onward readBegun begunBy piece onward after
-  none-told h w = rw (read-none (standing at d) log at short w) (judge-none log at s w ∙ (stood .last ∙ ap (wrong 18) (omega arith)))
+  none-told h w = rw (read-none (standing log at d) log at short w) (judge-none log at s w ∙ (stood .last ∙ ap (wrong 18) (omega arith)))
 
   some-told : at < length log → ((p e : ℕ) → at < p → p ≤ length log → judgeAt log (among e) p ≡ after log e (readBlock log p e))
       → judgeAt log s at ≡ Onward log short at d (readBegun log at d)
@@ -191,7 +191,7 @@ pub bridge : (log : List ℕ) (at d : ℕ) → length log ≤ 60000 → 6 < at �
 bridge log at d s z h = bridge-in (length log) log at d s z h (omega arith)
 
 -- and so do those from the second line on, where that is not `machine=pal`
-pub bridge-second : (log : List ℕ) → length log ≤ 60000 → 6 ≤ length log → (spotOf (Among true 0) (bytesAt log 6) ≡ Right Machine → ⊥)
+pub bridge-second : (log : List ℕ) → length log ≤ 60000 → 6 ≤ length log → isSecond log 6 ≡ true → (spotOf (Among true 0) (bytesAt log 6) ≡ Right Machine → ⊥)
     → judgeAt log second 6 ≡ after log 0 (readBlock log 6 0)
-bridge-second log s h k =
-    told-step log s 6 0 true second (second-stood log k) (omega arith) h (λ p e i j. bridge log p e s i j)
+bridge-second log s h i k =
+    told-step log s 6 0 true second (second-stood log i k) (omega arith) h (λ p e a b. bridge log p e s a b)

@@ -11,7 +11,7 @@ use lib.Dec.{eqb, ltb}
 use Rattle.arith.specs.Pick.{pick, either}
 use Rattle.arith.proofs.PickLaws.{pick-both, pick-each}
 use Rattle.log_line.specs.declared.Line.{Line}
-use Rattle.log_line.specs.declared.Line.the-variants.{Header, Machine, One, Loop, Done, Stop, Bad}
+use Rattle.log_line.specs.declared.Line.the-variants.{Header, Machine, One, Loop, Done, Stop, NoForm, NoRegister}
 use Rattle.log_line.specs.Said.{lineOf}
 use Rattle.log_rules.specs.declared.Checked.{Checked}
 use Rattle.log_rules.specs.Lines.{onto, linesOf}
@@ -96,7 +96,8 @@ stop-here n at Machine s h k = k
 stop-here n at (One a) s h k = k
 stop-here n at (Loop m) s h k = k
 stop-here n at Done s h k = k
-stop-here n at (Bad m) s h k = k
+stop-here n at NoForm s h k = k
+stop-here n at NoRegister s h k = k
 
 stop-to : (n : ℕ) (ls : List (List ℕ)) (at : ℕ) → at + total ls ≤ n → stopFrom at ls .place ≤ n
 unfolding stopFrom

@@ -17,8 +17,8 @@ use Rattle.log_line.specs.Printed.{lineText, Printable}
 use Rattle.log_rules.specs.declared.Reading.{Reading}
 use Rattle.log_rules.specs.declared.Reading.the-variants.{Item, Refused}
 use Rattle.log_rules.specs.Lines.{lineLen, bytesAt, nextLine}
-use Rattle.log_rules.specs.Reading.{taken, Reaches, standing, readIn, readAt}
-use Rattle.arith.proofs.PickLaws.{pick-each}
+use Rattle.log_rules.specs.Reading.{taken, Reaches, isSecond, standing, readIn, readAt}
+use Rattle.arith.proofs.PickLaws.{pick-each, both-left}
 use Rattle.log_fault.specs.declared.Stand.{Stand}
 use Rattle.log_fault.specs.declared.Spotted.{Spotted}
 use Rattle.log_fault.specs.declared.Spotted.the-variants.{Right, Wrong}
@@ -150,9 +150,9 @@ item-in : (st : Stand) (log : List ℕ) (at : ℕ) (l : Line) (next : ℕ) → l
     → spotOf st (bytesAt log at) ≡ Right l → readIn st log at ≡ Item l next
 item-in st log at l next s h n e = read-some st log at s h ∙ (ap (taken at (nextLine log at)) e ∙ ap (λ (x : ℕ). Item l x) (sym n))
 
-pub standing-on : (at d : ℕ) → 0 < at → standing at d ≡ Among (eqb at 6) d
+pub standing-on : (log : List ℕ) (at d : ℕ) → 0 < at → standing log at d ≡ Among (isSecond log at) d
 unfolding standing
-standing-on at d z = rw (ne-eqb at 0 (λ q. omega arith))
+standing-on log at d z = rw (ne-eqb at 0 (λ q. omega arith))
 
 -- a line that is right where it stands: `log=1` at the start of the log, `machine=pal` behind it, or one that may stand at that depth
 pub data Stands (at d : ℕ) : Line → Type 0 where
@@ -160,25 +160,25 @@ pub data Stands (at d : ℕ) : Line → Type 0 where
   tells : at ≡ 6 → Stands at d Machine
   inner : {l : Line} → 0 < at → Goes d l → Stands at d l
 
-pub stands : (at d : ℕ) (s : List ℕ) (l : Line) → spotOf (standing at d) s ≡ Right l → Stands at d l
-unfolding standing
-stands at d s l e = go (eqb at 0) refl e
+pub stands : (log : List ℕ) (at d : ℕ) (s : List ℕ) (l : Line) → spotOf (standing log at d) s ≡ Right l → Stands at d l
+unfolding standing isSecond
+stands log at d s l e = go (eqb at 0) refl e
   where
-    further : {l : Line} → (at ≡ 0 → ⊥) → Lets (eqb at 6) d l → Stands at d l
-    further z (pal h) = tells (eqb-true at 6 h)
+    further : {l : Line} → (at ≡ 0 → ⊥) → Lets (isSecond log at) d l → Stands at d l
+    further z (pal h) = tells (eqb-true at 6 (both-left (eqb at 6) _ h))
     further z (turn g) = inner (omega (arith, z)) g
 
-    go : (b : Bool) → eqb at 0 ≡ b → spotOf (pick b First (Among (eqb at 6) d)) s ≡ Right l → Stands at d l
+    go : (b : Bool) → eqb at 0 ≡ b → spotOf (pick b First (Among (isSecond log at) d)) s ≡ Right l → Stands at d l
     go true q e = subst (Stands at d) (sym (first-header s l e)) (head (eqb-true at 0 q))
-    go false q e = further (eqb-false at 0 q) (lets (eqb at 6) d s l e)
+    go false q e = further (eqb-false at 0 q) (lets (isSecond log at) d s l e)
 
-pub from-depth : (log : List ℕ) (at d : ℕ) (l : Line) (next : ℕ) → readIn (standing at d) log at ≡ Item l next → readAt log at ≡ Item l next
+pub from-depth : (log : List ℕ) (at d : ℕ) (l : Line) (next : ℕ) → readIn (standing log at d) log at ≡ Item l next → readAt log at ≡ Item l next
 unfolding readAt standing
-from-depth log at d l next e = go (eqb at 0) refl (had (pick (eqb at 0) First (Among (eqb at 6) d)) log at l next e)
+from-depth log at d l next e = go (eqb at 0) refl (had (pick (eqb at 0) First (Among (isSecond log at) d)) log at l next e)
   where
-    go : (b : Bool) → eqb at 0 ≡ b → Had (pick b First (Among (eqb at 6) d)) log at l next → readIn (pick b First (Alone (eqb at 6))) log at ≡ Item l next
+    go : (b : Bool) → eqb at 0 ≡ b → Had (pick b First (Among (isSecond log at) d)) log at l next → readIn (pick b First (Alone (isSecond log at))) log at ≡ Item l next
     go true q h = item-in First log at l next (h .short) (h .inside) (h .on) (h .found)
-    go false q h = item-in (Alone (eqb at 6)) log at l next (h .short) (h .inside) (h .on) (alone (eqb at 6) d (bytesAt log at) l (h .found))
+    go false q h = item-in (Alone (isSecond log at)) log at l next (h .short) (h .inside) (h .on) (alone (isSecond log at) d (bytesAt log at) l (h .found))
 
 goes-inner : {d : ℕ} → Goes d Header → ⊥
 goes-inner g = go Header g refl
@@ -189,14 +189,14 @@ goes-inner g = go Header g refl
     go l (closes-on h) e = let z : _≡_ {A = ℕ} 0 1 = cc in omega arith
     go l (ends-on h) e = let z : _≡_ {A = ℕ} 0 1 = cc in omega arith
 
-pub to-depth : (log : List ℕ) (at d : ℕ) (l : Line) (next : ℕ) → Goes d l → readAt log at ≡ Item l next → readIn (standing at d) log at ≡ Item l next
+pub to-depth : (log : List ℕ) (at d : ℕ) (l : Line) (next : ℕ) → Goes d l → readAt log at ≡ Item l next → readIn (standing log at d) log at ≡ Item l next
 unfolding readAt standing
-to-depth log at d l next g e = go (eqb at 0) (had (pick (eqb at 0) First (Alone (eqb at 6))) log at l next e)
+to-depth log at d l next g e = go (eqb at 0) (had (pick (eqb at 0) First (Alone (isSecond log at))) log at l next e)
   where
-    go : (b : Bool) → Had (pick b First (Alone (eqb at 6))) log at l next → readIn (pick b First (Among (eqb at 6) d)) log at ≡ Item l next
+    go : (b : Bool) → Had (pick b First (Alone (isSecond log at))) log at l next → readIn (pick b First (Among (isSecond log at) d)) log at ≡ Item l next
     go true h = absurd (goes-inner (subst (Goes d) (first-header (bytesAt log at) l (h .found)) g))
-    go false h = item-in (Among (eqb at 6) d) log at l next (h .short) (h .inside) (h .on) (tell (Among (eqb at 6) d) (bytesAt log at) l (had-says h) (goes-may (eqb at 6) g))
+    go false h = item-in (Among (isSecond log at) d) log at l next (h .short) (h .inside) (h .on) (tell (Among (isSecond log at) d) (bytesAt log at) l (had-says h) (goes-may (isSecond log at) g))
 
-pub had-at : (log : List ℕ) (at : ℕ) (l : Line) (next : ℕ) → readAt log at ≡ Item l next → Had (pick (eqb at 0) First (Alone (eqb at 6))) log at l next
+pub had-at : (log : List ℕ) (at : ℕ) (l : Line) (next : ℕ) → readAt log at ≡ Item l next → Had (pick (eqb at 0) First (Alone (isSecond log at))) log at l next
 unfolding readAt
-had-at log at l next e = had (pick (eqb at 0) First (Alone (eqb at 6))) log at l next e
+had-at log at l next e = had (pick (eqb at 0) First (Alone (isSecond log at))) log at l next e

@@ -6,7 +6,7 @@ use mathlib.Core.List.{List}
 use lib.ListN.{length}
 use Rattle.log_line.specs.declared.Act.{Act}
 use Rattle.log_line.specs.declared.Line.{Line}
-use Rattle.log_line.specs.declared.Line.the-variants.{Header, Machine, One, Loop, Done, Stop, Bad}
+use Rattle.log_line.specs.declared.Line.the-variants.{Header, Machine, One, Loop, Done, Stop, NoForm, NoRegister}
 use Rattle.log_rules.specs.declared.Reading.{Reading}
 use Rattle.log_rules.specs.declared.Reading.the-variants.{Item}
 use Rattle.log_rules.specs.declared.Totals.{Totals}
@@ -48,7 +48,8 @@ begun at next (One a) = whole (one a next)
 begun at next (Loop n) = opens n next
 begun at next Done = whole (shut at next)
 begun at next (Stop n) = whole (halt at next n)
-begun at next (Bad k) = whole (bad k at)
+begun at next NoForm = whole (bad 14 at)
+begun at next NoRegister = whole (bad 4 at)
 
 unfoldable pub begunBy : ℕ → Reading → Begun
 begunBy at (Item l next) = begun at next l
@@ -56,7 +57,7 @@ begunBy at (Reading.Refused k p) = whole (bad k p)
 
 -- where d loops are open
 unfoldable pub readBegun : List ℕ → ℕ → ℕ → Begun
-readBegun log at d = begunBy at (readIn (standing at d) log at)
+readBegun log at d = begunBy at (readIn (standing log at d) log at)
 
 -- the loop line's piece, from its body
 unfoldable pub looped : ℕ → Got → LinePiece

@@ -4,7 +4,7 @@ use mathlib.Core.List.{List, [], _∷_}
 use mathlib.Core.Bool.{true, false}
 use lib.ListN.{length}
 use Rattle.log_line.specs.declared.Line.{Line}
-use Rattle.log_line.specs.declared.Line.the-variants.{Header, Machine, One, Loop, Done, Stop, Bad}
+use Rattle.log_line.specs.declared.Line.the-variants.{Header, Machine, One, Loop, Done, Stop, NoForm, NoRegister}
 use Rattle.log_line.specs.Said.{lineOf}
 use Rattle.log_fault.specs.declared.Stand.the-variants.{First, Among}
 use Rattle.log_fault.specs.declared.Spotted.{Spotted}
@@ -44,7 +44,8 @@ leaves d (One a) = among d
 leaves d (Loop n) = among (d + 1)
 leaves d Done = among (d - 1)
 leaves d (Stop n) = over
-leaves d (Bad k) = among d
+leaves d NoForm = among d
+leaves d NoRegister = among d
 
 unfoldable pub behind : Stand → List ℕ → Stand
 behind first l = second

@@ -1,9 +1,13 @@
 -- Reading one line at any place. Document 01: "Reading a line yields an item or a refusal with its place".
 use Prim.Native.Nat.{ℕ, _+_, _≤_}
+use mathlib.Core.Bool.{Bool}
 use mathlib.Core.List.{List}
 use lib.ListN.{length}
 use lib.Dec.{eqb, ltb}
-use Rattle.arith.specs.Pick.{pick}
+use Rattle.arith.specs.Pick.{pick, both}
+use Rattle.text.specs.Key.{startsWith}
+use Rattle.log_line.specs.declared.Line.the-variants.{Header}
+use Rattle.log_line.specs.Printed.{lineText}
 use Rattle.log_rules.specs.declared.Reading.{Reading}
 use Rattle.log_rules.specs.declared.Reading.the-variants.{Item, Refused}
 use Rattle.log_rules.specs.Lines.{bytesAt, nextLine}
@@ -39,10 +43,14 @@ readIn st log at =
     (pick (ltb at (length log)) (taken at (nextLine log at) (spotOf st (bytesAt log at)))
     (Refused 18 (length log)))
 
--- how a line stands that begins at a place, with d loops open: first at place 0; second at place 6, behind `log=1` and its line feed
-unfoldable pub standing : ℕ → ℕ → Stand
-standing at d = pick (eqb at 0) First (Among (eqb at 6) d)
+-- the line that begins at a place is the second: it stands behind `log=1` and its line feed, and these are the first six bytes
+unfoldable pub isSecond : List ℕ → ℕ → Bool
+isSecond log at = both (eqb at 6) (startsWith (lineText Header) log)
 
--- at place 0 only `log=1` is an item, and `machine=pal` only at place 6; further on any line that is right by itself, since no depth is known
+-- how a line stands that begins at a place, with d loops open: first at place 0, else the second or not
+unfoldable pub standing : List ℕ → ℕ → ℕ → Stand
+standing log at d = pick (eqb at 0) First (Among (isSecond log at) d)
+
+-- at place 0 only `log=1` is an item, and `machine=pal` only as the second line; further on any line that is right by itself, since no depth is known
 unfoldable pub readAt : List ℕ → ℕ → Reading
-readAt log at = readIn (pick (eqb at 0) First (Alone (eqb at 6))) log at
+readAt log at = readIn (pick (eqb at 0) First (Alone (isSecond log at))) log at

@@ -6,7 +6,7 @@ use lib.ListN.{length}
 use lib.Dec.{eqb, ltb}
 use Rattle.arith.specs.Pick.{pick, either}
 use Rattle.log_line.specs.declared.Line.{Line}
-use Rattle.log_line.specs.declared.Line.the-variants.{Header, Machine, One, Loop, Done, Stop, Bad}
+use Rattle.log_line.specs.declared.Line.the-variants.{Header, Machine, One, Loop, Done, Stop, NoForm, NoRegister}
 use Rattle.log_line.specs.Said.{lineOf}
 use Rattle.log_rules.specs.declared.Checked.{Checked}
 use Rattle.log_rules.specs.Lines.{linesOf}
@@ -26,7 +26,8 @@ grow Done ts = end ∷ ts
 grow (Stop n) ts = end ∷ ts
 grow Header ts = ts
 grow Machine ts = ts
-grow (Bad k) ts = ts
+grow NoForm ts = ts
+grow NoRegister ts = ts
 
 -- the blocks that lines stand for, from the last line to the first
 unfoldable pub blocks : List (List ℕ) → List Tree
@@ -53,7 +54,8 @@ stopHere at Machine s = s
 stopHere at (One a) s = s
 stopHere at (Loop n) s = s
 stopHere at Done s = s
-stopHere at (Bad k) s = s
+stopHere at NoForm s = s
+stopHere at NoRegister s = s
 
 unfoldable pub stopFrom : ℕ → List (List ℕ) → Stopping
 stopFrom at [] = record { place = at; number = 0 }

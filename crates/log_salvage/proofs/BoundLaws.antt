@@ -5,7 +5,7 @@ use Prim.Native.Nat.{ℕ, _+_, _*_, _≤_, _<_, min}
 use native.Mathlib.Omega.{arith}
 use lib.ListN.{length, getD}
 use Rattle.log_line.specs.declared.Line.{Line}
-use Rattle.log_line.specs.declared.Line.the-variants.{Header, Machine, One, Loop, Done, Stop, Bad}
+use Rattle.log_line.specs.declared.Line.the-variants.{Header, Machine, One, Loop, Done, Stop, NoForm, NoRegister}
 use Rattle.log_salvage_rules.specs.declared.Fate.{Fate}
 use Rattle.log_salvage_rules.specs.declared.Fate.the-variants.{Keep, Drop, Ninth, NinthDone}
 use Rattle.log_salvage_rules.specs.Mending.{deeper}
@@ -26,7 +26,8 @@ small-line k d Header = k
 small-line k d Machine = k
 small-line k d Done = k
 small-line k d (Stop n) = k
-small-line k d (Bad n) = k
+small-line k d NoForm = k
+small-line k d NoRegister = k
 
 small-behind : {t : Tally} → Small t → (d : ℕ) (f : Fate) → Small (tallyBehind t d f)
 unfolding tallyBehind
@@ -43,7 +44,8 @@ deeper-in d (One a) h o = h
 deeper-in d Header h o = h
 deeper-in d Machine h o = h
 deeper-in d (Stop n) h o = h
-deeper-in d (Bad n) h o = h
+deeper-in d NoForm h o = h
+deeper-in d NoRegister h o = h
 
 place-in : (p : Place) (f : Fate) (at : ℕ) → p .depth ≤ 8 → OpensBy (p .depth) f → p .ninths ≤ at → (placeBehind p f .depth ≤ 8) × (placeBehind p f .ninths ≤ at + 1)
 unfolding placeBehind

@@ -11,7 +11,7 @@ use lib.ListN.{length, getD, set, length-set}
 use lib.Seq.{getD-set-same, getD-set-other, set-out}
 use Rattle.log_line.specs.declared.Act.{Act}
 use Rattle.log_line.specs.declared.Line.{Line}
-use Rattle.log_line.specs.declared.Line.the-variants.{Header, Machine, One, Loop, Done, Stop, Bad}
+use Rattle.log_line.specs.declared.Line.the-variants.{Header, Machine, One, Loop, Done, Stop, NoForm, NoRegister}
 use Rattle.log_rules.specs.Tree.{actClocks}
 use Rattle.log_salvage.specs.declared.Tally.{Tally}
 use Rattle.log_salvage.specs.Steps.{moreBy, openedBy, tallyLine, noTally, Small, Opens}
@@ -82,7 +82,8 @@ module _ {t : Tally} {w : ℕ} {ws : List ℕ} {c u : ℕ} (k : Cut t (w ∷ ws)
   cut-line (Stop n) o = cut-less
   cut-line Header o = k
   cut-line Machine o = k
-  cut-line (Bad n) o = k
+  cut-line NoForm o = k
+  cut-line NoRegister o = k
 
 -- before the first line
 

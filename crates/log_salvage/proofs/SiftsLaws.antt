@@ -7,7 +7,7 @@ use native.Mathlib.Nat.{zero-add}
 use native.Mathlib.Omega.{arith}
 use lib.ListN.{length, length-append}
 use Rattle.log_line.specs.declared.Line.{Line}
-use Rattle.log_line.specs.declared.Line.the-variants.{Header, Machine, One, Loop, Done, Stop, Bad}
+use Rattle.log_line.specs.declared.Line.the-variants.{Header, Machine, One, Loop, Done, Stop, NoForm, NoRegister}
 use Rattle.log_fault.specs.declared.Stand.the-variants.{Among}
 use Rattle.log_fault.specs.declared.Spotted.the-variants.{Right}
 use Rattle.log_fault.specs.Fault.{spotOf}
@@ -66,7 +66,8 @@ open-behind w ws s d (Loop m) e h n = omega arith
 open-behind w ws s d Done e (turn (closes-on h)) n = omega arith
 open-behind w ws s d Header e h n = omega arith
 open-behind w ws s d Machine e h n = omega arith
-open-behind w ws s d (Bad m) e h n = omega arith
+open-behind w ws s d NoForm e h n = omega arith
+open-behind w ws s d NoRegister e h n = omega arith
 open-behind w ws s d (Stop m) e h n = absurd (false≢true (sym n))
 
 none-behind : (w : ℕ) (ws : List ℕ) (second : Bool) (d : ℕ) (l : Line) → length ws ≡ d → Lets second d l → isStop l ≡ true → weightsBehind w ws l ≡ []
@@ -78,7 +79,8 @@ none-behind w ws s d (Loop m) e h n = absurd (false≢true n)
 none-behind w ws s d Done e h n = absurd (false≢true n)
 none-behind w ws s d Header e h n = absurd (false≢true n)
 none-behind w ws s d Machine e h n = absurd (false≢true n)
-none-behind w ws s d (Bad m) e h n = absurd (false≢true n)
+none-behind w ws s d NoForm e h n = absurd (false≢true n)
+none-behind w ws s d NoRegister e h n = absurd (false≢true n)
 
 lets-opens : (second : Bool) (d : ℕ) (l : Line) → Lets second d l → Opens d l
 lets-opens s d (Loop n) (turn (opened-on h)) = h
@@ -87,7 +89,8 @@ lets-opens s d Done h = tt
 lets-opens s d (Stop n) h = tt
 lets-opens s d Header h = tt
 lets-opens s d Machine h = tt
-lets-opens s d (Bad n) h = tt
+lets-opens s d NoForm h = tt
+lets-opens s d NoRegister h = tt
 
 module _ {k : Kept} {t : Tally} (y : Tallied k t) (at : ℕ) (l : List ℕ) where
   tallied-dropped : (r n : ℕ) → Tallied (dropping k at r n) t

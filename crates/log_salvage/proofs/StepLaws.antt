@@ -9,7 +9,7 @@ use lib.Dec.{eqb, ltb}
 use Rattle.arith.specs.Pick.{pick, both}
 use Rattle.arith.proofs.PickLaws.{both-left, both-right, pick-both}
 use Rattle.log_line.specs.declared.Line.{Line}
-use Rattle.log_line.specs.declared.Line.the-variants.{Header, Machine, One, Loop, Done, Stop, Bad}
+use Rattle.log_line.specs.declared.Line.the-variants.{Header, Machine, One, Loop, Done, Stop, NoForm, NoRegister}
 use Rattle.log_line.specs.Said.{lineOf}
 use Rattle.log_fault.specs.declared.Stand.the-variants.{Among}
 use Rattle.log_fault.specs.declared.Spotted.{Spotted}
@@ -33,7 +33,8 @@ module _ (p : Place) (l : List ℕ) (c : ℕ) (last : Bool) where
   right-opens (One a) h = tt
   right-opens Header h = tt
   right-opens Machine h = tt
-  right-opens (Bad n) h = tt
+  right-opens NoForm h = tt
+  right-opens NoRegister h = tt
 
   found-opens : (f : Spotted) → spotOf (Among (p .second) (p .depth)) l ≡ f → OpensBy (p .depth) (foundBy f p c last)
   unfolding foundBy
@@ -79,7 +80,8 @@ module _ (k : Kept) (l : List ℕ) (c : ℕ) (known : Known k c) (last : Bool) w
   right-same Machine e = refl
   right-same (One a) e = refl
   right-same (Loop n) e = refl
-  right-same (Bad n) e = refl
+  right-same NoForm e = refl
+  right-same NoRegister e = refl
 
   -- 8 is a `stop`'s where a loop is open
   not-stop : (r i : ℕ) → spotOf (Among (k .second) (k .depth)) l ≡ Wrong r i → isStop (lineOf l) ≡ false → both (eqb r 8) (ltb 0 (k .depth)) ≡ false
@@ -121,7 +123,8 @@ module _ (k : Kept) (l : List ℕ) (c : ℕ) (known : Known k c) (last : Bool) w
   wrong-same r i e (One a) x = rw (not-stop r i e (ap isStop x))
   wrong-same r i e (Loop n) x = rw (not-stop r i e (ap isStop x))
   wrong-same r i e Done x = rw (not-stop r i e (ap isStop x))
-  wrong-same r i e (Bad n) x = rw (not-stop r i e (ap isStop x))
+  wrong-same r i e NoForm x = rw (not-stop r i e (ap isStop x))
+  wrong-same r i e NoRegister x = rw (not-stop r i e (ap isStop x))
 
   found-same : (p : Place) → p .depth ≡ k .depth → p .ninths ≡ k .ninths → (f : Spotted) → spotOf (Among (k .second) (k .depth)) l ≡ f → foundBy f p c last ≡ lineFate k last f (lineOf l)
   unfolding foundBy
@@ -146,7 +149,8 @@ kept-right (Right Header) p c last m e = cc
 kept-right (Right Machine) p c last m e = cc
 kept-right (Right (One a)) p c last m e = cc
 kept-right (Right (Loop n)) p c last m e = cc
-kept-right (Right (Bad n)) p c last m e = cc
+kept-right (Right NoForm) p c last m e = cc
+kept-right (Right NoRegister) p c last m e = cc
 kept-right (Right Done) p c last m e = by (ltb 0 (p .ninths)) e
   where
     by : (b : Bool) → pick b NinthDone (Keep Done) ≡ Keep m → Right Done ≡ Right m

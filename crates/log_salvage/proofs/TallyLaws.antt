@@ -10,7 +10,7 @@ use lib.Dec.{leb}
 use lib.ListN.{length}
 use Rattle.log_line.specs.declared.Act.{Act}
 use Rattle.log_line.specs.declared.Line.{Line}
-use Rattle.log_line.specs.declared.Line.the-variants.{Header, Machine, One, Loop, Done, Stop, Bad}
+use Rattle.log_line.specs.declared.Line.the-variants.{Header, Machine, One, Loop, Done, Stop, NoForm, NoRegister}
 use Rattle.log_line.specs.Printed.{lineText, Printable}
 use Rattle.log_rules.specs.Lines.{linesOf}
 use Rattle.log_rules.specs.Tree.{Tree, end, act, loop}
@@ -28,7 +28,8 @@ counted one extra c w Header = c
 counted one extra c w Machine = c
 counted one extra c w Done = c
 counted one extra c w (Stop n) = c
-counted one extra c w (Bad n) = c
+counted one extra c w NoForm = c
+counted one extra c w NoRegister = c
 
 -- how often the open blocks behind it are done
 unfoldable pub weightsBehind : ℕ → List ℕ → Line → List ℕ
@@ -38,7 +39,8 @@ weightsBehind w ws (Stop n) = ws
 weightsBehind w ws (One a) = w ∷ ws
 weightsBehind w ws Header = w ∷ ws
 weightsBehind w ws Machine = w ∷ ws
-weightsBehind w ws (Bad n) = w ∷ ws
+weightsBehind w ws NoForm = w ∷ ws
+weightsBehind w ws NoRegister = w ∷ ws
 
 -- a measure of trees: nothing for the end, so much for an act, and so much and its body for each turn of a loop
 pub record Measure (m : Tree → ℕ) (one : Act → ℕ) (extra : ℕ) : Type 0 where
@@ -57,7 +59,8 @@ long-line w ws Header ts p h = h
 long-line w ws Machine ts p h = h
 long-line w ws Done ts p h = omega arith
 long-line w ws (Stop n) ts p h = omega arith
-long-line w ws (Bad n) ts p h = absurd p
+long-line w ws NoForm ts p h = absurd p
+long-line w ws NoRegister ts p h = absurd p
 
 loop-sum : (c w n e b t r : ℕ) → c + (w * (n * (e + b) + t) + r) ≡ c + w * (n * e) + (w * n * b + (w * t + r))
 loop-sum c w n e b t r =
@@ -78,7 +81,8 @@ module _ {m : Tree → ℕ} {one : Act → ℕ} {extra : ℕ} (is : Measure m on
   weigh-line c w ws Machine ts p h = refl
   weigh-line c w ws Done ts p h = rw (is .at-end, mul-zero w) (omega arith)
   weigh-line c w ws (Stop n) ts p h = rw (is .at-end, mul-zero w) (omega arith)
-  weigh-line c w ws (Bad n) ts p h = absurd p
+  weigh-line c w ws NoForm ts p h = absurd p
+  weigh-line c w ws NoRegister ts p h = absurd p
 
   -- a line more
   pub counts-line : (text : List ℕ) (c w : ℕ) (ws : List ℕ) (l : Line) → Printable l → Counts m text (w ∷ ws) c → Counts m (text ++ lineText l) (weightsBehind w ws l) (counted one extra c w l)

@@ -7,7 +7,7 @@ use lib.ListN.{getD, set}
 use lib.Dec.{eqb, ltb}
 use Rattle.arith.specs.Pick.{pick, both}
 use Rattle.log_line.specs.declared.Line.{Line}
-use Rattle.log_line.specs.declared.Line.the-variants.{Header, Machine, One, Loop, Done, Stop, Bad}
+use Rattle.log_line.specs.declared.Line.the-variants.{Header, Machine, One, Loop, Done, Stop, NoForm, NoRegister}
 use Rattle.log_fault.specs.declared.Spotted.{Spotted}
 use Rattle.log_fault.specs.declared.Spotted.the-variants.{Right, Wrong}
 use Rattle.log_rules.specs.Tree.{actClocks}
@@ -31,7 +31,8 @@ rightBy Header ninths clocks last = Keep Header
 rightBy Machine ninths clocks last = Keep Machine
 rightBy (One a) ninths clocks last = Keep (One a)
 rightBy (Loop n) ninths clocks last = Keep (Loop n)
-rightBy (Bad n) ninths clocks last = Keep (Bad n)
+rightBy NoForm ninths clocks last = Keep NoForm
+rightBy NoRegister ninths clocks last = Keep NoRegister
 
 abbrev pub wrongBy : ℕ → ℕ → Bool → Fate
 wrongBy r depth last = pick (eqb r 7) Ninth (pick (both (eqb r 8) (ltb 0 depth)) (Drop (pick last 10 19)) (Drop r))
@@ -72,7 +73,8 @@ tallyLine t d Header = t
 tallyLine t d Machine = t
 tallyLine t d Done = t
 tallyLine t d (Stop n) = t
-tallyLine t d (Bad n) = t
+tallyLine t d NoForm = t
+tallyLine t d NoRegister = t
 
 unfoldable pub tallyBehind : Tally → ℕ → Fate → Tally
 tallyBehind t d (Keep l) = tallyLine t d l
@@ -97,7 +99,8 @@ Opens d Header = Unit {0}
 Opens d Machine = Unit {0}
 Opens d Done = Unit {0}
 Opens d (Stop n) = Unit {0}
-Opens d (Bad n) = Unit {0}
+Opens d NoForm = Unit {0}
+Opens d NoRegister = Unit {0}
 
 abbrev pub OpensBy : ℕ → Fate → Type 0
 OpensBy d (Keep l) = Opens d l

@@ -140,7 +140,8 @@ fn right_fate(l: Line, ninths: u64, clocks: u64, last: bool) -> Fate
         Line::Machine => Fate::Keep(l),
         Line::One(_) => Fate::Keep(l),
         Line::Loop(_) => Fate::Keep(l),
-        Line::Bad(_) => Fate::Keep(l),
+        Line::NoForm => Fate::Keep(l),
+        Line::NoRegister => Fate::Keep(l),
     }
 }
 
@@ -179,7 +180,8 @@ fn deeper(depth: u64, l: Line) -> u64
         Line::Machine => depth,
         Line::One(_) => depth,
         Line::Stop(_) => depth,
-        Line::Bad(_) => depth,
+        Line::NoForm => depth,
+        Line::NoRegister => depth,
     }
 }
 
@@ -193,7 +195,8 @@ fn is_stop(l: Line) -> bool
         Line::One(_) => false,
         Line::Loop(_) => false,
         Line::Done => false,
-        Line::Bad(_) => false,
+        Line::NoForm => false,
+        Line::NoRegister => false,
     }
 }
 
@@ -279,7 +282,8 @@ fn tally_line(t: Tally, depth: u64, l: Line) -> Tally
         Line::Machine => t,
         Line::Done => t,
         Line::Stop(_) => t,
-        Line::Bad(_) => t,
+        Line::NoForm => t,
+        Line::NoRegister => t,
     }
 }
 

@@ -10,7 +10,7 @@ use lib.Dec.{eqb}
 use Rattle.arith.proofs.PickLaws.{pick-both}
 use Rattle.text.specs.Key.{startsWith}
 use Rattle.log_line.specs.declared.Line.{Line}
-use Rattle.log_line.specs.declared.Line.the-variants.{Header, Machine, One, Loop, Done, Stop, Bad}
+use Rattle.log_line.specs.declared.Line.the-variants.{Header, Machine, One, Loop, Done, Stop, NoForm, NoRegister}
 use Rattle.log_line.specs.Printed.{lineText}
 use Rattle.log_fault.proofs.Standing.{Lets, turn, opens as opened-on}
 use Rattle.log_rules.specs.Lines.{onto, linesOf}
@@ -69,7 +69,8 @@ deeper-in (One a) i h = h
 deeper-in (Loop n) (turn (opened-on i)) h = omega arith
 deeper-in Done i h = omega arith
 deeper-in (Stop n) i h = h
-deeper-in (Bad n) i h = h
+deeper-in NoForm i h = h
+deeper-in NoRegister i h = h
 
 run-depth : {s : Bool} {d : ℕ} {t : List ℕ} → Run s d t → d ≤ 8
 run-depth head = omega arith

@@ -6,7 +6,7 @@ use Prim.Native.Nat.{ℕ, _+_}
 use native.Mathlib.Omega.{arith}
 use lib.ListN.{length, length-append}
 use Rattle.log_line.specs.declared.Line.{Line}
-use Rattle.log_line.specs.declared.Line.the-variants.{Header, Machine, One, Loop, Done, Stop, Bad}
+use Rattle.log_line.specs.declared.Line.the-variants.{Header, Machine, One, Loop, Done, Stop, NoForm, NoRegister}
 use Rattle.log_line.specs.Printed.{lineText, Printable}
 use Rattle.log_fault.specs.declared.Stand.the-variants.{Among}
 use Rattle.log_fault.specs.Allowed.{keysOf}
@@ -58,7 +58,8 @@ leaves-is d (One a) n = refl
 leaves-is d (Loop k) n = refl
 leaves-is d Done n = refl
 leaves-is d (Stop k) n = absurd (false≢true (sym n))
-leaves-is d (Bad k) n = refl
+leaves-is d NoForm n = refl
+leaves-is d NoRegister n = refl
 
 -- they are right, and what is behind them is judged by how it stands there
 run-judged : {s : Bool} {d : ℕ} {t : List ℕ} → Run s d t → (rest : List ℕ) → judged (t ++ rest) ≡ judge (standOf s d) (length t) (linesOf rest)
@@ -87,7 +88,8 @@ no-stop at (One a) x n = refl
 no-stop at (Loop k) x n = refl
 no-stop at Done x n = refl
 no-stop at (Stop k) x n = absurd (false≢true (sym n))
-no-stop at (Bad k) x n = refl
+no-stop at NoForm x n = refl
+no-stop at NoRegister x n = refl
 
 -- none of them is a `stop`
 run-stop : {s : Bool} {d : ℕ} {t : List ℕ} → Run s d t → (rest : List ℕ) → stopFrom 0 (linesOf (t ++ rest)) ≡ stopFrom (length t) (linesOf rest)

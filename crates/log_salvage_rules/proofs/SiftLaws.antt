@@ -1,5 +1,6 @@
 -- What has been kept is right lines, one behind the other; a `stop` stays only behind the last. Assumes nothing.
 use mathlib.Core.Path.{_≡_, refl, ap, sym, _∙_}
+use mathlib.Core.Logic.{_⊎_, inl, inr}
 use mathlib.Core.List.{List, [], _∷_, _++_}
 use mathlib.Core.Bool.{Bool, true, false, false≢true}
 use Prim.Native.Nat.{ℕ, zero, suc, _+_, _-_}
@@ -10,9 +11,10 @@ use lib.Dec.{eqb, ltb}
 use Rattle.arith.specs.Pick.{pick, both}
 use Rattle.arith.proofs.PickLaws.{both-left, both-right, pick-both}
 use Rattle.log_line.specs.declared.Line.{Line}
-use Rattle.log_line.specs.declared.Line.the-variants.{Header, Machine, One, Loop, Done, Stop, Bad}
+use Rattle.log_line.specs.declared.Line.the-variants.{Header, Machine, One, Loop, Done, Stop, NoForm, NoRegister}
 use Rattle.log_line.specs.Said.{lineOf}
 use Rattle.log_line.specs.Printed.{lineText, Printable}
+use Rattle.log_line.proofs.Forth.{AtFault}
 use Rattle.log_line.proofs.LineLaws.{read-printed}
 use Rattle.log_fault.specs.declared.Stand.the-variants.{Among}
 use Rattle.log_fault.specs.declared.Spotted.{Spotted}
@@ -46,8 +48,9 @@ pub data Left (last : Bool) (k : Kept) : Type 0 where
   goes : Going k → Left last k
   stays : last ≡ true → Stayed k → Left last k
 
-not-bad : {n : ℕ} → (k : ℕ) → Stop n ≡ Bad k → ⊥
-not-bad k e = let z : _≡_ {A = ℕ} 0 1 = cc in omega arith
+not-bad : {n : ℕ} → AtFault (Stop n) → ⊥
+not-bad (inl e) = let z : _≡_ {A = ℕ} 0 1 = cc in omega arith
+not-bad (inr e) = let z : _≡_ {A = ℕ} 0 1 = cc in omega arith
 
 module _ (k : Kept) (g : Going k) (at : ℕ) (l : List ℕ) where
   dropped-goes : (r m : ℕ) → Going (dropping k at r m)
@@ -69,7 +72,8 @@ module _ (k : Kept) (g : Going k) (at : ℕ) (l : List ℕ) where
   right-goes (Loop m) e n = kept-goes (Loop m) e n
   right-goes Done e n = pick-both (λ f. Going (behindLine k at l f)) (ltb 0 (k .ninths)) (dropped-goes 7 (k .ninths - 1)) (kept-goes Done e n)
   right-goes (Stop m) e n = absurd (false≢true (sym n))
-  right-goes (Bad m) e n = kept-goes (Bad m) e n
+  right-goes NoForm e n = kept-goes NoForm e n
+  right-goes NoRegister e n = kept-goes NoRegister e n
 
   found-goes : (f : Spotted) → spotOf (Among (k .second) (k .depth)) l ≡ f → isStop (lineOf l) ≡ false → Going (behindLine k at l (foundFate k f))
   unfolding foundFate behindLine
@@ -107,7 +111,8 @@ module _ (k : Kept) (g : Going k) (at : ℕ) (l : List ℕ) where
   line-left last f e (One a) h = goes (found-goes f e (ap isStop h))
   line-left last f e (Loop n) h = goes (found-goes f e (ap isStop h))
   line-left last f e Done h = goes (found-goes f e (ap isStop h))
-  line-left last f e (Bad n) h = goes (found-goes f e (ap isStop h))
+  line-left last f e NoForm h = goes (found-goes f e (ap isStop h))
+  line-left last f e NoRegister h = goes (found-goes f e (ap isStop h))
 
   pub step-left : (last : Bool) → Left last (behindLine k at l (fateOf k last l))
   unfolding fateOf

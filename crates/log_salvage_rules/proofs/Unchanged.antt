@@ -9,7 +9,7 @@ use lib.ListN.{length, drop}
 use Rattle.text.specs.Key.{startsWith}
 use Rattle.text.proofs.KeyLaws.{starts-joined}
 use Rattle.log_line.specs.declared.Line.{Line}
-use Rattle.log_line.specs.declared.Line.the-variants.{Header, Machine, One, Loop, Done, Stop, Bad}
+use Rattle.log_line.specs.declared.Line.the-variants.{Header, Machine, One, Loop, Done, Stop, NoForm, NoRegister}
 use Rattle.log_line.specs.Printed.{ended as fed, lineText, Printable}
 use Rattle.log_line.proofs.LineLaws.{printed-read}
 use Rattle.log_fault.specs.declared.Stand.the-variants.{Among}
@@ -38,7 +38,8 @@ keeps new s d last (One a) n = refl
 keeps new s d last (Loop k) n = refl
 keeps new s d last Done n = refl
 keeps new s d last (Stop k) n = absurd (false≢true (sym n))
-keeps new s d last (Bad k) n = refl
+keeps new s d last NoForm n = refl
+keeps new s d last NoRegister n = refl
 
 module _ (new : List ℕ) (s : Bool) (d : ℕ) (l : Line) (rest : List ℕ) (at : ℕ) (h : Lets s d l) (p : Printable l) where
   line-kept : (last : Bool) → isStop l ≡ false → fateOf (so new s d) last (lineText l) ≡ Keep l

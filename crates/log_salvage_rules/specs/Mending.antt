@@ -7,7 +7,7 @@ use lib.Dec.{eqb, ltb}
 use Rattle.arith.specs.Pick.{pick, both}
 use Rattle.text.specs.Key.{startsWith}
 use Rattle.log_line.specs.declared.Line.{Line}
-use Rattle.log_line.specs.declared.Line.the-variants.{Header, Machine, One, Loop, Done, Stop, Bad}
+use Rattle.log_line.specs.declared.Line.the-variants.{Header, Machine, One, Loop, Done, Stop, NoForm, NoRegister}
 use Rattle.log_line.specs.Said.{lineOf}
 use Rattle.log_line.specs.Printed.{lineText}
 use Rattle.log_fault.specs.declared.Stand.the-variants.{Among}
@@ -51,7 +51,8 @@ rightFate k Machine = Keep Machine
 rightFate k (One a) = Keep (One a)
 rightFate k (Loop n) = Keep (Loop n)
 rightFate k (Stop n) = Keep (Stop n)
-rightFate k (Bad n) = Keep (Bad n)
+rightFate k NoForm = Keep NoForm
+rightFate k NoRegister = Keep NoRegister
 
 -- "Drop lines at fault by 4 or 14 to 17, a `done` with no loop open (8), and a ninth loop line with the `done` that belongs to it (7 for both), keeping
 -- its body."
@@ -66,7 +67,8 @@ lineFate k last f Machine = foundFate k f
 lineFate k last f (One a) = foundFate k f
 lineFate k last f (Loop n) = foundFate k f
 lineFate k last f Done = foundFate k f
-lineFate k last f (Bad n) = foundFate k f
+lineFate k last f NoForm = foundFate k f
+lineFate k last f NoRegister = foundFate k f
 
 -- "Judge each line in order against what has been kept, as if dropped lines had never stood there"
 unfoldable pub fateOf : Kept → Bool → List ℕ → Fate
@@ -81,7 +83,8 @@ deeper d Header = d
 deeper d Machine = d
 deeper d (One a) = d
 deeper d (Stop n) = d
-deeper d (Bad n) = d
+deeper d NoForm = d
+deeper d NoRegister = d
 
 unfoldable pub isStop : Line → Bool
 isStop (Stop n) = true
@@ -90,7 +93,8 @@ isStop Machine = false
 isStop (One a) = false
 isStop (Loop n) = false
 isStop Done = false
-isStop (Bad n) = false
+isStop NoForm = false
+isStop NoRegister = false
 
 -- a line dropped for a reason
 unfoldable pub dropping : Kept → ℕ → ℕ → ℕ → Kept

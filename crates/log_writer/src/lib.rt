@@ -65,7 +65,8 @@ fn any_line(out: &mut [u8], at: usize, l: Line) -> usize
         Line::Loop(n) => keyed(out, at, b"loop=", n as u64),
         Line::Done => text_print::fixed(out, at, b"done=loop\n"),
         Line::Stop(n) => keyed(out, at, b"stop=", arith::wide_u32(n)),
-        Line::Bad(_) => at,
+        Line::NoForm => at,
+        Line::NoRegister => at,
     }
 }
 
@@ -98,7 +99,8 @@ pub fn line_length(l: Line) -> usize
         Line::Loop(n) => 6 + text_print::width(n as u64),
         Line::Done => 10,
         Line::Stop(n) => 6 + text_print::width(arith::wide_u32(n)),
-        Line::Bad(_) => 0,
+        Line::NoForm => 0,
+        Line::NoRegister => 0,
     }
 }
 

@@ -13,7 +13,7 @@ use Rattle.text.specs.Key.{startsWith}
 use Rattle.log_line.specs.declared.Act.{Act}
 use Rattle.log_line.specs.declared.Act.the-variants.{Access}
 use Rattle.log_line.specs.declared.Line.{Line}
-use Rattle.log_line.specs.declared.Line.the-variants.{Header, Machine, One, Loop, Done, Stop, Bad}
+use Rattle.log_line.specs.declared.Line.the-variants.{Header, Machine, One, Loop, Done, Stop, NoForm, NoRegister}
 use Rattle.log_line.specs.Printed.{actText, ended, lineText, Printable}
 use Rattle.log_line.specs.Said.{lineOf}
 use Rattle.log_fault.proofs.Standing.{act as acts-on, goes-may}
@@ -57,7 +57,8 @@ leaves-further d (One x) = tt
 leaves-further d (Loop n) = tt
 leaves-further d Done = tt
 leaves-further d (Stop n) = tt
-leaves-further d (Bad k) = tt
+leaves-further d NoForm = tt
+leaves-further d NoRegister = tt
 
 behind-further : (s : Stand) (l : List ℕ) → Further (behind s l)
 unfolding behind

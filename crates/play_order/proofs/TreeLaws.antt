@@ -6,7 +6,7 @@ use native.Mathlib.Omega.{arith}
 use lib.ListN.{length}
 use Rattle.log_line.specs.declared.Act.{Act}
 use Rattle.log_line.specs.declared.Line.{Line}
-use Rattle.log_line.specs.declared.Line.the-variants.{Header, Machine, One, Loop, Done, Stop, Bad}
+use Rattle.log_line.specs.declared.Line.the-variants.{Header, Machine, One, Loop, Done, Stop, NoForm, NoRegister}
 use Rattle.log_rules.specs.Tree.{Tree, end, act, loop, times, acts, actClocks, clocks, turns}
 use Rattle.log_rules.specs.Whole.{grow, innermost}
 
@@ -45,7 +45,8 @@ module _ (a b : Act) where
   grown (Stop n) es = more (same end) es
   grown Header es = es
   grown Machine es = es
-  grown (Bad k) es = es
+  grown NoForm es = es
+  grown NoRegister es = es
 
   pub inner : {ts ts′ : List Tree} → Exchanges ts ts′ → Exchanged (innermost ts) (innermost ts′)
   unfolding innermost

@@ -120,15 +120,25 @@ const KEYS: [(&[u8], Value); 8] = [
     (b"stop", Value::Decimal(STOPS)),
 ];
 
-/// Where the second line begins, behind `log=1` and its line feed.
-const SECOND: usize = 6;
+/// The first line.
+const HEAD: &[u8] = b"log=1\n";
 
-/// Whether a key may stand at a place with so many loops open.
-fn allowed(key: &[u8], at: usize, open: usize) -> bool {
+/// Where a line stands in a log.
+#[derive(Clone, Copy)]
+struct Stand {
+    at: usize,
+    /// It is the second line: only `log=1` and its line feed are before it.
+    second: bool,
+    /// The loops open there.
+    open: usize,
+}
+
+/// Whether a key may stand there.
+fn allowed(key: &[u8], Stand { at, second, open }: Stand) -> bool {
     match key {
         b"log" => at == 0,
         _ if at == 0 => false,
-        b"machine" => at == SECOND,
+        b"machine" => second,
         b"loop" => open < MOST_DEPTH,
         b"done" => open > 0,
         b"stop" => open == 0,
@@ -172,9 +182,9 @@ fn begins(text: &[u8], key: &[u8], value: &Value) -> bool {
 }
 
 /// The fault of a line that isn't right, or not allowed where it stands: its bytes up to its line feed or the log's end.
-fn fault(text: &[u8], at: usize, open: usize) -> Fault {
-    let fault = |number, place| Fault { number, place: at + place };
-    let right = |text: &[u8]| KEYS.iter().any(|(key, value)| allowed(key, at, open) && begins(text, key, value));
+fn fault(text: &[u8], stand: Stand) -> Fault {
+    let fault = |number, place| Fault { number, place: stand.at + place };
+    let right = |text: &[u8]| KEYS.iter().any(|(key, value)| allowed(key, stand) && begins(text, key, value));
     // The first byte that can't belong to any right line allowed here with that beginning.
     let Some(first) = (0..text.len()).find(|&i| !right(&text[..=i])) else {
         return fault(number::FEED, text.len());
@@ -210,13 +220,14 @@ pub(crate) fn judged(log: &[u8], at: usize, open: usize) -> Result<Placed, Fault
     let end = feed.map_or(log.len(), |feed| feed + 1);
     let text = &log[at..end];
     let key = text.split(|byte| *byte == b'=').next().unwrap_or_default();
+    let stand = Stand { at, second: log[..at] == *HEAD, open };
     let whole = |number| Err(Fault { number, place: at });
     match feed.and_then(|feed| line(&log[at..feed])) {
         Some(Line::Item(Item::Write(register, _))) if at > 0 && !is_register(register) => whole(number::REGISTER),
-        Some(line) if allowed(key, at, open) => Ok((line, at..end)),
+        Some(line) if allowed(key, stand) => Ok((line, at..end)),
         Some(Line::Loop(_)) if at > 0 => whole(number::DEPTH),
         Some(Line::Done | Line::Stop(_)) if at > 0 => whole(number::UNMATCHED),
-        _ => Err(fault(text, at, open)),
+        _ => Err(fault(text, stand)),
     }
 }
 

@@ -29,7 +29,11 @@ returns-6 c = rw (c .before .l3 .given .1)
 
 returns-7 : tie.Need-returns-7
 unfolding stepAnswer begun partAnswer
-returns-7 c = rw (c .before .l4 .given .1)
+returns-7 c = rw (c .enum-told4 .given .1)
+
+returns-8 : tie.Need-returns-8
+unfolding stepAnswer begun partAnswer
+returns-8 c = rw (c .enum-told5 .given .1)
 
 pub opened-spec : {M : Type 1} → statement M
 opened-spec =
@@ -42,11 +46,11 @@ opened-spec =
     (λ c. search needs)
     (λ c. search needs)
     (λ c. search needs)
-    (λ c. search needs)
+    (λ c. search needs) (λ c. search needs)
     returns
     returns-2
     returns-3
     returns-4
     returns-5
     returns-6
-    returns-7)
+    returns-7 returns-8)

@@ -30,7 +30,11 @@ returns-6 c = rw (c .before .before .before .enum-told6 .given .1, ← c .before
 
 returns-7 : tie.Need-returns-7
 unfolding wholeOf
-returns-7 c = rw (c .before .before .before .l .given .1, ← c .before .both-of .ensures) (c .start-if4 .ensures)
+returns-7 c = rw (c .enum-told7 .given .1)
+
+returns-8 : tie.Need-returns-8
+unfolding wholeOf
+returns-8 c = rw (c .before .enum-told8 .given .1) (c .start-if4 .ensures)
 
 pub as-whole-spec : {M : Type 1} → statement M
 as-whole-spec =
@@ -52,7 +56,7 @@ as-whole-spec =
     (λ c κs. tt)
     (λ c κs. tt)
     (λ c. search needs)
-    (λ c κs. tt)
+    (λ c. search needs)
     (λ c κs. tt)
     returns
     returns-2
@@ -60,4 +64,5 @@ as-whole-spec =
     returns-4
     returns-5
     returns-6
-    returns-7)
+    returns-7
+    returns-8)

@@ -29,6 +29,9 @@ returns-6 c = (rw (c .before .enum-told6 .given .1) (c .plain5 .ensures), c .bef
 returns-7 : tie.Need-returns-7
 returns-7 c = (rw (c .before .enum-told7 .given .1) (c .plain6 .ensures), c .before .before .before .before .before .pre .3)
 
+returns-8 : tie.Need-returns-8
+returns-8 c = (rw (c .before .enum-told8 .given .1) (c .plain7 .ensures), c .before .before .before .before .before .pre .3)
+
 pub line-move-spec : {M : Type 1} → statement M
 line-move-spec =
     tie.close
@@ -40,6 +43,7 @@ line-move-spec =
     (λ c. search needs) (λ c κs. search needs)
     (λ c. search needs) (λ c κs. search needs)
     (λ c. search needs) (λ c κs. search needs)
+    (λ c. search needs) (λ c κs. search needs)
     returns
     returns-2
     (λ c. search needs)
@@ -47,4 +51,4 @@ line-move-spec =
     returns-4
     returns-5
     returns-6
-    returns-7)
+    returns-7 returns-8)

@@ -31,6 +31,10 @@ returns-7 : tie.Need-returns-7
 unfolding deeper
 returns-7 c = rw (c .enum-told7 .given .1)
 
+returns-8 : tie.Need-returns-8
+unfolding deeper
+returns-8 c = rw (c .enum-told8 .given .1)
+
 pub deeper-spec : {M : Type 1} → statement M
 deeper-spec =
     tie.close
@@ -43,11 +47,11 @@ deeper-spec =
     (λ c. search needs)
     (λ c. search needs)
     (λ c. search needs)
-    (λ c. search needs)
+    (λ c. search needs) (λ c. search needs)
     returns
     returns-2
     returns-3
     returns-4
     returns-5
     returns-6
-    returns-7)
+    returns-7 returns-8)

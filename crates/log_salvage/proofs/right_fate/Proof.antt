@@ -23,6 +23,9 @@ returns-6 c = rw (c .enum-told5 .given .1)
 returns-7 : tie.Need-returns-7
 returns-7 c = rw (c .enum-told6 .given .1)
 
+returns-8 : tie.Need-returns-8
+returns-8 c = rw (c .enum-told7 .given .1)
+
 pub right-fate-spec : {M : Type 1} → statement M
 right-fate-spec =
     tie.close
@@ -37,11 +40,11 @@ right-fate-spec =
     (λ c. search needs)
     (λ c. search needs)
     (λ c. search needs)
-    (λ c. search needs)
+    (λ c. search needs) (λ c. search needs)
     returns
     returns-2
     returns-3
     returns-4
     returns-5
     returns-6
-    returns-7)
+    returns-7 returns-8)

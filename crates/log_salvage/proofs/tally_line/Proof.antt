@@ -33,6 +33,10 @@ returns-7 : tie.Need-returns-7
 unfolding tallyLine
 returns-7 c = rw (c .enum-told5 .given .1)
 
+returns-8 : tie.Need-returns-8
+unfolding tallyLine
+returns-8 c = rw (c .enum-told6 .given .1)
+
 pub tally-line-spec : {M : Type 1} → statement M
 tally-line-spec =
     tie.close
@@ -46,11 +50,11 @@ tally-line-spec =
     (λ c. search needs)
     (λ c. search needs)
     (λ c. search needs)
-    (λ c. search needs)
+    (λ c. search needs) (λ c. search needs)
     returns
     returns-2
     returns-3
     returns-4
     returns-5
     returns-6
-    returns-7)
+    returns-7 returns-8)

@@ -47,5 +47,9 @@ returns-7 : tie.Need-returns-7
 unfolding lineText ended
 returns-7 c = rw (c .enum-told4 .given .1) (record { place = omega arith; bytes = refl })
 
+returns-8 : tie.Need-returns-8
+unfolding lineText ended
+returns-8 c = rw (c .enum-told5 .given .1) (record { place = omega arith; bytes = refl })
+
 pub any-line-spec : {M : Type 1} → statement M
-any-line-spec = tie.close (tie.spec (λ c. search needs) (λ c. search needs) (λ c κs. search needs) (λ c. search needs) (λ c. search needs) (λ c κs. search needs) (λ c. search needs) act-line-requires (λ c. search needs) (λ c. search needs) (λ c. search needs) keyed-requires (λ c. search needs) (λ c. search needs) (λ c κs. search needs) (λ c. search needs) (λ c. search needs) (λ c κs. search needs) keyed-requires-2 (λ c. search needs) (λ c. search needs) returns (λ c. search needs) returns-2 (λ c. search needs) returns-3 (λ c. search needs) returns-4 (λ c. search needs) returns-5 (λ c. search needs) returns-6 returns-7)
+any-line-spec = tie.close (tie.spec (λ c. search needs) (λ c. search needs) (λ c κs. search needs) (λ c. search needs) (λ c. search needs) (λ c κs. search needs) (λ c. search needs) act-line-requires (λ c. search needs) (λ c. search needs) (λ c. search needs) keyed-requires (λ c. search needs) (λ c. search needs) (λ c κs. search needs) (λ c. search needs) (λ c. search needs) (λ c κs. search needs) keyed-requires-2 (λ c. search needs) (λ c. search needs) (λ c. search needs) returns (λ c. search needs) returns-2 (λ c. search needs) returns-3 (λ c. search needs) returns-4 (λ c. search needs) returns-5 (λ c. search needs) returns-6 returns-7 returns-8)

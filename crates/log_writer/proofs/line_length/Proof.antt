@@ -36,5 +36,9 @@ returns-7 : tie.Need-returns-7
 unfolding lineText ended
 returns-7 c = rw (c .enum-told4 .given .1) (refl, omega arith)
 
+returns-8 : tie.Need-returns-8
+unfolding lineText ended
+returns-8 c = rw (c .enum-told5 .given .1) (refl, omega arith)
+
 pub line-length-spec : {M : Type 1} → statement M
-line-length-spec = tie.close (tie.spec (λ c. search needs) (λ c. search needs) (λ c. search needs) (λ c κs. search needs) (λ c. search needs) (λ c. search needs) (λ c κs. search needs) (λ c. search needs) (λ c. search needs) (λ c. search needs) (λ c κs. search needs) (λ c κs. search needs) (λ c. search needs) (λ c. search needs) returns returns-2 returns-3 returns-4 returns-5 returns-6 returns-7)
+line-length-spec = tie.close (tie.spec (λ c. search needs) (λ c. search needs) (λ c. search needs) (λ c κs. search needs) (λ c. search needs) (λ c. search needs) (λ c κs. search needs) (λ c. search needs) (λ c. search needs) (λ c. search needs) (λ c κs. search needs) (λ c κs. search needs) (λ c. search needs) (λ c. search needs) (λ c. search needs) returns returns-2 returns-3 returns-4 returns-5 returns-6 returns-7 returns-8)
