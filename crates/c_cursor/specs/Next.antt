@@ -9,8 +9,8 @@ use Rattle.reading.specs.Saying.{Said, over, on, says, refused, Turn}
 use Rattle.log_cursor.specs.declared.Cursor.{Cursor}
 use Rattle.log_cursor.specs.declared.Given.{Given}
 use Rattle.log_cursor.specs.declared.Stepped.{Stepped}
-use Rattle.log_cursor.specs.Stepping.{steppedOf, stepOf, beginning}
-use Rattle.c_log.specs.Logs.{logPacked, actValue}
+use Rattle.log_cursor.specs.Stepping.{steppedOf, foundNumber, foundPlace, foundActs, stepOf, beginning}
+use Rattle.c_log.specs.Logs.{logPacked, actsValue}
 use Rattle.c_cursor.specs.Cursors.{cursorSize, cursorBytes, cursorOf, cursorEncoded}
 
 -- AT THE BEGINNING: any bytes of a cursor's length, whatever they held; 2 for another length
@@ -38,18 +38,22 @@ nextIn step (suc f) s = endedBy (step s .said) (step s) (nextIn step f (step s .
 unfoldable pub nextOf : List ℕ → Cursor → Stepped
 nextOf log c = steppedOf (nextIn (stepOf log) 2000002 c)
 
--- "kind x 2^24 + what it holds", as an item's; kind 0, the log's end; kind 4, the cursor has moved and came to no item yet
-abbrev pub nextFound : Given → ℕ
-nextFound (Given.Act a) = logPacked 0 0 (actValue a)
-nextFound Given.End = logPacked 0 0 0
-nextFound Given.Moved = logPacked 0 0 (4 * 2 ^ 24)
-nextFound (Given.Refused k p) = logPacked k p 0
+-- the cursor has moved and came to no item yet; a step that is refused leaves it where it was
+abbrev pub isMoved : Given → Bool
+isMoved (Given.Act a) = false
+isMoved Given.End = false
+isMoved Given.Moved = true
+isMoved (Given.Refused k p) = false
 
 abbrev pub isRefused : Given → Bool
 isRefused (Given.Act a) = false
 isRefused Given.End = false
 isRefused Given.Moved = false
 isRefused (Given.Refused k p) = true
+
+-- "kind x 2^24 + what it holds", as an item's; kind 0, the log's end; kind 4, moved to no item yet
+abbrev pub nextFound : Given → ℕ
+nextFound f = logPacked (foundNumber f) (foundPlace f) (pick (isMoved f) (4 * 2 ^ 24) (actsValue (foundActs f)))
 
 -- 2 for another length; then the number and the place of the line that the cursor comes to
 unfoldable pub nextPacked : List ℕ → List ℕ → ℕ

@@ -1,6 +1,6 @@
 -- Logs at the boundary: the check, the totals, item k and a loop's body, each answer in one number. A refusal has its place, and value 0.
 use Prim.Native.Nat.{ℕ, _+_, _*_, _^_}
-use mathlib.Core.List.{List}
+use mathlib.Core.List.{List, [], _∷_}
 use mathlib.Core.Bool.{Bool}
 use lib.ListN.{length}
 use lib.Dec.{eqb}
@@ -12,8 +12,7 @@ use Rattle.log_line.specs.declared.Act.the-variants.{Wait}
 use Rattle.log_rules.specs.Lines.{nextLine}
 use Rattle.log_rules.specs.Whole.{checkOf}
 use Rattle.log_item.specs.declared.Picked.{Picked}
-use Rattle.log_item.specs.declared.Picked.the-variants.{Is, Refused}
-use Rattle.log_item.specs.Items.{itemOf}
+use Rattle.log_item.specs.Items.{itemNumber, itemPlace, itemActs, itemOf}
 use Rattle.log_body.specs.Bodies.{bodyCheckOf, bodyOf}
 
 -- "number + 2^8 x place + 2^32 x value"
@@ -43,9 +42,13 @@ abbrev pub actValue : Act → ℕ
 actValue (Wait n) = 1 * 2 ^ 24 + n
 actValue (Act.Access x) = accessValue x
 
+-- 0 where there is no act
+abbrev pub actsValue : List Act → ℕ
+actsValue [] = 0
+actsValue (a ∷ l) = actValue a
+
 abbrev pub foundPacked : Picked → ℕ
-foundPacked (Is a) = logPacked 0 0 (actValue a)
-foundPacked (Refused number place) = logPacked number place 0
+foundPacked f = logPacked (itemNumber f) (itemPlace f) (actsValue (itemActs f))
 
 -- item k
 abbrev pub itemPacked : List ℕ → ℕ → ℕ

@@ -1,7 +1,10 @@
 -- Item k of a log is the list's. Assumes nothing.
-use mathlib.Core.Path.{_≡_, ap}
+use mathlib.Core.Path.{_≡_, refl, ap}
 use mathlib.Core.List.{List}
 use mathlib.Core.Bool.{Bool}
+use lib.Dec.{eqb, ltb}
+use Rattle.arith.specs.Pick.{pick}
+use Rattle.arith.proofs.PickLaws.{pick-each}
 use Prim.Native.Nat.{ℕ, _≤_, _<_}
 use native.Mathlib.Omega.{arith}
 use borrow.Author.Tests.{eq-eqb, ne-eqb, lt-ltb, le-ltb}
@@ -13,12 +16,22 @@ use Rattle.log_rules.specs.Tree.{Tree, acts, clocks, turns, logText, Within}
 use Rattle.log_rules.specs.Whole.{treeOf, checkOf}
 use Rattle.log_rules.proofs.CheckLaws.{acts-le}
 use Rattle.log_item.specs.declared.Picked.the-variants.{Is, Refused}
-use Rattle.log_item.specs.Items.{nth, itemOf}
+use Rattle.log_item.specs.Items.{itemNumber, nth, itemOf, itemRefusal}
 use Rattle.log_item.specs.Walk.{actsAt}
 use Rattle.log_passing.proofs.Passing.{clear, passes, passing, printed}
 use Rattle.log_item.proofs.HopLaws.{acts-of}
 
 module _ (log : List ℕ) (k : ℕ) where
+  -- the number that is answered
+  pub item-number : itemNumber (itemOf log k) ≡ itemRefusal log k
+  unfolding itemOf itemRefusal nth
+  item-number =
+      pick-each (λ x. itemNumber x ≡ itemRefusal log k) (eqb (checkOf log .number) 0)
+      (λ e.
+      rw e
+      (pick-each (λ x. itemNumber x ≡ pick (ltb k (length (acts (treeOf log)))) 0 11) (ltb k (length (acts (treeOf log)))) (λ f. rw f refl) (λ f. rw f refl)))
+      (λ e. rw e refl)
+
   pub item-refused : (checkOf log .number ≡ 0 → ⊥) → Refused (checkOf log .number) (checkOf log .place) ≡ itemOf log k
   unfolding itemOf
   item-refused h = rw (ne-eqb (checkOf log .number) 0 h)

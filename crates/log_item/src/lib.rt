@@ -8,7 +8,7 @@ ghost use Prim.Native.Nat.{_≤_, _<_};
 ghost use lib.ListN.{length, getD};
 ghost use Rattle.log_line.specs.declared.Act.the-variants.{Wait};
 ghost use Rattle.log_rules.specs.Block.{SmallBlock};
-ghost use Rattle.log_item.specs.Items.{itemNumber, itemPlace, itemOf};
+ghost use Rattle.log_item.specs.Items.{itemNumber, itemPlace, itemOf, itemRefusal};
 ghost use Rattle.log_item.specs.Walk.{actsAt, stayOf, insideOf, hereOf, Hops};
 
 // Item k: an act, or a refusal's number and place.
@@ -122,6 +122,7 @@ fn find(log: &[u8], at: usize, k: u64) -> Act
 // Item k, counted from 0.
 pub fn item(log: &[u8], k: u64) -> Picked
     ensures { λ r. ⌜ r ≡ itemOf (now (log .entry)) k ⌝ }
+    ensures { λ r. ⌜ itemNumber r ≡ itemRefusal (now (log .entry)) k ⌝ }
 {
     let c = log_check::check(log);
     if c.number != 0 {

@@ -23,7 +23,11 @@ measuredLevels Silent = []
 measuredLevels (Steady v) = v ∷ []
 measuredLevels (Moving a b) = a ∷ b ∷ []
 
--- "Refusals: 29 for a level above 32,767." "Silent means all are 0, steady all equal and not 0, moving anything else"
+-- "Refusals: 29 for a level above 32,767."
+unfoldable pub meterNumber : List ℕ → ℕ
+meterNumber l = pick (anyAbove l) 29 0
+
+-- "Silent means all are 0, steady all equal and not 0, moving anything else"
 unfoldable pub measureOf : List ℕ → Measured
 measureOf [] = NoLevels
 measureOf (x ∷ l) =

@@ -24,6 +24,11 @@ valuesOf Silent = []
 valuesOf (Steady v) = v ∷ []
 valuesOf (Moving a b) = a ∷ b ∷ []
 
+-- levels as fractions
+abbrev pub fractions : List ℕ → List Float
+fractions [] = []
+fractions (v ∷ l) = fractionOf v ∷ fractions l
+
 -- an answer in whole levels with every level as its fraction
 abbrev pub inFractions : Measured → Metered
 inFractions (whole.Refused k) = Refused k

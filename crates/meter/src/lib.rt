@@ -3,8 +3,8 @@
 ghost use mathlib.Core.Path.{_≡_};
 ghost use mathlib.Core.List.{[], _∷_};
 ghost use Prim.Native.Nat.{min, max};
-ghost use Rattle.meter.specs.Measure.{measureOf};
-ghost use Rattle.meter.specs.Meter.{meteredNumber, inFractions, meterOf};
+ghost use Rattle.meter.specs.Measure.{measuredLevels, meterNumber, measureOf};
+ghost use Rattle.meter.specs.Meter.{meteredNumber, valuesOf, fractions, inFractions, meterOf};
 ghost use Rattle.meter.specs.Spans.{spanAt, spanOver, spanFrom, toldOf};
 
 pub mod records;
@@ -139,6 +139,8 @@ pub fn in_fractions(m: Measured) -> Metered
 // What a list of levels is. Refused: 29.
 pub fn meter(levels: &[u32]) -> Metered
     ensures { λ r. ⌜ r ≡ meterOf (now (levels .entry)) ⌝ }
+    ensures { λ r. ⌜ meteredNumber r ≡ meterNumber (now (levels .entry)) ⌝ }
+    ensures { λ r. ⌜ valuesOf r ≡ fractions (measuredLevels (measureOf (now (levels .entry)))) ⌝ }
 {
     let m = measure(levels);
     in_fractions(m)

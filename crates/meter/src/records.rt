@@ -1,8 +1,8 @@
 // The meter over records of a run, whose words are clock and level in turn, so that nobody has to copy the levels out of them.
 ghost use mathlib.Core.Path.{_≡_};
 ghost use Prim.Native.Nat.{_+_, min};
-ghost use Rattle.meter.specs.Measure.{measureOf};
-ghost use Rattle.meter.specs.Meter.{meterOf};
+ghost use Rattle.meter.specs.Measure.{measuredLevels, meterNumber, measureOf};
+ghost use Rattle.meter.specs.Meter.{meteredNumber, valuesOf, fractions, meterOf};
 ghost use Rattle.meter.specs.Records.{recordLevels, levelsHeard};
 ghost use Rattle.meter.specs.Spans.{spanOver, spanFrom};
 use super::Measured;
@@ -81,6 +81,8 @@ pub fn measure(before: Before, words: &[u32], start: usize, count: usize) -> Mea
 // The same, every level as the exact fraction of 32,768.
 pub fn meter(before: Before, words: &[u32], start: usize, count: usize) -> Metered
     ensures { λ r. ⌜ r ≡ meterOf (levelsHeard before (recordLevels start count (now (words .entry)))) ⌝ }
+    ensures { λ r. ⌜ meteredNumber r ≡ meterNumber (levelsHeard before (recordLevels start count (now (words .entry)))) ⌝ }
+    ensures { λ r. ⌜ valuesOf r ≡ fractions (measuredLevels (measureOf (levelsHeard before (recordLevels start count (now (words .entry)))))) ⌝ }
 {
     let m = measure(before, words, start, count);
     super::in_fractions(m)

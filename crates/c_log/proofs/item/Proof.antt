@@ -10,17 +10,17 @@ use Rattle.c_log.proofs.item.Tie as tie
 cast-pack : tie.Need-cast-pack
 cast-pack c =
     let start = c .before .before .before .before .before .before .args in
-    let waits = item-waits (now (start .log)) (start .k) _ (sym (c .before .before .before .before .item .ensures) ∙ c .before .before .f .given .1) in
+    let waits = item-waits (now (start .log)) (start .k) _ (sym (c .before .before .before .before .item .ensures .0) ∙ c .before .before .f .given .1) in
     omega (arith, c .act-value .ensures .1 waits)
 
 returns : tie.Need-returns
 returns c =
-    rw (← c .before .before .before .before .before .item .ensures, c .before .before .before .f .given .1, c .pack .ensures, c .before .act-value .ensures .0)
+    rw (← c .before .before .before .before .before .item .ensures .0, c .before .before .before .f .given .1, c .pack .ensures, c .before .act-value .ensures .0)
 
 returns-2 : tie.Need-returns-2
 returns-2 c =
     let start = c .before .before .before .before .before .before .args in
-    let item = c .before .before .before .before .item .ensures in
+    let item = c .before .before .before .before .item .ensures .0 in
     let found = c .before .before .f2 .given .1 in
     rw (← item, found, c .pack2 .ensures, place-is _ (item-place (now (start .log)) (start .k) _ _ (sym item ∙ found)))
 

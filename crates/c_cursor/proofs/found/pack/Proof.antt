@@ -12,6 +12,12 @@ cast-pack c =
 returns : tie.Need-returns
 returns c = rw (c .before .before .before .f .given .1) (rw (c .pack .ensures, c .before .act-value .ensures .0))
 
+returns-2 : tie.Need-returns-2
+returns-2 c = rw (c .before .enum-told .given .1) (c .pack2 .ensures)
+
+returns-3 : tie.Need-returns-3
+returns-3 c = rw (c .enum-told2 .given .1)
+
 returns-4 : tie.Need-returns-4
 returns-4 c =
     let within = rw (c .before .before .f2 .given .1) at (c .before .before .before .before .pre) in
@@ -31,6 +37,6 @@ pack-spec =
     (λ c. search needs)
     (λ c κs. tt)
     returns
-    (λ c. search needs)
-    (λ c. search needs)
+    returns-2
+    returns-3
     returns-4)
