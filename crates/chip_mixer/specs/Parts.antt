@@ -1,4 +1,4 @@
--- Helper: nobody has to believe this; the level by the parts of N, as a stretch makes it; that it is the level is proved (proofs/PartsLaws).
+-- Between crates: the level by the parts of N, as a stretch makes it; that it is the level is proved (proofs/PartsLaws).
 use Prim.Native.Nat.{ℕ, _+_, _*_, _/_, _%_}
 use Rattle.chip_mixer.specs.Mixer.{squaresLevel, unit}
 

@@ -1,4 +1,4 @@
--- Helper: nobody has to believe this; what the code keeps of the DMC in a stretch; that it is the DMC at each clock is proved (leap_stretch/proofs/DmcLaws).
+-- Between crates: what is kept of the DMC in a stretch; that it is the DMC at each clock is proved (leap_stretch/proofs/DmcLaws).
 -- The DMC as a stretch between two frame steps keeps it: brought up to clock `at` of the stretch, its next possible change, what it gives.
 -- n is its timer's period.
 use Prim.Native.Nat.{ℕ, _+_, _-_}

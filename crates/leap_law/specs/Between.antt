@@ -1,4 +1,4 @@
--- Between two frame steps only what the timers move, the DMC and the frame's phase change.
+-- Between two frame steps only what the timers move, the DMC and the frame's clock number change.
 use Rattle.chip_square.specs.Square as square
 use Rattle.chip_triangle.specs.Triangle as triangle
 use Rattle.chip_noise.specs.Noise as noise

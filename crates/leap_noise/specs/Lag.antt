@@ -1,4 +1,4 @@
--- Helper: nobody has to believe this; what the code keeps of the noise in a stretch; that it is the noise at each clock is proved (leap_stretch/proofs/NoiseLaws).
+-- Between crates: what is kept of the noise in a stretch; that it is the noise at each clock is proved (leap_stretch/proofs/NoiseLaws).
 -- The noise as a stretch between two frame steps keeps it: brought up to clock `at` of the stretch, its next possible change, what it gives.
 -- n is its timer's period, `amount` what it gives while bit 0 of the shift register is clear.
 use Prim.Native.Nat.{ℕ, _+_, _-_}

@@ -1,4 +1,4 @@
--- Helper: nobody has to believe this; what the code keeps of a square in a stretch; that it is the square at each clock is proved (leap_stretch/proofs/SquareLaws).
+-- Between crates: what is kept of a square in a stretch; that it is the square at each clock is proved (leap_stretch/proofs/SquareLaws).
 -- A square as a stretch between two frame steps keeps it: its next possible change, what it gives up to then and for how long it gives the
 -- other behind it, in one number, and that number's sum with the one that takes its place at the change.
 use Prim.Native.Nat.{ℕ, _+_, _-_, _*_, _/_, _%_}

@@ -1,4 +1,4 @@
--- Helper: nobody has to believe this; what the code keeps of a stretch; proved to be the chip at each clock (proofs/LaggedLaws).
+-- Between crates: what is kept of a stretch; proved to be the chip at each clock (proofs/LaggedLaws).
 -- A stretch between two frame steps, each channel brought up only when what it gives may change. Clocks count from the stretch's start.
 use Prim.Native.Nat.{ℕ, min}
 use mathlib.Core.Bool.{true, false}

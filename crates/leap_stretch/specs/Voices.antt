@@ -1,4 +1,4 @@
--- Helper: nobody has to believe this; squares and triangle by themselves, as the innermost loop keeps them; proved to be the same events (proofs/VoicesLaws).
+-- Between crates: squares and triangle by themselves, as the innermost loop keeps them; proved to be the same events (proofs/VoicesLaws).
 use Prim.Native.Nat.{ℕ, min}
 use mathlib.Core.List.{List, [], _∷_}
 use mathlib.Core.Bool.{Bool}

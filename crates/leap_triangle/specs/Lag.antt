@@ -1,4 +1,4 @@
--- Helper: nobody has to believe this; what the code keeps of the triangle in a stretch; that it is the triangle at each clock is proved (leap_stretch/proofs/TriangleLaws).
+-- Between crates: what is kept of the triangle in a stretch; that it is the triangle at each clock is proved (leap_stretch/proofs/TriangleLaws).
 -- The triangle as a stretch between two frame steps keeps it: its next possible change, its position up to then, and for how many clocks it
 -- surely gives the same behind each change. `on` is 1 where its counters let it advance, else 0.
 use Prim.Native.Nat.{ℕ, _+_, _%_}

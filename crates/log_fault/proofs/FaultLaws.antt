@@ -9,7 +9,7 @@ use borrow.Author.Tests.{eqb-true, eqb-false, eq-eqb, ne-eqb, ltb-false, le-ltb}
 use lib.ListN.{length, getD, take}
 use lib.Seq.{take-length}
 use lib.Dec.{eqb}
-use Rattle.arith.specs.Pick.{pick, both}
+use Rattle.arith.specs.Pick.{pick}
 use Rattle.arith.proofs.PickLaws.{pick-each}
 use Rattle.log_line.specs.declared.Line.{Line}
 use Rattle.log_line.specs.declared.Line.the-variants.{Header, Machine, One, Loop, Done, Stop, NoForm, NoRegister}

@@ -15,7 +15,8 @@ use Rattle.log_rules.specs.Tree.{turns}
 use Rattle.log_rules.specs.Whole.{treeOf, checkOf}
 use Rattle.log_passing.proofs.Passing.{clear, passes}
 use Rattle.log_fold.specs.declared.Folded.{Folded}
-use Rattle.log_fold.specs.Answer.{foldRefusal, foldDone, foldOf, writtenOver, foldLent}
+use Rattle.arith.specs.Over.{over}
+use Rattle.log_fold.specs.Answer.{foldRefusal, foldDone, foldOf, foldLent}
 use Rattle.log_fold_rules.specs.Promise.{Folds}
 use Rattle.log_fold_rules.proofs.Passes.{folds}
 use Rattle.log_fold_rules.specs.Folding.{foldedLog}
@@ -44,8 +45,8 @@ module _ (log out : List ℕ) (k : Checked) (e : k ≡ checkOf log) where
 
 -- an answer of 0 says how long the log is that stands in front, and what is promised of it holds
 
-front-is : (new old : List ℕ) → take (length new) (writtenOver new old) ≡ new
-unfolding writtenOver
+front-is : (new old : List ℕ) → take (length new) (over new old) ≡ new
+unfolding over
 front-is new old = take-at new (drop (length new) old) (length new) refl
 
 promise-of : (log out : List ℕ) → foldOf log out .number ≡ 0 → Folds log (take (foldOf log out .length) (foldLent log out))
@@ -54,7 +55,7 @@ promise-of log out = go (eqb (checkOf log .number) 0) refl (ltb (length out) (le
   where
     go : (x : Bool) → eqb (checkOf log .number) 0 ≡ x → (y : Bool)
         → pick x (pick y (foldRefusal 32 0) (foldDone (length (foldedLog log)))) (foldRefusal (checkOf log .number) (checkOf log .place)) .number ≡ 0
-        → Folds log (take (pick x (pick y (foldRefusal 32 0) (foldDone (length (foldedLog log)))) (foldRefusal (checkOf log .number) (checkOf log .place)) .length) (pick x (pick y out (writtenOver (foldedLog log) out)) out))
+        → Folds log (take (pick x (pick y (foldRefusal 32 0) (foldDone (length (foldedLog log)))) (foldRefusal (checkOf log .number) (checkOf log .place)) .length) (pick x (pick y out (over (foldedLog log) out)) out))
     go true e true h = absurd (omega arith)
     go true e false h = rw (front-is (foldedLog log) out) (folds log (eqb-true (checkOf log .number) 0 e))
     go false e y h = absurd (eqb-false (checkOf log .number) 0 e h)

@@ -17,7 +17,7 @@ use Rattle.log_rules.specs.Whole.{treeOf, checkOf}
 use Rattle.log_rules.proofs.Derived.{Reads, stops}
 use Rattle.log_passing.proofs.Passing.{clear, passing, stands}
 use Rattle.log_fold.specs.declared.Move.{Move}
-use Rattle.log_fold.specs.Answer.{writtenOver}
+use Rattle.arith.specs.Over.{over}
 use Rattle.log_fold_rules.specs.Folding.{folded, foldedTree, foldedLog}
 use Rattle.log_fold.specs.Moves.{moveOf, moveText}
 use Rattle.log_fold_rules.proofs.Passes.{folds}
@@ -142,8 +142,8 @@ module _ {log out₁ out : List ℕ} {at to k : ℕ} (g : Going log out₁ out a
         }
 
 -- the folded log is no longer than the log, and so than the lent bytes
-pub over-is : (log out : List ℕ) → checkOf log .number ≡ 0 → length log ≤ length out → sets out 0 (foldedLog log) ≡ writtenOver (foldedLog log) out
-unfolding writtenOver
+pub over-is : (log out : List ℕ) → checkOf log .number ≡ 0 → length log ≤ length out → sets out 0 (foldedLog log) ≡ over (foldedLog log) out
+unfolding over
 over-is log out h room =
     let f = folds log h in
     sets-eq (foldedLog log) out 0 (omega (arith, f .not-longer)) ∙ ap (λ (j : ℕ). foldedLog log ++ drop j out) (let z : 0 + length (foldedLog log) ≡ length (foldedLog log) = omega arith in z)

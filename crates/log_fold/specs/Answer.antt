@@ -1,8 +1,9 @@
 -- What `fold` answers, and what stands in the lent bytes afterwards.
 use Prim.Native.Nat.{ℕ}
-use mathlib.Core.List.{List, _++_}
-use lib.ListN.{length, drop}
+use mathlib.Core.List.{List}
+use lib.ListN.{length}
 use lib.Dec.{eqb, ltb}
+use Rattle.arith.specs.Over.{over}
 use Rattle.arith.specs.Pick.{pick}
 use Rattle.log_rules.specs.Whole.{checkOf}
 use Rattle.log_fold.specs.declared.Folded.{Folded}
@@ -21,13 +22,9 @@ foldOf log out =
     (pick (ltb (length out) (length log)) (foldRefusal 32 0) (foldDone (length (foldedLog log))))
     (foldRefusal (checkOf log .number) (checkOf log .place))
 
--- a text in front; the bytes behind it stay
-unfoldable pub writtenOver : List ℕ → List ℕ → List ℕ
-writtenOver new old = new ++ drop (length new) old
-
 -- "Rewrite a passing log into a second buffer"; refused, "leaving it untouched"
 unfoldable pub foldLent : List ℕ → List ℕ → List ℕ
 foldLent log out =
     pick (eqb (checkOf log .number) 0)
-    (pick (ltb (length out) (length log)) out (writtenOver (foldedLog log) out))
+    (pick (ltb (length out) (length log)) out (over (foldedLog log) out))
     out

@@ -1,4 +1,4 @@
--- Helper: nobody has to believe this; how the code finds the byte; proved to be `reach` (proofs/ScanLaws).
+-- Between crates: how the first byte at fault is found; proved to be `reach` (proofs/ScanLaws).
 -- How the code finds the first byte at fault: how many bytes of a line suit a form, from the front.
 use Prim.Native.Nat.{ℕ, suc}
 use mathlib.Core.List.{List, [], _∷_}

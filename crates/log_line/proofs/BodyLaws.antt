@@ -9,7 +9,7 @@ use Rattle.text.specs.Hex.{hex}
 use Rattle.text.specs.declared.Number.{Number}
 use Rattle.text.specs.declared.Number.the-variants.{Is, None}
 use Rattle.log_line.specs.declared.Line.{Line}
-use Rattle.log_line.specs.declared.Line.the-variants.{NoForm, NoRegister}
+use Rattle.log_line.specs.declared.Line.the-variants.{NoForm}
 use Rattle.log_line.specs.Said.{counted, written, writeOf, unfedLine, lineOf}
 
 pub counted-is : (f : ℕ → Line) (d : Number) (n : ℕ) → d ≡ Is n → counted f d ≡ f n

@@ -1,10 +1,8 @@
 -- What a line says and its text: each is the other's inverse. Assumes nothing.
-use mathlib.Core.Path.{_≡_, sym, _∙_, ap, subst}
+use mathlib.Core.Path.{_≡_, _∙_, ap, subst}
 use mathlib.Core.List.{List}
-use mathlib.Core.Logic.{_⊎_}
 use Prim.Native.Nat.{ℕ}
 use Rattle.log_line.specs.declared.Line.{Line}
-use Rattle.log_line.specs.declared.Line.the-variants.{NoForm, NoRegister}
 use Rattle.log_line.specs.Said.{lineOf}
 use Rattle.log_line.specs.Printed.{lineText, Printable, OneLine}
 use Rattle.log_line.proofs.Back.{read-back}

@@ -1,4 +1,4 @@
--- Helper: nobody has to believe this; what the code answers; proved to be the judgement line by line (proofs/Descent).
+-- Between crates: what the block reader answers; proved to be the judgement line by line (proofs/Descent).
 -- Reading a block of lines from a place of the log, by recursive descent: what the block reader and the line reader answer. That this is the
 -- judgement line by line, and the tree that the lines stand for, is proved.
 use Prim.Native.Nat.{ℕ, zero, suc, _+_, _*_, _≤_, min}

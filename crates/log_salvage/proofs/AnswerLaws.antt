@@ -17,7 +17,8 @@ use Rattle.log_salvage_rules.proofs.Unchanged.{unchanged}
 use Rattle.log_passing.proofs.Passing.{clear}
 use Rattle.log_salvage.specs.declared.Passed.{Passed}
 use Rattle.log_salvage.specs.declared.Salvaged.{Salvaged}
-use Rattle.log_salvage.specs.Answer.{numberOf, salvageRefusal, salvageDone, salvageOf, writtenOver, salvageText, salvageList}
+use Rattle.arith.specs.Over.{over}
+use Rattle.log_salvage.specs.Answer.{numberOf, salvageRefusal, salvageDone, salvageOf, salvageText, salvageList}
 use Rattle.log_salvage.specs.Writing.{Passes}
 use Rattle.log_salvage.proofs.WriteLaws.{over-all, words-long}
 
@@ -81,8 +82,8 @@ module _ (log out list : List ℕ) where
 
 -- 0 is answered only where nothing is refused, and then what is promised holds of what stands in front
 
-front-is : (new old : List ℕ) → take (length new) (writtenOver new old) ≡ new
-unfolding writtenOver
+front-is : (new old : List ℕ) → take (length new) (over new old) ≡ new
+unfolding over
 front-is new old = take-at new (drop (length new) old) (length new) refl
 
 zero-number : (log : List ℕ) (b w : ℕ) → numberOf log b w ≡ 0 → (heavy (mendedTree log) ≡ false) × (length (mended log .new) ≤ 60000)
@@ -102,7 +103,7 @@ unfolding salvageOf salvageText
 answer-zero log out w = go (numberOf log (length out) w) refl (eqb (numberOf log (length out) w) 0) refl
   where
     go : (n : ℕ) → numberOf log (length out) w ≡ n → (b : Bool) → eqb n 0 ≡ b → pick b (salvageDone log) (salvageRefusal n) .number ≡ 0
-        → Mends log (take (pick b (salvageDone log) (salvageRefusal n) .length) (pick b (writtenOver (mended log .new) out) out)) (pick b (salvageDone log) (salvageRefusal n) .entries)
+        → Mends log (take (pick b (salvageDone log) (salvageRefusal n) .length) (pick b (over (mended log .new) out) out)) (pick b (salvageDone log) (salvageRefusal n) .entries)
     go n e true f h =
         let z = zero-number log (length out) w (e ∙ eqb-true n 0 f) in
         rw (front-is (mended log .new) out) (promised log (z .0) (z .1))

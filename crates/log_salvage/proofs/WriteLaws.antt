@@ -10,7 +10,7 @@ use Rattle.arith.proofs.PickLaws.{pick-both}
 use Rattle.text_print.specs.Printed.{fits, printed}
 use Rattle.text_print.proofs.StoreLaws.{sets-append, written, kept, printed-in}
 use Rattle.log_salvage_rules.specs.Entries.{Entry, dropped, added, entryWords, listWords}
-use Rattle.log_salvage.specs.Answer.{writtenOver}
+use Rattle.arith.specs.Over.{over}
 use Rattle.log_salvage.specs.Writing.{Over}
 
 -- nothing at all
@@ -47,8 +47,8 @@ over-more {old} {text} {now} o at piece next e f =
 pub over-none : (old : List ℕ) → Over old [] old
 over-none old = record { size = refl; is = λ h. refl }
 
-pub over-all : {old text now : List ℕ} → Over old text now → length text ≤ length old → now ≡ writtenOver text old
-unfolding writtenOver
+pub over-all : {old text now : List ℕ} → Over old text now → length text ≤ length old → now ≡ over text old
+unfolding over
 over-all {old} {text} {now} o h =
     o .is h ∙ (sets-eq text old 0 (omega arith) ∙ ap (λ (j : ℕ). text ++ drop j old) (let z : 0 + length text ≡ length text = omega arith in z))
 

@@ -1,8 +1,9 @@
 -- What `salvage` answers, and what stands in the lent bytes and words afterwards.
 use Prim.Native.Nat.{ℕ, _/_}
-use mathlib.Core.List.{List, _++_}
-use lib.ListN.{length, drop}
+use mathlib.Core.List.{List}
+use lib.ListN.{length}
 use lib.Dec.{eqb, ltb}
+use Rattle.arith.specs.Over.{over}
 use Rattle.arith.specs.Pick.{pick, either}
 use Rattle.log_rules.specs.Whole.{heavy}
 use Rattle.log_salvage_rules.specs.Entries.{listWords}
@@ -29,14 +30,10 @@ salvageDone log = record { number = 0; place = 0; length = length (mended log .n
 unfoldable pub salvageOf : List ℕ → ℕ → ℕ → Salvaged
 salvageOf log bytes words = pick (eqb (numberOf log bytes words) 0) (salvageDone log) (salvageRefusal (numberOf log bytes words))
 
--- bytes or words in front; those behind them stay
-unfoldable pub writtenOver : List ℕ → List ℕ → List ℕ
-writtenOver new old = new ++ drop (length new) old
-
 -- "Write a repaired log to a second buffer" and the list; refused, "neither buffer is touched"
 
 unfoldable pub salvageText : List ℕ → List ℕ → ℕ → List ℕ
-salvageText log out words = pick (eqb (numberOf log (length out) words) 0) (writtenOver (mended log .new) out) out
+salvageText log out words = pick (eqb (numberOf log (length out) words) 0) (over (mended log .new) out) out
 
 unfoldable pub salvageList : List ℕ → ℕ → List ℕ → List ℕ
-salvageList log bytes list = pick (eqb (numberOf log bytes (length list)) 0) (writtenOver (listWords (mended log .list)) list) list
+salvageList log bytes list = pick (eqb (numberOf log bytes (length list)) 0) (over (listWords (mended log .list)) list) list

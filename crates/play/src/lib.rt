@@ -35,7 +35,7 @@ fn refuse(p: Player, number: u8, place: usize) -> Played
 fn answer(p: Player, t: Taken) -> Played
     ensures { λ r. ⌜ r ≡ answerOf p t ⌝ }
 {
-    if t.kind == 2 && t.at == 0 {
+    if t.kind == play_step::REFUSED && t.at == 0 {
         return refuse(p, t.number, t.place);
     }
     let q = t.player;
@@ -44,7 +44,7 @@ fn answer(p: Player, t: Taken) -> Played
         place: 0,
         player: q,
         length: t.at,
-        over: t.kind == 1,
+        over: t.kind == play_step::OVER,
     }
 }
 
@@ -52,7 +52,7 @@ fn answer(p: Player, t: Taken) -> Played
 fn goes_on(kind: u8, size: usize, at: usize, count: u32) -> bool
     ensures { λ r. ⌜ (r ≡ true → (kind ≡ 0) × (at + 23 ≤ size) × (count < 4000010)) × (r ≡ false → kind ≡ 0 → count < 4000010 → size < at + 23) ⌝ }
 {
-    if kind != 0 {
+    if kind != play_step::ON {
         return false;
     }
     if size < at {
@@ -69,7 +69,7 @@ fn play_lines(p: Player, log: &[u8], memory: &[u8], out: &mut [u8]) -> Played
     requires { ⌜ (length (now memory) ≡ 32768) × (inRange (p .state) ≡ true) ⌝ }
     ensures { λ r. ⌜ Answered (now (log .entry)) (now (memory .entry)) p (now (out .entry)) (now (out .exit)) r ⌝ }
 {
-    let mut t = play_step::outcome(0, 0, 0, p, 0);
+    let mut t = play_step::outcome(play_step::ON, 0, 0, p, 0);
     let mut count: u32 = 0;
     while goes_on(t.kind, out.len(), t.at, count) {
         let q = t.player;

@@ -20,7 +20,7 @@ fn fresh(pal: bool) -> Player
     let s = chip::power_on(pal);
     let c = log_cursor::start();
     Player {
-        phase: 0,
+        phase: play_rules::OPENING,
         wait: 0,
         time: 0,
         last: 0,
@@ -34,7 +34,7 @@ fn ended() -> Player
     ensures { λ r. ⌜ r ≡ endedPlayer ⌝ }
 {
     let mut p = fresh(false);
-    p.phase = 3;
+    p.phase = play_rules::OVER;
     p
 }
 

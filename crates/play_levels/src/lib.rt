@@ -14,6 +14,15 @@ ghost use Rattle.play_text.specs.declared.Entry.the-variants.{Level};
 ghost use Rattle.play_levels.specs.Levels.{levelEntries};
 ghost use Rattle.play_levels.specs.Words.{wordOf, wordBytes, Hundreds, tensOf, highOf, Ahead};
 
+// Words as text, the low byte first: `00000000`; five zero bytes and a line feed; `:`; `level=`.
+const ZEROS: u64 = 0x3030303030303030;
+
+const FEED: u64 = 0x0A0000000000;
+
+const COLON: u64 = 0x3A;
+
+const KEY: u64 = 0x3D6C6576656C;
+
 // A time but its last four digits: the clock at which these are 0000, the digits as a word, and how many.
 pub struct High {
     pub base: u64,
@@ -64,7 +73,7 @@ fn tens(p: u64) -> u64
     first % 64 + 65536 * (second % 64 + 65536 * (third % 64 + 65536 * fourth))
 }
 
-// The four digits of one number below 10,000 and the four of another, as a word: 48 in each byte, and each number below 100 in the second of its two;
+// The four digits of one number below 10,000 and the four of another, as a word: `0` in each byte, and each number below 100 in the second of its two;
 // 2559, that is 10 * 256 - 1, times its tens takes them off there and puts them into the first.
 fn eight_digits(a: u64, b: u64) -> u64
     requires { ⌜ (a ≤ 9999) × (b ≤ 9999) ⌝ }
@@ -72,7 +81,7 @@ fn eight_digits(a: u64, b: u64) -> u64
 {
     let p = pairs(a) + 4294967296 * pairs(b);
     let t = tens(p);
-    3472328296227680304 + 256 * p - 2559 * t
+    ZEROS + 256 * p - 2559 * t
 }
 
 // The digits of a number below 100,000,000 as a word: of eight, those before its first are dropped.
@@ -135,10 +144,8 @@ fn level_word(level: u32, four: u64, dropped: u32) -> u64
     ensures { λ r. ⌜ r ≡ wordOf (58 ∷ (decimalText level ++ (10 ∷ []))) ⌝ }
 {
     let first = (level / 10000) as u64;
-    // 10 in the sixth byte, the line feed
-    let five = 48 + first + 256 * four + 10995116277760;
-    // 58, the colon
-    (five >> 8 * dropped) * 256 + 58
+    let five = 48 + first + 256 * four + FEED;
+    (five >> 8 * dropped) * 256 + COLON
 }
 
 // A level line, and behind it what the next line covers.
@@ -150,8 +157,7 @@ fn line_ahead(out: &mut [u8], at: usize, h: High, time: u64, level: u32) -> usiz
     let both = eight_digits(time - h.base, (level % 10000) as u64);
     let dropped = missing(level);
     let colon = at + 6 + h.size + 4;
-    // `level=`
-    put_word(out, at, 67535768020332);
+    put_word(out, at, KEY);
     put_word(out, at + 6, h.word);
     put_word(out, at + 6 + h.size, both);
     put_word(out, colon, level_word(level, both / 4294967296, dropped));

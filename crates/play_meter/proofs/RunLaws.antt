@@ -14,7 +14,8 @@ use Rattle.reading.proofs.ReadingLaws.{plain-went}
 use Rattle.chip.specs.Clock.{chipClock}
 use Rattle.chip.specs.Range.{inRange, Bytes}
 use Rattle.chip.specs.declared.State.{State}
-use Rattle.run_answer.specs.Run.{chipClockwork, flat, over, readBy, answered, answer, lent}
+use Rattle.arith.specs.Over.{over}
+use Rattle.run_answer.specs.Run.{chipClockwork, flat, readBy, answered, answer, lent}
 use Rattle.run_answer.specs.declared.Ran.{Ran}
 use Rattle.run_answer.proofs.AnswerLaws.{number-none}
 use Rattle.meter.specs.declared.Span.{Span}

@@ -12,7 +12,8 @@ use borrow.Author.Tests.{ne-eqb, eqb-true, lt-leb, leb-true, leb-false, ltb-true
 use Rattle.arith.specs.Pick.{pick}
 use Rattle.reading.specs.Reading.{Mark, Progress, start, plain}
 use Rattle.run_answer.specs.declared.Ran.{Ran}
-use Rattle.run_answer.specs.Run.{chipClockwork, roomOf, flat, over, number, readBy, refusal, answered, answer, lent}
+use Rattle.arith.specs.Over.{over}
+use Rattle.run_answer.specs.Run.{chipClockwork, roomOf, flat, number, readBy, refusal, answered, answer, lent}
 use Rattle.run_answer.proofs.WordLaws.{length-flat}
 use Rattle.chip.specs.declared.State.{State}
 use Rattle.chip.proofs.RangeLaws.{level-most}

@@ -1,4 +1,4 @@
--- Helper: nobody has to believe this; what the code leaves in lent bytes; proved to be turns (proofs/TakenLaws).
+-- Between crates: what a step of the player leaves in lent bytes; proved to be turns (proofs/TakenLaws).
 -- A step of the player over lent bytes: a turn's line, or a portion of a wait as lines.
 use Prim.Native.Nat.{ℕ, _+_, _-_, _*_, _/_}
 use mathlib.Core.List.{List, [], map}

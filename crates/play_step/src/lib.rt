@@ -12,7 +12,14 @@ use play_rules::Player;
 use play_turn::Told;
 use play_turn::Went;
 
-// What a step comes to: 0 gone on, 1 over, 2 refused; the player and the bytes written.
+// The kinds of what a step comes to: gone on, over, refused.
+pub const ON: u8 = 0;
+
+pub const OVER: u8 = 1;
+
+pub const REFUSED: u8 = 2;
+
+// What a step comes to: its kind, a refusal's number and place, the player and the bytes written.
 pub struct Taken {
     pub kind: u8,
     pub number: u8,
@@ -42,13 +49,13 @@ fn take(w: Went, out: &mut [u8], at: usize) -> Taken
     let told = w.told;
     let p = w.player;
     match told {
-        Told::Over => outcome(1, 0, 0, p, at),
-        Told::On => outcome(0, 0, 0, p, at),
+        Told::Over => outcome(OVER, 0, 0, p, at),
+        Told::On => outcome(ON, 0, 0, p, at),
         Told::Says(n) => {
             let next = play_text::put(out, at, n);
-            outcome(0, 0, 0, p, next)
+            outcome(ON, 0, 0, p, next)
         }
-        Told::Refused(k, q) => outcome(2, k, q, p, at),
+        Told::Refused(k, q) => outcome(REFUSED, k, q, p, at),
     }
 }
 
@@ -102,7 +109,7 @@ fn waited(p: Player, memory: &[u8], out: &mut [u8], at: usize, words: &mut [u32]
     let next = play_levels::level_lines(out, at, p.time, words, n);
     let last = last_level(p.last, words, n);
     let after = ran.state;
-    outcome(0, 0, 0, behind(p, ran.done, last, after), next)
+    outcome(ON, 0, 0, behind(p, ran.done, last, after), next)
 }
 
 // A wait. 3: more than 1,000,000 clocks; 9: over 2,000,000,000 clocks in all.
@@ -111,10 +118,10 @@ fn wait_step(p: Player, memory: &[u8], out: &mut [u8], at: usize) -> Taken
     ensures { λ r. ⌜ now (out .exit) ≡ sets (now (out .entry)) at (waitText (now (memory .entry)) (roomFor (length (now (out .entry))) at) p) ⌝ }
 {
     if 1000000 < p.wait {
-        return outcome(2, 3, 0, p, at);
+        return outcome(REFUSED, 3, 0, p, at);
     }
     if 2000000000 < arith::wide_u32(p.time) + arith::wide_u32(p.wait) {
-        return outcome(2, 9, 0, p, at);
+        return outcome(REFUSED, 9, 0, p, at);
     }
     let mut words = [0u32; 512];
     waited(p, memory, out, at, &mut words)
@@ -126,7 +133,7 @@ pub fn step(p: Player, log: &[u8], memory: &[u8], out: &mut [u8], at: usize) -> 
     ensures { λ r. ⌜ now (out .exit) ≡ stepBytes (now (log .entry)) (now (memory .entry)) p (now (out .entry)) at ⌝ }
     ensures { λ r. ⌜ (inRange (p .state) ≡ true → inRange (r .player .state) ≡ true) ⌝ }
 {
-    if p.phase == 2 && p.wait != 0 {
+    if p.phase == play_rules::ACTING && p.wait != 0 {
         return wait_step(p, memory, out, at);
     }
     take(play_turn::turn(log, p), out, at)

@@ -1,4 +1,4 @@
--- Helper: nobody has to believe this; what the code leaves in lent bytes, by the texts of specs/Entries.
+-- Between crates: what writing lines leaves in lent bytes, by the texts of specs/Entries.
 -- Lines over lent bytes. 23 bytes hold the longest, `level=2000000000:32767` and its line feed.
 use Prim.Native.Nat.{ℕ, _+_, _*_, _≤_}
 use mathlib.Core.Path.{_≡_}

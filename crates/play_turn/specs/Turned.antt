@@ -1,4 +1,4 @@
--- Helper: nobody has to believe this; a turn as the code hands it back; proved to be `turnOf`.
+-- Between crates: a turn as it is handed back; proved to be `turnOf` (play_step/proofs/TakenLaws).
 -- A turn as the code hands it back.
 use Prim.Native.Nat.{ℕ}
 use mathlib.Core.Path.{_≡_}

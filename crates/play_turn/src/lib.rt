@@ -36,7 +36,7 @@ fn heard_at(p: Player, s: State, c: Cursor) -> Went
         return Went {
             told: Told::On,
             player: Player {
-                phase: 2,
+                phase: play_rules::ACTING,
                 wait: 0,
                 time: p.time,
                 last: p.last,
@@ -48,7 +48,7 @@ fn heard_at(p: Player, s: State, c: Cursor) -> Went
     Went {
         told: Told::Says(Entry::Level(p.time, level)),
         player: Player {
-            phase: 2,
+            phase: play_rules::ACTING,
             wait: 0,
             time: p.time,
             last: level,
@@ -65,7 +65,7 @@ fn read_at(p: Player, byte: u8, s: State, c: Cursor) -> Went
     Went {
         told: Told::Says(Entry::Read(p.time, byte)),
         player: Player {
-            phase: 2,
+            phase: play_rules::ACTING,
             wait: 0,
             time: p.time,
             last: p.last,
@@ -100,7 +100,7 @@ fn at_act(p: Player, a: Act, c: Cursor) -> Went
             Went {
                 told: Told::On,
                 player: Player {
-                    phase: 2,
+                    phase: play_rules::ACTING,
                     wait: n,
                     time: p.time,
                     last: p.last,
@@ -168,17 +168,17 @@ fn phase_turn(p: Player) -> Went
     ensures { λ r. ⌜ Keeps p r ⌝ }
 {
     let mut q = p;
-    if p.phase == 0 {
-        q.phase = 1;
+    if p.phase == play_rules::OPENING {
+        q.phase = play_rules::FIRST;
         return Went {
             told: Told::Says(Entry::Play),
             player: q,
         };
     }
-    if p.phase == 1 {
+    if p.phase == play_rules::FIRST {
         let s = p.state;
         let level = s.level();
-        q.phase = 2;
+        q.phase = play_rules::ACTING;
         q.last = level;
         return Went {
             told: Told::Says(Entry::Level(p.time, level)),
@@ -196,7 +196,7 @@ pub fn turn(log: &[u8], p: Player) -> Went
     ensures { λ r. ⌜ r ≡ went (pick (eqb (p .phase) 2) (cursorTurn (now (log .entry)) p) (phaseTurn p)) ⌝ }
     ensures { λ r. ⌜ Keeps p r ⌝ }
 {
-    if p.phase == 2 {
+    if p.phase == play_rules::ACTING {
         return cursor_turn(log, p);
     }
     phase_turn(p)

@@ -7,10 +7,12 @@ ghost use lib.ListN.{length};
 ghost use Rattle.arith.specs.Pick.{pick};
 ghost use Rattle.leap_law.specs.Frame.{beforeStep};
 ghost use Rattle.chip.specs.Range.{inRange};
-ghost use Rattle.run_answer.specs.Run.{answer, answered, lent, readBy, over, flat, stored};
+ghost use Rattle.arith.specs.Over.{over};
+ghost use Rattle.run_answer.specs.Run.{answer, answered, lent, readBy, flat, stored};
 ghost use Rattle.run_dwell.specs.Dwell.{dwellLimit, countsWithin, dwellBy, dwellAnswered, dwellAnswer, dwellLent};
 ghost use Rattle.run_walk.specs.Walk.{Open, Walked};
-ghost use Rattle.run_loops.specs.Stretch.{Standing, Worked, stretchEnd, Stretched};
+ghost use Rattle.run_loops.specs.Leap.{stretchEnd};
+ghost use Rattle.run_loops.specs.Stretch.{Standing, Worked, Stretched};
 use chip::State;
 use leap_stretch::Lags;
 use run_answer::Ran;
@@ -37,8 +39,11 @@ fn mark(words: &mut [u32], n: u32, clock: u32, level: u16, was: u16) -> u32
     n + 1
 }
 
+// Where the triangle stands for at most so many clocks, most events are its own.
+const SOON: u32 = 64;
+
 // Events of squares and triangle alone: this loop keeps nothing else, so what it keeps stands in registers. Squares are looked at at each event, but
-// where the triangle changes so soon that they seldom are due.
+// where the triangle changes so soon that they seldom are due: then only where one is.
 fn voices_on(
     s: State,
     memory: &[u8],
@@ -54,7 +59,7 @@ fn voices_on(
     let room = words.len() / 2;
     let until = run_loops::voices_until(first, end);
     let others = leap_stretch::others_of(first);
-    let each = 64 < first.triangle.still;
+    let each = SOON < first.triangle.still;
     let mut v = leap_stretch::voices_of(first);
     let mut level = first.level;
     let mut n = records;

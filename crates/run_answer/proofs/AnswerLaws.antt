@@ -13,7 +13,8 @@ use Rattle.chip.specs.Range.{inRange}
 use Rattle.chip.specs.declared.State.{State}
 use Rattle.chip_api.specs.Answer.{isMemory}
 use Rattle.run_answer.specs.declared.Ran.{Ran}
-use Rattle.run_answer.specs.Run.{number, flat, over, readBy, refusal, answered, answer, lent}
+use Rattle.arith.specs.Over.{over}
+use Rattle.run_answer.specs.Run.{number, flat, readBy, refusal, answered, answer, lent}
 
 module _ (memory : List ℕ) (s : State) (count : ℕ) where
   pub number-one : (length memory ≡ 32768 → ⊥) → number memory s count ≡ 1

@@ -15,7 +15,8 @@ use Rattle.chip.specs.Level.{stateLevel}
 use Rattle.chip.specs.Range.{Bytes}
 use Rattle.chip.specs.declared.State.{State}
 use Rattle.chip.proofs.RangeLaws.{StateRanged, clock-kept}
-use Rattle.run_answer.specs.Run.{chipClockwork, roomOf, stored, flat, over, readBy, answered}
+use Rattle.arith.specs.Over.{over}
+use Rattle.run_answer.specs.Run.{chipClockwork, roomOf, stored, flat, readBy, answered}
 use Rattle.run_answer.specs.Held.{Held}
 use Rattle.run_answer.proofs.WordLaws.{over-none, over-more, length-flat, length-over, stored-in}
 

@@ -8,7 +8,8 @@ use lib.ListN.{length, drop, set, getD, length-append, length-drop}
 use lib.Seq.{drop-cons, set-at}
 use Rattle.reading.specs.Reading.{Mark}
 use borrow.Author.Tests.{lt-ltb, le-ltb}
-use Rattle.run_answer.specs.Run.{roomOf, stored, flat, over}
+use Rattle.arith.specs.Over.{over}
+use Rattle.run_answer.specs.Run.{roomOf, stored, flat}
 
 pub length-flat : (ms : List Mark) → length (flat ms) ≡ 2 * length ms
 unfolding flat

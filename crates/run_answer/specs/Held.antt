@@ -6,7 +6,8 @@ use mathlib.Core.List.{List}
 use lib.ListN.{length}
 use Rattle.reading.specs.Reading.{Mark, start, reading}
 use Rattle.chip.specs.declared.State.{State}
-use Rattle.run_answer.specs.Run.{chipClockwork, roomOf, flat, over}
+use Rattle.arith.specs.Over.{over}
+use Rattle.run_answer.specs.Run.{chipClockwork, roomOf, flat}
 
 -- after `done` clocks from s, with `words₀` lent, the reading stands at `state` with n records, and `words` hold them
 pub record Held (memory : List ℕ) (s : State) (words₀ words : List ℕ) (state : State) (done n : ℕ) : Type 0 where

@@ -1,9 +1,10 @@
 -- Document 01, "Mixer and records" and "Numbers an answer can carry": what a run answers and leaves in the lent words, by the plain reading.
 use Prim.Native.Nat.{ℕ, _+_, _*_, _/_}
 use mathlib.Core.Bool.{false}
-use mathlib.Core.List.{List, [], _∷_, _++_}
-use lib.ListN.{length, drop, set}
+use mathlib.Core.List.{List, [], _∷_}
+use lib.ListN.{length, set}
 use lib.Dec.{leb, ltb, eqb}
+use Rattle.arith.specs.Over.{over}
 use Rattle.arith.specs.Pick.{pick}
 use Rattle.reading.specs.Reading.{Clockwork, Mark, Progress, plain}
 use Rattle.chip.specs.Clock.{chipClock}
@@ -33,10 +34,6 @@ stored words n clock level = pick (ltb n (roomOf words)) (set (set words (2 * n)
 unfoldable pub flat : List Mark → List ℕ
 flat [] = []
 flat (m ∷ ms) = m .clock ∷ m .level ∷ flat ms
-
--- "Lent memory past what an answer writes stays."
-unfoldable pub over : List ℕ → List ℕ → List ℕ
-over new old = new ++ drop (length new) old
 
 -- the plain reading that a run is held to
 unfoldable pub readBy : List ℕ → State → ℕ → List ℕ → Progress State

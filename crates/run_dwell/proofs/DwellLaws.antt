@@ -20,7 +20,8 @@ use Rattle.chip.specs.Level.{stateLevel}
 use Rattle.chip.specs.Range.{Bytes}
 use Rattle.chip.specs.declared.State.{State}
 use Rattle.chip.proofs.RangeLaws.{StateRanged, state-in, clock-kept}
-use Rattle.run_answer.specs.Run.{chipClockwork, roomOf, number, flat, over, readBy, answered}
+use Rattle.arith.specs.Over.{over}
+use Rattle.run_answer.specs.Run.{chipClockwork, roomOf, number, flat, readBy, answered}
 use Rattle.run_answer.specs.declared.Ran.{Ran}
 use Rattle.run_answer.proofs.AnswerLaws.{number-fine}
 use Rattle.run_dwell.specs.Dwell.{dwellLimit, dwellPlace, dwellClockwork, countsWithin, dwellNumber, dwellBy, dwellRefusal, dwellAnswered, dwellAnswer, dwellLent, CountsRaised}

@@ -15,7 +15,8 @@ use Rattle.chip.specs.Clock.{chipClock}
 use Rattle.chip.specs.Range.{Bytes}
 use Rattle.chip.specs.declared.State.{State}
 use Rattle.chip.proofs.RangeLaws.{StateRanged, clock-kept}
-use Rattle.run_answer.specs.Run.{chipClockwork, roomOf, flat, over, readBy, answered}
+use Rattle.arith.specs.Over.{over}
+use Rattle.run_answer.specs.Run.{chipClockwork, roomOf, flat, readBy, answered}
 use Rattle.run_answer.specs.Held.{Held}
 use Rattle.run_answer.specs.declared.Ran.{Ran}
 use Rattle.run_answer.proofs.RunLaws.{held-ranged, held-end}

@@ -12,7 +12,8 @@ use Rattle.chip.specs.Clock.{chipClock}
 use Rattle.chip.specs.Level.{stateLevel}
 use Rattle.chip.specs.Range.{Bytes}
 use Rattle.chip.specs.declared.State.{State}
-use Rattle.run_answer.specs.Run.{number, roomOf, flat, over, refusal}
+use Rattle.arith.specs.Over.{over}
+use Rattle.run_answer.specs.Run.{number, roomOf, flat, refusal}
 use Rattle.run_dwell.specs.declared.Counted.{Counted}
 
 -- "4,000,000,000": the most that a count may be

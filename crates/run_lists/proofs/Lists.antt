@@ -17,7 +17,8 @@ use Rattle.chip.specs.declared.State.{State}
 use Rattle.chip.proofs.RangeLaws.{StateRanged, state-in, state-back, clock-kept}
 use Rattle.chip_api.specs.Answer.{isMemory}
 use Rattle.reading.specs.Counting.{Beside}
-use Rattle.run_answer.specs.Run.{number, roomOf, flat, over}
+use Rattle.arith.specs.Over.{over}
+use Rattle.run_answer.specs.Run.{number, roomOf, flat}
 use Rattle.run_lists.specs.Lists.{Request, Outcome, marksOf, wordsWritten, wordsBehind, joined, runAll, asks, asked, Share, ReadAs, ListPlain, ListTables, ListsAlike, Splits, Split}
 use Rattle.run_answer.specs.declared.Ran.{Ran}
 use Rattle.run_answer.proofs.AnswerLaws as without

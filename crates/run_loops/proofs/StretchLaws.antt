@@ -33,7 +33,8 @@ use Rattle.run_answer.proofs.WordLaws.{stored-in}
 use Rattle.run_answer.proofs.RunLaws.{held-at, held-length, held-leap, held-same, held-mark}
 use Rattle.leap_law.specs.Quiet.{Quiet}
 use Rattle.leap_stretch.proofs.QuietLaws.{quiet-leaps, quiet-passed}
-use Rattle.run_loops.specs.Stretch.{Standing, Worked, stretchEnd, Passed, Stretched}
+use Rattle.run_loops.specs.Leap.{stretchEnd, Passed}
+use Rattle.run_loops.specs.Stretch.{Standing, Worked, Stretched}
 
 -- where the loops end
 pub goes-on : (r : Bool) (next until n room : ℕ) → r ≡ both (ltb next until) (ltb n room) → r ≡ true → (next < until) × (n < room)

@@ -1,6 +1,6 @@
--- Helper, but for what a stretch promises of the law of the leap (`stretchEnd`, `Passed`): what the run's loops hold between two events.
+-- Helper: nobody has to believe this; what the run's loops hold between two events. What a quiet stretch owes stands in specs/Leap.
 -- What working a stretch of clocks that bring no frame step promises.
-use Prim.Native.Nat.{ℕ, _+_, _-_, _/_, _≤_, min}
+use Prim.Native.Nat.{ℕ, _+_, _-_, _/_, _≤_}
 use mathlib.Core.Path.{_≡_}
 use mathlib.Core.Bool.{true}
 use mathlib.Core.List.{List}
@@ -10,12 +10,13 @@ use Rattle.leap_law.specs.Frame.{beforeStep}
 use Rattle.chip.specs.Clock.{chipClock}
 use Rattle.chip.specs.Level.{stateLevel}
 use Rattle.chip.specs.Range.{inRange}
-use Rattle.leap_law.specs.Quiet.{Quiet, quietAfter}
+use Rattle.leap_law.specs.Quiet.{Quiet}
 use Rattle.leap_stretch.proofs.LaggedLaws.{Lagging}
 use Rattle.run_answer.specs.Held.{Held}
 use Rattle.chip.specs.declared.State.{State}
 use Rattle.leap_stretch.specs.declared.Lags.{Lags}
 use Rattle.run_loops.specs.declared.Stretch.{Stretch}
+use Rattle.run_loops.specs.Leap.{Passed}
 
 -- At clock `l .now` of a stretch of at most `end` clocks that began in s with `base` clocks done; n records are written.
 pub record Standing (memory : List ℕ) (s : State) (end base : ℕ) (words : List ℕ) (l : Lags) (n : ℕ) : Type 0 where
@@ -36,17 +37,6 @@ pub record Worked (memory : List ℕ) (s : State) (end base from records : ℕ) 
       (s₀ : State) (words₀ : List ℕ)
       → Held memory s₀ words₀ before (iterate (chipClock memory) from s) (base + from) records
       → Held memory s₀ words₀ words (iterate (chipClock memory) (l .now) s) (base + l .now) n
-
--- where a stretch ends that may go `left` clocks: before the next frame step, and before the last of them, which is worked by itself
-unfoldable pub stretchEnd : ℕ → State → ℕ
-stretchEnd left s = min (left - 1) (beforeStep s)
-
--- "The run passes such stretches by that law": a quiet stretch goes to its end in one leap, writes nothing, and its state is the law's
-pub record Passed (s : State) (end n : ℕ) (before after : List ℕ) (r : Stretch) : Type 0 where
-  pub clocks : r .clocks ≡ end
-  pub records : r .records ≡ n
-  pub words : after ≡ before
-  pub state : r .state ≡ quietAfter end s
 
 -- A stretch of at most `end` clocks, entered with `base` clocks done and n records: whatever run it is part of goes on being held. Where it
 -- stops for want of room is fixed by the plain reading that it is part of.

@@ -20,7 +20,8 @@ use Rattle.chip_access.specs.Access.{accessState, accessByte}
 use Rattle.chip_access.proofs.AccessLaws.{access-kept}
 use Rattle.chip_api.specs.Answer.{allowed, doneAccess, accessAnswer}
 use Rattle.chip_api.specs.declared.Answered.{Answered}
-use Rattle.run_answer.specs.Run.{flat, over}
+use Rattle.arith.specs.Over.{over}
+use Rattle.run_answer.specs.Run.{flat}
 use Rattle.run_answer.proofs.WordLaws.{length-flat}
 use Rattle.run_dwell.specs.Dwell.{dwellNumber, dwellBy, dwellRefusal, dwellAnswered, dwellAnswer, dwellLent}
 use Rattle.run_dwell.specs.declared.Counted.{Counted}

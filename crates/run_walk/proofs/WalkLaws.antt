@@ -31,7 +31,8 @@ use Rattle.leap_dmc.specs.Leap.{outputStill, dmcStill, dmcBrink, dmcTurned}
 use Rattle.leap_dmc.proofs.LeapLaws.{DmcIdle, idle-still, dmc-still, dmc-turned}
 use Rattle.reading.specs.Reading.{start, plain}
 use Rattle.reading.proofs.ReadingLaws.{reading-done}
-use Rattle.run_answer.specs.Run.{chipClockwork, roomOf, flat, over, readBy, answered}
+use Rattle.arith.specs.Over.{over}
+use Rattle.run_answer.specs.Run.{chipClockwork, roomOf, flat, readBy, answered}
 use Rattle.run_answer.specs.declared.Ran.{Ran}
 use Rattle.run_dwell.specs.Dwell.{dwellLimit, dwellBy, dwellAnswered}
 use Rattle.run_dwell.proofs.DwellLaws.{Given, Owed, owed-free, owed-full}

@@ -1,4 +1,4 @@
--- Helper: nobody has to believe this; what the run's walk for the dwell table holds between two changes of the DMC.
+-- Between crates: what the run's walk for the dwell table holds between two changes of the DMC; proved to be the plain reading's table (proofs/WalkLaws).
 use Prim.Native.Nat.{ℕ, _+_, _≤_, _<_, min}
 use mathlib.Core.Path.{_≡_}
 use mathlib.Core.Logic.{_⊎_}

@@ -1,4 +1,4 @@
--- Helper: what the code asks of a step.
+-- Between crates: what is asked of a step of the stream.
 use Prim.Native.Nat.{ℕ}
 use mathlib.Core.List.{[]}
 use mathlib.Core.Bool.{Bool, true, false}

@@ -3,7 +3,7 @@ use mathlib.Core.Path.{_≡_, _∙_, ap}
 use native.Mathlib.Omega.{arith}
 use borrow.Author.Needs.{needs}
 use Rattle.leap_law.specs.Frame.{beforeStep}
-use Rattle.run_loops.specs.Stretch.{stretchEnd}
+use Rattle.run_loops.specs.Leap.{stretchEnd}
 use Rattle.run_loops.proofs.StretchLaws.{stretch-most}
 use Rattle.run.proofs.next_stretch.Statement.{statement}
 use Rattle.run.proofs.next_stretch.Tie as tie
