@@ -6,7 +6,8 @@ use native.Mathlib.Omega.{arith}
 use Rattle.meter.specs.declared.Measured.{Measured}
 use Rattle.meter.specs.declared.Measured.the-variants.{Refused, NoLevels, Silent, Steady, Moving}
 use Rattle.meter.specs.Measure.{measuredNumber, measureOf}
-use Rattle.meter.proofs.Answers.{Says, says}
+use Rattle.meter.specs.Says.{Says}
+use Rattle.meter.proofs.Answers.{says}
 use Rattle.c_meter.specs.Packed.{caseOf, lowestOf, highestOf, meterPacked}
 
 pub record Apart (m : Measured) : Type 0 where

@@ -7,7 +7,7 @@ use native.Mathlib.Omega.{arith}
 use lib.Count.{ones, ones-step, ones-le}
 use borrow.Author.Tests.{lt-ltb, eq-eqb, ne-eqb}
 use Rattle.chip_dmc_output.specs.Output.{levelMoved}
-use Rattle.chip_sheet.specs.Byte.{lowSteps, eightSteps, byOnes}
+use Rattle.chip_sheet.specs.Byte.{lowSteps, eightSteps, byOnes, Agree}
 
 -- one step away from the ends: 2 down, and 4 up for a set bit
 one : (byte b l : ℕ) → byte % 2 ≡ b → 2 ≤ l → l ≤ 125 → levelMoved byte l + 2 ≡ l + 4 * b
@@ -27,7 +27,7 @@ steps (suc k) byte level hb h l =
     rw (ones-step byte) (omega arith)
 
 -- BOTH READINGS AGREE FROM 16 TO 111, for every byte
-pub agree : (byte level : ℕ) → byte ≤ 255 → 16 ≤ level → level ≤ 111 → byOnes byte level ≡ eightSteps byte level
+pub agree : Agree
 agree byte level b h k = let e = steps 8 byte level (omega arith) (omega arith) (omega arith) in omega arith
 
 -- the move is at most 16 either way

@@ -28,6 +28,7 @@ use Rattle.log_fault.specs.declared.Spotted.the-variants.{Right, Wrong}
 use Rattle.log_form.specs.Forms.{along, reach}
 use Rattle.log_begins.specs.Begins.{anyTrue, begins}
 use Rattle.log_fault.specs.Allowed.{keysOf}
+use Rattle.log_fault.specs.Places.{FirstByte, FirstFault, FeedMissing}
 use Rattle.log_begins.specs.Counts.{keyed, counts}
 use Rattle.log_fault.specs.Fault.{wholeOf, faultAt, spotted, spotOf}
 use Rattle.log_begins.specs.Fronts.{allowed, Fronts}
@@ -203,11 +204,6 @@ line-right st l a p = rw (printed-read l p, may-fine (keysOf st) l a)
 
 -- 14 AND 15 are at the first byte with which no allowed right line begins
 
-pub record FirstByte (k : Keys) (s : List ℕ) (i : ℕ) : Type 0 where
-  pub inside : i < length s
-  pub begun : (j : ℕ) → j ≤ i → Fronts k (take j s)
-  pub ends : Fronts k (take (suc i) s) → ⊥
-
 begins-none : (st : Stand) → begins (keysOf st) [] ≡ true
 unfolding keysOf begins anyTrue along ended
 begins-none First = refl
@@ -227,52 +223,46 @@ first-byte st s h =
       ends = λ f. false≢true (sym (reach-at (begins k) s i) ∙ begins-complete k (take (suc (reach (begins k) s)) s) f);
     }
 
-module _ (st : Stand) (s : List ℕ) (n i : ℕ) (e : spotOf st s ≡ Wrong n i) where
-  pub first-fault : (n ≡ 14) ⊎ (n ≡ 15) → FirstByte (keysOf st) s i
-  first-fault h = go (came st s)
-    where
-      low : 14 ≤ n
-      low = two h
-        where
-          two : (n ≡ 14) ⊎ (n ≡ 15) → 14 ≤ n
-          two (inl q) = omega arith
-          two (inr q) = omega arith
+pub first-fault : FirstFault
+first-fault st s n i e h = go (came st s)
+  where
+    low : 14 ≤ n
+    low = two h
+      where
+        two : (n ≡ 14) ⊎ (n ≡ 15) → 14 ≤ n
+        two (inl q) = omega arith
+        two (inr q) = omega arith
 
-      high : n ≤ 15
-      high = two h
-        where
-          two : (n ≡ 14) ⊎ (n ≡ 15) → n ≤ 15
-          two (inl q) = omega arith
-          two (inr q) = omega arith
+    high : n ≤ 15
+    high = two h
+      where
+        two : (n ≡ 14) ⊎ (n ≡ 15) → n ≤ 15
+        two (inl q) = omega arith
+        two (inr q) = omega arith
 
-      go : Came st s (spotOf st s) → FirstByte (keysOf st) s i
-      go (fine w r) = zero-one (cc)
-      go (start m w r) =
-          let q : m ≡ n = cc in
-          let u = starts-small (keysOf st) (lineOf s) m w in
-          let z = low in
-          absurd (omega arith)
-      go (feed w g r) =
-          let q : n ≡ 17 = cc in
-          let z = high in
-          absurd (omega arith)
-      go (key g r) =
-          let q : reach (begins (keysOf st)) s ≡ i = cc in
-          subst (FirstByte (keysOf st) s) q (first-byte st s g)
-      go (range g a c r) =
-          let q : n ≡ 16 = cc in
-          let z = high in
-          absurd (omega arith)
-      go (shape g r) =
-          let q : reach (begins (keysOf st)) s ≡ i = cc in
-          subst (FirstByte (keysOf st) s) q (first-byte st s g)
+    go : Came st s (spotOf st s) → FirstByte (keysOf st) s i
+    go (fine w r) = zero-one (cc)
+    go (start m w r) =
+        let q : m ≡ n = cc in
+        let u = starts-small (keysOf st) (lineOf s) m w in
+        let z = low in
+        absurd (omega arith)
+    go (feed w g r) =
+        let q : n ≡ 17 = cc in
+        let z = high in
+        absurd (omega arith)
+    go (key g r) =
+        let q : reach (begins (keysOf st)) s ≡ i = cc in
+        subst (FirstByte (keysOf st) s) q (first-byte st s g)
+    go (range g a c r) =
+        let q : n ≡ 16 = cc in
+        let z = high in
+        absurd (omega arith)
+    go (shape g r) =
+        let q : reach (begins (keysOf st)) s ≡ i = cc in
+        subst (FirstByte (keysOf st) s) q (first-byte st s g)
 
 -- 17, NO LINE FEED: exactly where all bytes begin an allowed right line and the line feed is missing
-
-pub record FeedMissing (k : Keys) (s : List ℕ) (i : ℕ) : Type 0 where
-  pub place : i ≡ length s
-  pub begun : Fronts k s
-  pub unfed : getD s (length s - 1) 0 ≡ 10 → ⊥
 
 not-other : (k : Keys) (l m : Line) → Reads l m → allowed k l ≡ true → wholeOf k m ≡ Other → ⊥
 unfolding wholeOf allowed

@@ -28,6 +28,7 @@ use Rattle.log_fault.specs.declared.Spotted.the-variants.{Wrong}
 use Rattle.log_form.specs.Forms.{reach}
 use Rattle.log_begins.specs.Begins.{begins}
 use Rattle.log_fault.specs.Allowed.{keysOf}
+use Rattle.log_fault.specs.Places.{Outside, waits, loops, stops, OutOfRange}
 use Rattle.log_begins.specs.Counts.{keyed, unfed, said, counts}
 use Rattle.log_fault.specs.Fault.{spotOf}
 use Rattle.log_begins.specs.Fronts.{allowed, RightForm, Fronts}
@@ -168,18 +169,6 @@ module _ (st : Stand) (s : List ℕ) (h : reach (begins (keysOf st)) s ≡ lengt
           h (reach-all (begins (keysOf st)) s (begins-closed (keysOf st)) (begins-complete (keysOf st) s front))
 
 -- 16 IS SAID OF A NUMBER OUTSIDE ITS RANGE
-
--- which number, and which range it is outside of
-pub data Outside (k : Keys) (s : List ℕ) (n : ℕ) : Type 0 where
-  waits : startsWith (bytes "wait=") s ≡ true → k .acts ≡ true → (1 ≤ n → n ≤ 1000000 → ⊥) → Outside k s n
-  loops : startsWith (bytes "loop=") s ≡ true → k .loops ≡ true → (2 ≤ n → n ≤ 255 → ⊥) → Outside k s n
-  stops : startsWith (bytes "stop=") s ≡ true → k .stop ≡ true → (n ≤ 2000000000 → ⊥) → Outside k s n
-
-pub record OutOfRange (k : Keys) (s : List ℕ) (i : ℕ) : Type 0 where
-  pub place : i ≡ 5
-  pub value : ℕ
-  pub says : decimal (unfed (drop 5 s)) ≡ Is value
-  pub outside : Outside k s value
 
 abbrev takes : List ℕ → Bool
 takes s = either (startsWith (bytes "wait=") s) (either (startsWith (bytes "loop=") s) (startsWith (bytes "stop=") s))

@@ -1,3 +1,4 @@
 pub mod Allowed
 pub mod Fault
+pub mod Places
 pub mod Settled

@@ -12,17 +12,9 @@ use Rattle.meter.specs.declared.Measured.{Measured}
 use Rattle.meter.specs.declared.Measured.the-variants.{Refused, NoLevels, Silent, Steady, Moving}
 use Rattle.meter.specs.Levels.{anyAbove, allAre, lowest, highest}
 use Rattle.meter.specs.Measure.{measureOf}
+use Rattle.meter.specs.Says.{All, and, Some, here, Says, MeterSays, MeterOnly}
 use Rattle.meter.specs.Spans.{toldOf}
-use Rattle.meter.proofs.Lists.{All, and, Some, here, all-map, all-first, all-rest, some-map, some-length, met, any-true, any-false, all-true, all-false, lowest-occurs, highest-occurs, bounds}
-
--- what an answer says of a list of levels
-abbrev pub Says : List ℕ → Measured → Type 0
-Says l (Refused k) = (k ≡ 29) × Some (λ y. 32767 < y) l
-Says l NoLevels = l ≡ []
-Says l Silent = (0 < length l) × All (λ y. y ≡ 0) l
-Says l (Steady v) = (0 < length l) × All (λ y. y ≡ v) l × (0 < v) × (v ≤ 32767)
-Says l (Moving a b) =
-    (a < b) × (b ≤ 32767) × Some (λ y. y ≡ a) l × Some (λ y. y ≡ b) l × All (λ y. (a ≤ y) × (y ≤ b)) l
+use Rattle.meter.proofs.Lists.{all-map, all-first, all-rest, some-map, some-length, met, any-true, any-false, all-true, all-false, lowest-occurs, highest-occurs, bounds}
 
 by-true : (t : Bool) → (t ≡ false → ⊥) → t ≡ true
 by-true true h = refl
@@ -70,7 +62,7 @@ module _ (x : ℕ) (l : List ℕ) (a b : ℕ) (s : Says (x ∷ l) (Moving a b)) 
       omega arith
 
 -- NO OTHER ANSWER SAYS WHAT IS SO
-pub only : (l : List ℕ) (r : Measured) → Says l r → r ≡ measureOf l
+pub only : MeterOnly
 unfolding measureOf
 only [] (Refused k) s = absurd (omega (arith, some-length (s .1)))
 only [] NoLevels s = refl
@@ -125,7 +117,7 @@ empty [] h = refl
 empty (x ∷ l) h = absurd (omega arith)
 
 -- EACH ANSWER SAYS WHAT IS SO
-pub says : (l : List ℕ) → Says l (measureOf l)
+pub says : MeterSays
 unfolding measureOf
 says [] = refl
 says (x ∷ l) = subst (λ (r : Measured). Says (x ∷ l) r) (told-is x l) (told-so x l)

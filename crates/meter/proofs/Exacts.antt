@@ -13,19 +13,8 @@ use Rattle.meter.specs.declared.Measured.{Measured}
 use Rattle.meter.specs.declared.Measured.the-variants.{Refused, NoLevels, Silent, Steady, Moving}
 use Rattle.meter.specs.Measure.{measureOf, measuredLevels}
 use Rattle.meter.specs.Meter.{valuesOf, inFractions, meterOf}
-use Rattle.meter.proofs.Answers.{Says, says}
-
--- a float is a level's exact fraction
-pub record Exact (v : Float) (level : ℕ) : Type 0 where
-  pub value : HasValue v false level 32768
-  pub back : mul binary32 v scale ≡ ofInt binary32 (pos level)
-
--- each of a list's floats is that of its level
-abbrev pub Exactly : List Float → List ℕ → Type 0
-Exactly [] [] = Unit {0}
-Exactly [] (n ∷ l) = ⊥
-Exactly (v ∷ vs) [] = ⊥
-Exactly (v ∷ vs) (n ∷ l) = Exact v n × Exactly vs l
+use Rattle.meter.specs.Says.{Says, Exact, Exactly, MeterExact}
+use Rattle.meter.proofs.Answers.{says}
 
 one : (n : ℕ) → n ≤ 32767 → Exact (fractionOf n) n
 unfolding fractionOf
@@ -39,5 +28,5 @@ each l (Steady v) s = (one v (s .3), tt)
 each l (Moving a b) s = (one a (omega (arith, s .0, s .1)), (one b (s .1), tt))
 
 -- THE METER'S LEVELS ARE EXACT
-pub exact : (l : List ℕ) → Exactly (valuesOf (meterOf l)) (measuredLevels (measureOf l))
+pub exact : MeterExact
 exact l = each l (measureOf l) (says l)

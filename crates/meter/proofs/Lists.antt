@@ -7,16 +7,7 @@ use native.Mathlib.Omega.{arith, min-cases, max-cases}
 use lib.ListN.{length}
 use Rattle.arith.specs.Pick.{both, either}
 use Rattle.meter.specs.Levels.{any, all, lowest, highest}
-
--- it holds of each
-pub data All (P : ℕ → Type 0) : List ℕ → Type 0 where
-  none : All P []
-  and : {x : ℕ} {l : List ℕ} → P x → All P l → All P (x ∷ l)
-
--- it holds of one, or more
-pub data Some (P : ℕ → Type 0) : List ℕ → Type 0 where
-  here : {x : ℕ} {l : List ℕ} → P x → Some P (x ∷ l)
-  later : {x : ℕ} {l : List ℕ} → Some P l → Some P (x ∷ l)
+use Rattle.meter.specs.Says.{All, none, and, Some, here, later}
 
 pub all-map : {P Q : ℕ → Type 0} {l : List ℕ} → ((x : ℕ) → P x → Q x) → All P l → All Q l
 all-map f none = none

@@ -3,3 +3,4 @@ pub mod Measure
 pub mod Meter
 pub mod Records
 pub mod Spans
+pub mod Says
