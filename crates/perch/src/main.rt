@@ -1,5 +1,6 @@
 // The program for daily work: `perch VERB`, and what the verb asks for.
 mod check;
+mod dwells;
 mod fold;
 mod import;
 mod meters;
@@ -28,6 +29,9 @@ fn usage() {
         b"  meter       a log on standard input: whether it is silent, steady or moving, and between which levels\n",
     );
     program_io::say(b"  meter waits the same, and that of each of its waits\n");
+    program_io::say(
+        b"  dwell       a log on standard input: how many clocks the DMC stood at each of its levels\n",
+    );
     program_io::say(
         b"  sheet LEVEL ADDRESS LENGTH\n              the level after each byte of a sample in sample.bin\n",
     );
@@ -61,6 +65,10 @@ fn run(verb: &[u8], words: usize) {
     }
     if arith::both_of(words == 3, text::exact(verb, b"meter")) {
         meters::asked();
+        return;
+    }
+    if arith::both_of(words == 2, text::exact(verb, b"dwell")) {
+        dwells::dwell();
         return;
     }
     if text::exact(verb, b"sheet") {

@@ -20,6 +20,7 @@ compare check FILE                                      hold the library to the 
 compare log-cases N FOLDER [--seed N]                   write N logs, a sample.bin and the texts that the reading gives
 compare examples FOLDER                                 hold the library to the reading on the logs of a folder, with sample.bin
 compare text LOG SAMPLE                                 write what the player writes for a log, by the reading
+compare dwell LOG SAMPLE                                write what perch dwell writes for a log, by the reading
 compare judged FOLDER                                   write what test_logs prints about the logs of a folder
 compare played FOLDER                                   write what test_plays prints about them, with sample.bin
 --each N: so many accesses, orders, reasons, meters, sheets and texts, half as many whole logs, cursors, players and imports
@@ -251,6 +252,7 @@ fn main() -> ExitCode {
         ["log-cases", count, folder] => write_logs(&asked, count, folder),
         ["examples", folder] => stored::examples(folder).map(|told| print!("{told}")),
         ["text", log, sample] => stored::text(log, sample).map(|text| print!("{text}")),
+        ["dwell", log, sample] => stored::dwell(log, sample).map(|text| print!("{text}")),
         ["judged", folder] => stored::judged(folder).map(|text| print!("{text}")),
         ["played", folder] => stored::played(folder).map(|text| print!("{text}")),
         _ => Err(USAGE.into()),

@@ -2,11 +2,15 @@
 
 use perch::raw;
 use reading::log::{self, Fault, Item, Line};
-use reading::{MEMORY, fold, number, play, salvage};
+use reading::{MEMORY, dwell, fold, number, play, salvage};
 use std::path::{Path, PathBuf};
 
 /// The most steps that a cursor takes in a log that is refused.
 const MOST_STEPS: u64 = 5_000;
+
+fn read(path: &str) -> Result<Vec<u8>, String> {
+    std::fs::read(path).map_err(|error| format!("{path}: {error}"))
+}
 
 /// The logs of a folder with their names, in the names' order.
 fn logs(folder: &str) -> Result<Vec<(String, Vec<u8>)>, String> {
@@ -26,7 +30,7 @@ const FIRST_CLOCKS: u64 = 3_000_000;
 /// Plays the logs of a folder with its sample.bin in the library, and holds their texts to the reading's.
 pub fn examples(folder: &str) -> Result<String, String> {
     let path = format!("{folder}/sample.bin");
-    let memory = std::fs::read(&path).map_err(|error| format!("{path}: {error}"))?;
+    let memory = read(&path)?;
     let (mut bytes, mut told) = (0, Vec::new());
     for (name, log) in logs(folder)? {
         let long = log::check(&log).is_ok_and(|all| all.clocks > MOST_CLOCKS);
@@ -79,8 +83,12 @@ fn first_lines(log: &[u8], memory: &[u8], bytes: usize) -> Vec<u8> {
 
 /// What the player writes for a log, by the reading.
 pub fn text(log: &str, sample: &str) -> Result<String, String> {
-    let read = |path: &str| std::fs::read(path).map_err(|error| format!("{path}: {error}"));
     Ok(play::text(&read(log)?, &read(sample)?))
+}
+
+/// What `perch dwell` writes for a log, by the reading.
+pub fn dwell(log: &str, sample: &str) -> Result<String, String> {
+    Ok(dwell::text(&read(log)?, &read(sample)?))
 }
 
 /// What `crates/test_logs/stdout` holds: of each log the check, some items, some bodies, a cursor's way, the log folded, and the
@@ -194,7 +202,7 @@ fn cursor_line(log: &[u8], most: u64) -> String {
 /// What `crates/test_plays/stdout` holds: each log played with the folder's `sample.bin`, then the first with other memory.
 pub fn played(folder: &str) -> Result<String, String> {
     let path = format!("{folder}/sample.bin");
-    let memory = std::fs::read(&path).map_err(|error| format!("{path}: {error}"))?;
+    let memory = read(&path)?;
     let logs = logs(folder)?;
     let case = |(name, log): &(String, Vec<u8>), memory: &[u8]| format!("case={name}\n{}", play::text(log, memory));
     let mut text: String = logs.iter().map(|log| case(log, &memory)).collect();

@@ -1,8 +1,8 @@
-//! What `perch why` writes about the examples (`host/verbs`), by the reading.
+//! What `perch why` and `perch dwell` write about the examples (`host/verbs`), by the reading.
 
 use reading::log::{Item, items, machine};
 use reading::why::why;
-use reading::{Chip, play};
+use reading::{Chip, dwell, play};
 use std::fs::read;
 
 /// The words of the reasons by number less one.
@@ -55,6 +55,24 @@ fn reasons_of_the_examples() {
         let log = read(format!("{host}/../examples/{log}.log")).unwrap();
         let stored = String::from_utf8(read(entry.path()).unwrap()).unwrap();
         assert_eq!(asked(&log, &memory, clock.parse().unwrap()), stored, "{name}");
+        files += 1;
+    }
+    assert!(files > 0);
+}
+
+#[test]
+fn dwell_tables_of_the_examples() {
+    let host = concat!(env!("CARGO_MANIFEST_DIR"), "/..");
+    let memory = read(format!("{host}/../examples/sample.bin")).unwrap();
+    let mut files = 0;
+    for entry in std::fs::read_dir(format!("{host}/verbs")).unwrap().flatten() {
+        let name = entry.file_name().into_string().unwrap();
+        let Some(log) = name.strip_prefix("dwell-") else {
+            continue;
+        };
+        let log = read(format!("{host}/../examples/{log}.log")).unwrap();
+        let stored = String::from_utf8(read(entry.path()).unwrap()).unwrap();
+        assert_eq!(dwell::text(&log, &memory), stored, "{name}");
         files += 1;
     }
     assert!(files > 0);

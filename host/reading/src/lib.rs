@@ -10,6 +10,7 @@ pub mod boundary;
 pub mod bytes;
 pub mod chip;
 pub mod cursor;
+pub mod dwell;
 pub mod fold;
 pub mod interrupt;
 pub mod layout;

@@ -1,0 +1,45 @@
+// `perch dwell`: a log on standard input, and on standard output how many clocks the DMC stood at each of its levels.
+ghost use mathlib.Core.Path.{_≡_};
+ghost use lib.ListN.{take};
+ghost use Rattle.io.specs.Counts.{Counts};
+ghost use Rattle.perch_dwell.specs.Text.{dwellText};
+use libc::STDIN_FILENO;
+use libc::STDOUT_FILENO;
+
+// The text: 2,560 bytes always hold it.
+fn answer(log: &[u8], memory: &[u8], out: &mut [u8; 2560]) -> usize
+    ensures { λ r. ⌜ Counts r (now (out .exit)) ⌝ }
+    ensures { λ r. ⌜ take r (now (out .exit)) ≡ dwellText (now (log .entry)) (now (memory .entry)) ⌝ }
+{
+    perch_dwell::answer(log, memory, out)
+}
+
+fn tell(log: &[u8], memory: &[u8]) {
+    let mut out = [0u8; 2560];
+    let n = answer(log, memory, &mut out);
+    io::write_all(STDOUT_FILENO, &out[..n]);
+}
+
+// With the sample memory: a byte more than it has, so that a longer one is seen.
+fn with_sample(log: &[u8]) {
+    let mut memory = [0u8; 32769];
+    let r = program_io::read_file(b"sample.bin", &mut memory);
+    if r.failed {
+        program_io::say(b"perch: sample.bin can't be read\n");
+        return;
+    }
+    let n = r.count;
+    tell(log, &memory[..n]);
+}
+
+// A byte more than a log may have, so that a longer one is seen.
+pub(crate) fn dwell() {
+    let mut log = [0u8; 60001];
+    let r = program_io::read_all(STDIN_FILENO, &mut log);
+    if r.failed {
+        program_io::say(b"perch: standard input can't be read\n");
+        return;
+    }
+    let n = r.count;
+    with_sample(&log[..n]);
+}

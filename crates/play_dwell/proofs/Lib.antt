@@ -1,0 +1,4 @@
+pub mod CountLaws
+pub mod RunLaws
+pub mod Sums
+pub mod WalkLaws

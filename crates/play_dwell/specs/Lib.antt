@@ -1,0 +1,2 @@
+pub mod Dwelling
+pub mod Walking
