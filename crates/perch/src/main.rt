@@ -3,6 +3,7 @@ mod check;
 mod dwells;
 mod fold;
 mod import;
+mod interrupts;
 mod meters;
 mod refused;
 mod salvage;
@@ -31,6 +32,9 @@ fn usage() {
     program_io::say(b"  meter waits the same, and that of each of its waits\n");
     program_io::say(
         b"  dwell       a log on standard input: how many clocks the DMC stood at each of its levels\n",
+    );
+    program_io::say(
+        b"  interrupts  a log on standard input: when the interrupt flags and the line change\n",
     );
     program_io::say(
         b"  sheet LEVEL ADDRESS LENGTH\n              the level after each byte of a sample in sample.bin\n",
@@ -69,6 +73,10 @@ fn run(verb: &[u8], words: usize) {
     }
     if arith::both_of(words == 2, text::exact(verb, b"dwell")) {
         dwells::dwell();
+        return;
+    }
+    if arith::both_of(words == 2, text::exact(verb, b"interrupts")) {
+        interrupts::interrupts();
         return;
     }
     if text::exact(verb, b"sheet") {
