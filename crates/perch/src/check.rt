@@ -3,7 +3,6 @@ ghost use mathlib.Core.Path.{_≡_};
 ghost use lib.ListN.{take};
 ghost use Rattle.io.specs.Counts.{Counts};
 ghost use Rattle.perch_check.specs.Report.{checkText};
-use libc::STDIN_FILENO;
 use libc::STDOUT_FILENO;
 
 // The text about a log: 700 bytes always hold it.
@@ -14,20 +13,19 @@ fn answer(log: &[u8], out: &mut [u8; 700]) -> usize
     perch_check::report(log, out)
 }
 
-fn tell(log: &[u8]) {
+fn tell(log: &[u8]) -> bool {
     let mut out = [0u8; 700];
     let n = answer(log, &mut out);
-    io::write_all(STDOUT_FILENO, &out[..n]);
+    program_io::write_all(STDOUT_FILENO, &out[..n])
 }
 
 // A byte more than a log may have, so that a longer one is seen.
-pub(crate) fn check() {
+pub(crate) fn check() -> bool {
     let mut log = [0u8; 60001];
-    let r = program_io::read_all(STDIN_FILENO, &mut log);
+    let r = program_io::read_input(b"perch", &mut log);
     if r.failed {
-        program_io::say(b"perch: standard input can't be read\n");
-        return;
+        return true;
     }
     let n = r.count;
-    tell(&log[..n]);
+    tell(&log[..n])
 }

@@ -3,7 +3,8 @@ ghost use mathlib.Core.Path.{_≡_};
 ghost use lib.ListN.{take};
 ghost use Rattle.io.specs.Counts.{Counts};
 ghost use Rattle.perch_dwell.specs.Text.{dwellText};
-use libc::STDIN_FILENO;
+use super::refused::explain;
+use super::refused::unplayed;
 use libc::STDOUT_FILENO;
 
 // The text: 2,560 bytes always hold it.
@@ -14,32 +15,32 @@ fn answer(log: &[u8], memory: &[u8], out: &mut [u8; 2560]) -> usize
     perch_dwell::answer(log, memory, out)
 }
 
-fn tell(log: &[u8], memory: &[u8]) {
+fn tell(log: &[u8], memory: &[u8]) -> bool {
     let mut out = [0u8; 2560];
     let n = answer(log, memory, &mut out);
-    io::write_all(STDOUT_FILENO, &out[..n]);
+    let written = program_io::write_all(STDOUT_FILENO, &out[..n]);
+    explain(unplayed(log, memory));
+    written
 }
 
 // With the sample memory: a byte more than it has, so that a longer one is seen.
-fn with_sample(log: &[u8]) {
+fn with_sample(log: &[u8]) -> bool {
     let mut memory = [0u8; 32769];
-    let r = program_io::read_file(b"sample.bin", &mut memory);
+    let r = program_io::read_sample(b"perch", &mut memory);
     if r.failed {
-        program_io::say(b"perch: sample.bin can't be read\n");
-        return;
+        return true;
     }
     let n = r.count;
-    tell(log, &memory[..n]);
+    tell(log, &memory[..n])
 }
 
 // A byte more than a log may have, so that a longer one is seen.
-pub(crate) fn dwell() {
+pub(crate) fn dwell() -> bool {
     let mut log = [0u8; 60001];
-    let r = program_io::read_all(STDIN_FILENO, &mut log);
+    let r = program_io::read_input(b"perch", &mut log);
     if r.failed {
-        program_io::say(b"perch: standard input can't be read\n");
-        return;
+        return true;
     }
     let n = r.count;
-    with_sample(&log[..n]);
+    with_sample(&log[..n])
 }

@@ -1,35 +1,40 @@
 // `perch import`: a VGM file on standard input, the log that it comes to on standard output, and nothing else there.
 use super::refused::refuse;
-use libc::STDIN_FILENO;
 use libc::STDOUT_FILENO;
 use perch_import::Brought;
 
-fn tell(file: &[u8]) {
+fn tell(file: &[u8]) -> bool {
     let mut log = [0u8; 60000];
     let b = perch_import::import_file(file, &mut log);
     match b {
-        Brought::Done(n) => program_io::write_front(STDOUT_FILENO, &log, n),
+        Brought::Done(n) => {
+            return program_io::write_front(STDOUT_FILENO, &log, n);
+        }
         Brought::Refused(number, place) => refuse(number, place),
-        Brought::NoVgm => program_io::say(b"perch: no VGM file: it doesn't begin with `Vgm `\n"),
-        Brought::Cut => program_io::say(b"perch: the VGM file ends inside its header\n"),
-        Brought::Outside => program_io::say(
-            b"perch: the VGM file's header says no place for its commands\n",
-        ),
+        Brought::NoVgm => {
+            program_io::say(b"perch: no VGM file: it doesn't begin with `Vgm `\n");
+        }
+        Brought::Cut => {
+            program_io::say(b"perch: the VGM file ends inside its header\n");
+        }
+        Brought::Outside => {
+            program_io::say(b"perch: the VGM file's header says no place for its commands\n");
+        }
     }
+    true
 }
 
 // A byte more than is read of a file, so that a longer one is seen.
-pub(crate) fn import() {
+pub(crate) fn import() -> bool {
     let mut file = [0u8; 524289];
-    let r = program_io::read_all(STDIN_FILENO, &mut file);
+    let r = program_io::read_input(b"perch", &mut file);
     if r.failed {
-        program_io::say(b"perch: standard input can't be read\n");
-        return;
+        return true;
     }
     if 524288 < r.count {
         program_io::say(b"perch: a VGM file of more than 512 KiB is not read\n");
-        return;
+        return true;
     }
     let n = r.count;
-    tell(&file[..n]);
+    tell(&file[..n])
 }

@@ -1,12 +1,10 @@
 // `perch interrupts`: a log on standard input, and on standard output when the interrupt flags and the line change.
-ghost use mathlib.Core.Path.{_≡_};
 ghost use Prim.Native.Nat.{_+_, _-_, _≤_};
-ghost use lib.Dec.{leb};
 ghost use lib.ListN.{length};
-ghost use Rattle.arith.specs.Pick.{pick};
 ghost use Rattle.text_print.specs.Printed.{Put};
 ghost use Rattle.perch_interrupts.specs.Text.{nextText};
-use libc::STDIN_FILENO;
+use super::pieces::poured;
+use super::refused::explain;
 use libc::STDOUT_FILENO;
 use play_interrupts::Next;
 
@@ -18,20 +16,8 @@ fn lines_on(out: &mut [u8], at: usize, n: Next) -> usize
     perch_interrupts::put_next(out, at, n)
 }
 
-// Writes what is still to be written once there may be no room for a change behind it; the place for the next.
-fn poured(out: &[u8], at: usize) -> usize
-    requires { ⌜ 96 ≤ length (now out) ⌝ }
-    ensures { λ r. ⌜ r ≡ pick (leb at (length (now (out .entry)) - 96)) at 0 ⌝ }
-{
-    if at <= out.len() - 96 {
-        return at;
-    }
-    program_io::write_front(STDOUT_FILENO, out, at);
-    0
-}
-
-// The changes of a log that passes and its end, within as many steps as it takes at most.
-fn pour(log: &[u8], memory: &[u8], out: &mut [u8])
+// The changes of a log that passes and its end, within as many steps as it takes at most; whether all of them were written.
+fn pour(log: &[u8], memory: &[u8], out: &mut [u8]) -> bool
     requires { ⌜ 96 ≤ length (now out) ⌝ }
 {
     let mut p = play_interrupts::start(log);
@@ -43,47 +29,63 @@ fn pour(log: &[u8], memory: &[u8], out: &mut [u8])
         p = w.place;
         at = lines_on(out, at, n);
         if perch_interrupts::is_over(n) {
-            program_io::write_front(STDOUT_FILENO, out, at);
-            return;
+            return program_io::write_front(STDOUT_FILENO, out, at);
         }
-        at = poured(out, at);
+        let w = poured(out, at, 96);
+        if !w.written {
+            return false;
+        }
+        at = w.at;
         left -= 1;
     }
+    false
 }
 
-fn tell(log: &[u8], memory: &[u8]) {
+// A log that is refused has no changes, and the reason is said.
+fn refused(number: u8, place: usize) -> bool {
+    let mut out = [0u8; 40];
+    let n = text_lines::refused_line(&mut out, 0, number, place);
+    let written = program_io::write_front(STDOUT_FILENO, &out, n);
+    explain(number);
+    written
+}
+
+fn changes(log: &[u8], memory: &[u8]) -> bool {
     let mut out = [0u8; 16384];
+    pour(log, memory, &mut out)
+}
+
+fn tell(log: &[u8], memory: &[u8]) -> bool {
+    let mut out = [0u8; 16];
     let h = perch_interrupts::head(&mut out, 0);
-    program_io::write_front(STDOUT_FILENO, &out, h);
+    if !program_io::write_front(STDOUT_FILENO, &out, h) {
+        return false;
+    }
     let b = play_begin::begin(log, memory);
     if b.number != 0 {
-        let n = text_lines::refused_line(&mut out, 0, b.number, b.place);
-        program_io::write_front(STDOUT_FILENO, &out, n);
-        return;
+        return refused(b.number, b.place);
     }
-    pour(log, memory, &mut out);
+    changes(log, memory)
 }
 
 // With the sample memory: a byte more than it has, so that a longer one is seen.
-fn with_sample(log: &[u8]) {
+fn with_sample(log: &[u8]) -> bool {
     let mut memory = [0u8; 32769];
-    let r = program_io::read_file(b"sample.bin", &mut memory);
+    let r = program_io::read_sample(b"perch", &mut memory);
     if r.failed {
-        program_io::say(b"perch: sample.bin can't be read\n");
-        return;
+        return true;
     }
     let n = r.count;
-    tell(log, &memory[..n]);
+    tell(log, &memory[..n])
 }
 
 // A byte more than a log may have, so that a longer one is seen.
-pub(crate) fn interrupts() {
+pub(crate) fn interrupts() -> bool {
     let mut log = [0u8; 60001];
-    let r = program_io::read_all(STDIN_FILENO, &mut log);
+    let r = program_io::read_input(b"perch", &mut log);
     if r.failed {
-        program_io::say(b"perch: standard input can't be read\n");
-        return;
+        return true;
     }
     let n = r.count;
-    with_sample(&log[..n]);
+    with_sample(&log[..n])
 }

@@ -1,94 +1,69 @@
-// The program for daily work: `perch VERB`, and what the verb asks for.
+// The program for daily work: `perch VERB`, and what the verb asks for. A verb answers whether all that it was to write to standard output was written;
+// where its input can't be read or its words are wrong, that is nothing.
 mod check;
 mod dwells;
 mod fold;
 mod import;
 mod interrupts;
 mod meters;
+mod pieces;
 mod refused;
 mod salvage;
 mod sheet;
+mod usage;
 mod why;
 
-// The verbs, a line each with their arguments.
-fn usage() {
-    program_io::say(b"usage: perch VERB\n");
-    program_io::say(
-        b"  check       a log on standard input: whether it passes, or where it is at fault\n",
-    );
-    program_io::say(
-        b"  fold        a log on standard input: the same log with its repeats as loops\n",
-    );
-    program_io::say(b"  import      a VGM file on standard input: the log that it comes to\n");
-    program_io::say(
-        b"  salvage     a damaged log on standard input: the log repaired, and what was dropped and added\n",
-    );
-    program_io::say(
-        b"  why CLOCK   a log on standard input: why the squares and the noise are silent there\n",
-    );
-    program_io::say(
-        b"  meter       a log on standard input: whether it is silent, steady or moving, and between which levels\n",
-    );
-    program_io::say(b"  meter waits the same, and that of each of its waits\n");
-    program_io::say(
-        b"  dwell       a log on standard input: how many clocks the DMC stood at each of its levels\n",
-    );
-    program_io::say(
-        b"  interrupts  a log on standard input: when the interrupt flags and the line change\n",
-    );
-    program_io::say(
-        b"  sheet LEVEL ADDRESS LENGTH\n              the level after each byte of a sample in sample.bin\n",
-    );
-}
+use libc::STDERR_FILENO;
+use libc::STDOUT_FILENO;
 
 // Runs a verb that is given as many words as it asks for, the program's name and the verb among them.
-fn run(verb: &[u8], words: usize) {
+fn run(verb: &[u8], words: usize) -> bool {
+    if words < 2 {
+        return usage::usage(STDOUT_FILENO);
+    }
+    if arith::both_of(words == 2, text::exact(verb, b"help")) {
+        return usage::usage(STDOUT_FILENO);
+    }
+    if arith::both_of(words == 2, text::exact(verb, b"version")) {
+        return usage::version();
+    }
     if arith::both_of(words == 2, text::exact(verb, b"check")) {
-        check::check();
-        return;
+        return check::check();
     }
     if arith::both_of(words == 2, text::exact(verb, b"fold")) {
-        fold::fold();
-        return;
+        return fold::fold();
     }
     if arith::both_of(words == 2, text::exact(verb, b"import")) {
-        import::import();
-        return;
+        return import::import();
     }
     if arith::both_of(words == 2, text::exact(verb, b"salvage")) {
-        salvage::salvage();
-        return;
+        return salvage::salvage();
     }
     if arith::both_of(words == 3, text::exact(verb, b"why")) {
-        why::why();
-        return;
+        return why::why();
     }
     if arith::both_of(words == 2, text::exact(verb, b"meter")) {
-        meters::meter(false);
-        return;
+        return meters::meter(false);
     }
     if arith::both_of(words == 3, text::exact(verb, b"meter")) {
-        meters::asked();
-        return;
-    }
-    if arith::both_of(words == 2, text::exact(verb, b"dwell")) {
-        dwells::dwell();
-        return;
+        return meters::asked();
     }
     if arith::both_of(words == 2, text::exact(verb, b"interrupts")) {
-        interrupts::interrupts();
-        return;
+        return interrupts::interrupts();
+    }
+    if arith::both_of(words == 2, text::exact(verb, b"dwell")) {
+        return dwells::dwell();
     }
     if text::exact(verb, b"sheet") {
-        sheet::sheet(words);
-        return;
+        return sheet::sheet(words);
     }
-    usage();
+    usage::usage(STDERR_FILENO);
+    true
 }
 
 // A word that is longer than any verb reads as an empty one.
 fn main() {
     let mut word = [0u8; 16];
     let n = os::arg(1, &mut word);
-    run(&word[..n], os::arg_count());
+    program_io::end(b"perch", run(&word[..n], os::arg_count()));
 }

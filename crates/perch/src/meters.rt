@@ -1,13 +1,13 @@
 // `perch meter`: a log on standard input, and on standard output the meter of what it sounds like; `perch meter waits`: of each of its waits too.
 ghost use mathlib.Core.Path.{_≡_};
 ghost use Prim.Native.Nat.{_+_, _-_, _≤_};
-ghost use lib.Dec.{leb};
 ghost use lib.ListN.{length, take};
-ghost use Rattle.arith.specs.Pick.{pick};
 ghost use Rattle.io.specs.Counts.{Counts};
 ghost use Rattle.text_print.specs.Printed.{Put};
 ghost use Rattle.perch_meter.specs.Text.{meterText, nextText};
-use libc::STDIN_FILENO;
+use super::pieces::poured;
+use super::refused::explain;
+use super::refused::unplayed;
 use libc::STDOUT_FILENO;
 use play_meter::waits::Next;
 
@@ -19,10 +19,10 @@ fn answer(log: &[u8], memory: &[u8], out: &mut [u8; 64]) -> usize
     perch_meter::answer(log, memory, out)
 }
 
-fn tell(log: &[u8], memory: &[u8]) {
+fn tell(log: &[u8], memory: &[u8]) -> bool {
     let mut out = [0u8; 64];
     let n = answer(log, memory, &mut out);
-    io::write_all(STDOUT_FILENO, &out[..n]);
+    program_io::write_all(STDOUT_FILENO, &out[..n])
 }
 
 // What there is to write of a step, behind what is still to be written.
@@ -33,20 +33,8 @@ fn line_on(out: &mut [u8], at: usize, n: Next) -> usize
     perch_meter::put_next(out, at, n)
 }
 
-// Writes what is still to be written once there may be no room for a line behind it; the place for the next line.
-fn poured(out: &[u8], at: usize) -> usize
-    requires { ⌜ 64 ≤ length (now out) ⌝ }
-    ensures { λ r. ⌜ r ≡ pick (leb at (length (now (out .entry)) - 64)) at 0 ⌝ }
-{
-    if at <= out.len() - 64 {
-        return at;
-    }
-    program_io::write_front(STDOUT_FILENO, out, at);
-    0
-}
-
-// A line for each wait of a log that passes, within as many steps as its cursor takes at most.
-fn pour(log: &[u8], memory: &[u8], out: &mut [u8])
+// A line for each wait of a log that passes, within as many steps as its cursor takes at most; whether all of them were written.
+fn pour(log: &[u8], memory: &[u8], out: &mut [u8]) -> bool
     requires { ⌜ 64 ≤ length (now out) ⌝ }
 {
     let mut m = play_meter::waits::start(log);
@@ -58,62 +46,68 @@ fn pour(log: &[u8], memory: &[u8], out: &mut [u8])
         m = p.moment;
         at = line_on(out, at, n);
         if perch_meter::is_over(n) {
-            program_io::write_front(STDOUT_FILENO, out, at);
-            return;
+            return program_io::write_front(STDOUT_FILENO, out, at);
         }
-        at = poured(out, at);
+        let w = poured(out, at, 64);
+        if !w.written {
+            return false;
+        }
+        at = w.at;
         left -= 1;
     }
+    false
 }
 
-// A log that is refused has no waits.
-fn waits(log: &[u8], memory: &[u8]) {
-    let k = log_check::check(log);
-    if k.number != 0 {
-        return;
-    }
+fn waits(log: &[u8], memory: &[u8]) -> bool {
     let mut out = [0u8; 16384];
-    pour(log, memory, &mut out);
+    pour(log, memory, &mut out)
 }
 
-fn tell_all(log: &[u8], memory: &[u8], each: bool) {
-    tell(log, memory);
-    if each {
-        waits(log, memory);
+// A log that is refused has no waits, and the reason is said.
+fn tell_all(log: &[u8], memory: &[u8], each: bool) -> bool {
+    if !tell(log, memory) {
+        return false;
     }
+    let number = unplayed(log, memory);
+    if number != 0 {
+        explain(number);
+        return true;
+    }
+    if each {
+        return waits(log, memory);
+    }
+    true
 }
 
 // With the sample memory: a byte more than it has, so that a longer one is seen.
-fn with_sample(log: &[u8], each: bool) {
+fn with_sample(log: &[u8], each: bool) -> bool {
     let mut memory = [0u8; 32769];
-    let r = program_io::read_file(b"sample.bin", &mut memory);
+    let r = program_io::read_sample(b"perch", &mut memory);
     if r.failed {
-        program_io::say(b"perch: sample.bin can't be read\n");
-        return;
+        return true;
     }
     let n = r.count;
-    tell_all(log, &memory[..n], each);
+    tell_all(log, &memory[..n], each)
 }
 
 // A byte more than a log may have, so that a longer one is seen.
-pub(crate) fn meter(each: bool) {
+pub(crate) fn meter(each: bool) -> bool {
     let mut log = [0u8; 60001];
-    let r = program_io::read_all(STDIN_FILENO, &mut log);
+    let r = program_io::read_input(b"perch", &mut log);
     if r.failed {
-        program_io::say(b"perch: standard input can't be read\n");
-        return;
+        return true;
     }
     let n = r.count;
-    with_sample(&log[..n], each);
+    with_sample(&log[..n], each)
 }
 
 // A word that is longer than any right one reads as an empty one.
-pub(crate) fn asked() {
+pub(crate) fn asked() -> bool {
     let mut word = [0u8; 16];
     let n = os::arg(2, &mut word);
     if text::exact(&word[..n], b"waits") {
-        meter(true);
-        return;
+        return meter(true);
     }
     program_io::say(b"perch: expected meter, or meter waits\n");
+    true
 }

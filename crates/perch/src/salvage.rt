@@ -3,7 +3,6 @@ ghost use mathlib.Core.Path.{_≡_};
 ghost use Prim.Native.Nat.{_%_};
 use super::refused::refuse;
 use libc::STDERR_FILENO;
-use libc::STDIN_FILENO;
 use libc::STDOUT_FILENO;
 use perch_salvage::Outcome;
 
@@ -31,27 +30,30 @@ fn lines(log: &[u8], new: &[u8], list: &[u32], n: usize) {
     }
 }
 
-fn tell(log: &[u8]) {
+fn tell(log: &[u8]) -> bool {
     let mut out = [0u8; 60000];
     let mut list = [0u32; 120020];
     let o = perch_salvage::salvage(log, &mut out, &mut list);
     match o {
         Outcome::Done(n, entries) => {
-            program_io::write_front(STDOUT_FILENO, &out, n);
+            let written = program_io::write_front(STDOUT_FILENO, &out, n);
             lines(log, &out, &list, entries);
+            written
         }
-        Outcome::Refused(number, place) => refuse(number, place),
+        Outcome::Refused(number, place) => {
+            refuse(number, place);
+            true
+        }
     }
 }
 
 // A byte more than a log may have, so that a longer one is seen.
-pub(crate) fn salvage() {
+pub(crate) fn salvage() -> bool {
     let mut log = [0u8; 60001];
-    let r = program_io::read_all(STDIN_FILENO, &mut log);
+    let r = program_io::read_input(b"perch", &mut log);
     if r.failed {
-        program_io::say(b"perch: standard input can't be read\n");
-        return;
+        return true;
     }
     let n = r.count;
-    tell(&log[..n]);
+    tell(&log[..n])
 }

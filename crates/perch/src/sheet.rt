@@ -2,15 +2,17 @@
 ghost use mathlib.Core.Path.{_≡_};
 ghost use lib.ListN.{take};
 ghost use Rattle.io.specs.Counts.{Counts};
-ghost use Rattle.perch_sheet.specs.Report.{sheetText};
+ghost use Rattle.perch_sheet.specs.Report.{sheetRefusal, sheetText};
+use super::refused::explain;
 use libc::STDOUT_FILENO;
 use perch_sheet::Args;
 
-// What the words have to be.
-fn expected() {
+// What the words have to be; nothing is to be written.
+fn expected() -> bool {
     program_io::say(
         b"perch: expected sheet LEVEL ADDRESS LENGTH: decimals with no leading zero, the address four lower-case hex digits, as in sheet 64 c000 20\n",
     );
+    true
 }
 
 // The text about a sheet: 40,000 bytes always hold it.
@@ -21,22 +23,32 @@ fn answer(memory: &[u8], level: u64, address: u64, size: u64, out: &mut [u8; 400
     perch_sheet::report(memory, level, address, size, out)
 }
 
-fn tell(memory: &[u8], level: u32, address: u32, size: u32) {
+// The number that a sheet is refused by, or 0.
+fn number_of(memory: &[u8], level: u64, address: u64, size: u64) -> u8
+    ensures { λ r. ⌜ r ≡ sheetRefusal (now (memory .entry)) level address size ⌝ }
+{
+    let mut levels = [0u8; 4081];
+    let w = chip_sheet::sheet(memory, level, address, size, &mut levels);
+    w.number
+}
+
+fn tell(memory: &[u8], level: u32, address: u32, size: u32) -> bool {
     let mut out = [0u8; 40000];
     let n = answer(memory, level as u64, address as u64, size as u64, &mut out);
-    io::write_all(STDOUT_FILENO, &out[..n]);
+    let written = program_io::write_all(STDOUT_FILENO, &out[..n]);
+    explain(number_of(memory, level as u64, address as u64, size as u64));
+    written
 }
 
 // A byte more than sample memory has, so that a longer file is seen.
-fn draw(level: u32, address: u32, size: u32) {
+fn draw(level: u32, address: u32, size: u32) -> bool {
     let mut memory = [0u8; 32769];
-    let r = program_io::read_file(b"sample.bin", &mut memory);
+    let r = program_io::read_sample(b"perch", &mut memory);
     if r.failed {
-        program_io::say(b"perch: sample.bin can't be read\n");
-        return;
+        return true;
     }
     let n = r.count;
-    tell(&memory[..n], level, address, size);
+    tell(&memory[..n], level, address, size)
 }
 
 // A word that is missing, or longer than any right one, reads as an empty one.
@@ -51,10 +63,9 @@ fn words() -> Args {
 }
 
 // `count` is that of all words, the program's name and the verb among them.
-pub(crate) fn sheet(count: usize) {
+pub(crate) fn sheet(count: usize) -> bool {
     if count != 5 {
-        expected();
-        return;
+        return expected();
     }
     let w = words();
     match w {

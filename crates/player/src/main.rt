@@ -1,26 +1,24 @@
 // The player: a log on standard input, the sample memory in `sample.bin`, the text on standard output. A read that fails is said on standard
-// error, and nothing is written.
+// error, and nothing is written; so is a write that fails.
 
-// A byte more than the memory has, so that a longer one is seen.
-fn play(log: &[u8]) {
+// A byte more than the memory has, so that a longer one is seen. Whether all that is to be written was.
+fn play(log: &[u8]) -> bool {
     let mut memory = [0u8; 32769];
-    let r = program_io::read_file(b"sample.bin", &mut memory);
+    let r = program_io::read_sample(b"player", &mut memory);
     if r.failed {
-        program_io::say(b"player: sample.bin can't be read\n");
-        return;
+        return true;
     }
     let n = r.count;
-    play_stdout::play(log, &memory[..n]);
+    play_stdout::play(log, &memory[..n])
 }
 
 // A byte more than a log may have, so that a longer one is seen.
 fn main() {
     let mut log = [0u8; 60001];
-    let r = program_io::read_all(libc::STDIN_FILENO, &mut log);
+    let r = program_io::read_input(b"player", &mut log);
     if r.failed {
-        program_io::say(b"player: standard input can't be read\n");
         return;
     }
     let n = r.count;
-    play(&log[..n]);
+    program_io::end(b"player", play(&log[..n]));
 }

@@ -5,10 +5,6 @@ use lib.ListN.{length}
 use borrow.Author.Needs.{needs}
 use Rattle.play_stdout.proofs.pour.Statement.{statement}
 use Rattle.play_stdout.proofs.pour.Tie as tie
-use Rattle.play_stdout.proofs.pour.Reads as reads
-use Rattle.play_stdout.proofs.pour.Lts as lts
-use Rattle.play.proofs.play_on.Reads as play-on-reads
-use Rattle.play_stdout.proofs.piece.Reads as piece-reads
 
 abbrev Inv-loop : tie.InvT-loop
 Inv-loop log memory out₀ q₀ n₀ out q n = length out ≡ length out₀
@@ -22,8 +18,8 @@ loop-holds c = search needs
 play-on-requires : tie.Need-play-on-requires Inv-loop μ-loop
 play-on-requires c κs = search needs
 
-piece-requires : tie.Need-piece-requires Inv-loop μ-loop
-piece-requires c κs = search needs
+write-front-requires : tie.Need-write-front-requires Inv-loop μ-loop
+write-front-requires c κs = search needs
 
 same-length : tie.Need-same-length Inv-loop μ-loop
 same-length c = search needs
@@ -63,7 +59,7 @@ pour-spec =
     μ-loop
     loop-holds
     play-on-requires
-    piece-requires
+    write-front-requires
     same-length
     returns
     either-of-requires

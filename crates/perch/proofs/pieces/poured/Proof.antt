@@ -1,7 +1,7 @@
 use borrow.Author.Needs.{needs}
 use borrow.Author.Tests.{le-leb, lt-leb}
-use Rattle.perch.proofs.interrupts.poured.Statement.{statement}
-use Rattle.perch.proofs.interrupts.poured.Tie as tie
+use Rattle.perch.proofs.pieces.poured.Statement.{statement}
+use Rattle.perch.proofs.pieces.poured.Tie as tie
 
 returns : tie.Need-returns
 returns c = rw (le-leb _ _ (c .if1 .taken))
