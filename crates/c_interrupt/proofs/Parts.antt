@@ -9,13 +9,12 @@ use Rattle.chip.specs.Range.{inRange}
 use Rattle.chip.specs.declared.State.{State}
 use Rattle.chip_api.specs.Answer.{isMemory}
 use Rattle.run_answer.specs.Run.{number}
-use Rattle.c_state.specs.Bytes.{stateOf, isState}
 use Rattle.run_interrupt.specs.Next.{nextInterrupt, riseNumber, riseClocks}
 use Rattle.run_interrupt.specs.declared.Asked.{Asked}
 use Rattle.run_interrupt.specs.declared.Rise.{Rise}
 use Rattle.run_interrupt.specs.declared.Rise.the-variants.{At, Never, Refused}
 use Rattle.run_interrupt.proofs.RiseLaws.{first-number}
-use Rattle.c_interrupt.specs.Packed.{askedOf, nextFrom, foundFlag, nextPacked}
+use Rattle.c_interrupt.specs.Packed.{foundFlag, risePacked}
 
 run-most : (memory : List ℕ) (s : State) (count : ℕ) → number memory s count ≤ 3
 unfolding number
@@ -29,24 +28,16 @@ next-most a memory s count =
     pick-both (λ (r : Rise). riseNumber r ≤ 3) (eqb (number memory s count) 0) (let e = first-number a memory count s in omega arith)
     (run-most memory s count)
 
-number-most : (which : ℕ) (memory b : List ℕ) (count : ℕ) → riseNumber (nextFrom which memory b count) ≤ 3
-unfolding nextFrom
-number-most which memory b count =
-    pick-both (λ (r : Rise). riseNumber r ≤ 3) (isState b) (next-most (askedOf which) memory (stateOf b) count)
-    (pick-both (λ (k : ℕ). k ≤ 3) (isMemory memory) (omega arith) (omega arith))
-
 found-most : (r : Rise) → foundFlag r ≤ 1
 found-most (At k) = omega arith
 found-most Never = omega arith
 found-most (Refused n) = omega arith
 
-module _ (which : ℕ) (memory b : List ℕ) (count : ℕ) where
-  -- THE PARTS: the low 8 bits are the number, the next 24 whether there is such a clock, those above the clocks
-  pub apart : (nextPacked which memory b count % 2 ^ 8 ≡ riseNumber (nextFrom which memory b count))
-      × ((nextPacked which memory b count / 2 ^ 8 % 2 ^ 24 ≡ foundFlag (nextFrom which memory b count))
-      × (nextPacked which memory b count / 2 ^ 32 ≡ riseClocks (nextFrom which memory b count)))
-  unfolding nextPacked
-  apart =
-      let n = number-most which memory b count in
-      let f = found-most (nextFrom which memory b count) in
-      (omega arith, (omega arith, omega arith))
+-- THE PARTS: the low 8 bits are the number, the next 24 whether there is such a clock, those above the clocks
+pub apart : (a : Asked) (memory : List ℕ) (s : State) (count : ℕ)
+    → let r = nextInterrupt a memory s count in
+    (risePacked r % 2 ^ 8 ≡ riseNumber r) × ((risePacked r / 2 ^ 8 % 2 ^ 24 ≡ foundFlag r) × (risePacked r / 2 ^ 32 ≡ riseClocks r))
+apart a memory s count =
+    let n = next-most a memory s count in
+    let f = found-most (nextInterrupt a memory s count) in
+    (omega arith, (omega arith, omega arith))

@@ -1,23 +1,16 @@
--- What C and Rust get: for any bytes, the answer about the state that they stand for, as one number.
+-- What C and Rust ask for by a number, and an answer as one number.
 use Prim.Native.Nat.{ℕ, _+_, _*_, _^_}
-use mathlib.Core.List.{List}
 use lib.Dec.{eqb}
 use Rattle.arith.specs.Pick.{pick}
-use Rattle.c_state.specs.Bytes.{stateOf, isState}
-use Rattle.c_chip.specs.Boundary.{noState}
 use Rattle.run_interrupt.specs.declared.Asked.{Asked}
 use Rattle.run_interrupt.specs.declared.Asked.the-variants.{Line, Frame, Dmc}
 use Rattle.run_interrupt.specs.declared.Rise.{Rise}
 use Rattle.run_interrupt.specs.declared.Rise.the-variants.{At, Never, Refused}
-use Rattle.run_interrupt.specs.Next.{nextInterrupt, riseNumber, riseClocks}
+use Rattle.run_interrupt.specs.Next.{riseNumber, riseClocks}
 
 -- what is asked for: 1 the frame's flag, 2 the DMC's, any other number the line
 unfoldable pub askedOf : ℕ → Asked
 askedOf which = pick (eqb which 1) Frame (pick (eqb which 2) Dmc Line)
-
--- 1, then 2, then 3: bytes that are no state's are a state out of range
-unfoldable pub nextFrom : ℕ → List ℕ → List ℕ → ℕ → Rise
-nextFrom which memory b count = pick (isState b) (nextInterrupt (askedOf which) memory (stateOf b) count) (Refused (noState memory))
 
 -- 1 where there is such a clock
 abbrev pub foundFlag : Rise → ℕ
@@ -28,6 +21,3 @@ foundFlag (Refused n) = 0
 -- "number + 2^8 x found + 2^32 x clocks"
 abbrev pub risePacked : Rise → ℕ
 risePacked r = riseNumber r + 2 ^ 8 * foundFlag r + 2 ^ 32 * riseClocks r
-
-unfoldable pub nextPacked : ℕ → List ℕ → List ℕ → ℕ → ℕ
-nextPacked which memory b count = risePacked (nextFrom which memory b count)

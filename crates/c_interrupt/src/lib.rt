@@ -1,6 +1,8 @@
 // When the interrupt line is asserted next, on a state that is bytes: the answer in one number.
 ghost use mathlib.Core.Path.{_≡_};
-ghost use Rattle.c_interrupt.specs.Packed.{askedOf, nextFrom, foundFlag, risePacked, nextPacked};
+ghost use Rattle.run_interrupt.specs.Next.{nextInterrupt};
+ghost use Rattle.c_state.specs.Bytes.{stateIn};
+ghost use Rattle.c_interrupt.specs.Packed.{askedOf, foundFlag, risePacked};
 use run_interrupt::Asked;
 use run_interrupt::Rise;
 
@@ -14,18 +16,6 @@ fn asked_of(which: u8) -> Asked
         return Asked::Dmc;
     }
     Asked::Line
-}
-
-fn next_from(b: &[u8], memory: &[u8], count: u64, which: u8) -> Rise
-    ensures { λ r. ⌜ r ≡ nextFrom which (now (memory .entry)) (now (b .entry)) count ⌝ }
-{
-    let s = c_state_read::decode(b);
-    let a = asked_of(which);
-    if c_state::is_state(b) {
-        return run_interrupt::next_interrupt(s, memory, count, a);
-    }
-    let number = c_chip::no_state(memory);
-    Rise::Refused(number)
 }
 
 // 1 where there is such a clock.
@@ -52,8 +42,10 @@ fn pack_rise(r: Rise) -> u64
 // The least number of clocks from 0 to the count after which the line is asserted (which = 1: the frame's flag is set, 2: the DMC's), or that there is
 // none. Refused: 1, 2, 3.
 pub fn next_interrupt(state: &[u8], memory: &[u8], count: u64, which: u8) -> u64
-    ensures { λ r. ⌜ r ≡ nextPacked which (now (memory .entry)) (now (state .entry)) count ⌝ }
+    ensures { λ r. ⌜ r ≡ risePacked (nextInterrupt (askedOf which) (now (memory .entry)) (stateIn (now (state .entry))) count) ⌝ }
 {
-    let r = next_from(state, memory, count, which);
+    let s = c_state_read::state_in(state);
+    let asked = asked_of(which);
+    let r = run_interrupt::next_interrupt(s, memory, count, asked);
     pack_rise(r)
 }

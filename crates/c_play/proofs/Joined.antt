@@ -22,9 +22,9 @@ use Rattle.log_rules.specs.Tree.{acts}
 use Rattle.log_rules.specs.Whole.{treeOf}
 use Rattle.play_rules.specs.Sound.{entriesOf}
 use Rattle.c_cursor.proofs.Calls.{beginning-fits}
-use Rattle.c_player.specs.Player.{playerSize, playerBytes, playerAt, isPlayer, PlayerFits}
-use Rattle.c_player.proofs.CodeLaws.{written-read, player-right}
-use Rattle.c_play.specs.Players.{playerAfter, beginNumber, beginBytes, PlayedFrom, Continued}
+use Rattle.c_player.specs.Player.{playerSize, playerBytes, playerIn, PlayerFits}
+use Rattle.c_player.proofs.CodeLaws.{written-in}
+use Rattle.c_play.specs.Players.{playerAfter, beginNumber, beginBytes, Continued}
 use Rattle.c_play.specs.Pieces.{writtenOf, overOf, Pieces, none, piece}
 
 -- what the answer of a piece says
@@ -59,11 +59,11 @@ module _ (log memory : List ℕ) where
       by false h = absurd (refused (isMemory memory) h)
 
   -- bytes of a player are played as the player
-  playing : (b text text′ : List ℕ) (q : Player) (r : Played) → b ≡ playerBytes q → PlayerFits q → PlayedFrom log memory b text text′ r → PlayedOn log memory q text text′ r
+  playing : (b text text′ : List ℕ) (q : Player) (r : Played) → b ≡ playerBytes q → PlayerFits q → PlayedOn log memory (playerIn b) text text′ r
+      → PlayedOn log memory q text text′ r
   playing b text text′ q r e f d =
-      let i : isPlayer b ≡ true = ap isPlayer e ∙ player-right q (f .cursor .starts .0) (f .cursor .left .0) in
-      let a : playerAt b ≡ q = ap playerAt e ∙ written-read q f in
-      rw a at (rw i at d)
+      let a : playerIn b ≡ q = ap playerIn e ∙ written-in q f in
+      rw a at d
 
   -- a list of calls with bytes is a list of calls with the players that they stand for
   pub record Held (b joined : List ℕ) (count : ℕ) (over : Bool) : Type 0 where

@@ -6,15 +6,14 @@ use mathlib.Core.Logic.{_⊎_, inl, inr}
 use mathlib.Core.Bool.{Bool, true, false}
 use mathlib.Core.List.{List, _++_}
 use native.Mathlib.Omega.{arith}
-use borrow.Author.Tests.{eq-eqb, ne-eqb, eqb-true}
+use borrow.Author.Tests.{eq-eqb, ne-eqb}
 use lib.ListN.{length, take, drop, take-append-drop}
 use lib.Seq.{length-take-le, take-append-le, drop-append-le}
 use lib.Dec.{eqb}
 use Rattle.arith.specs.Pick.{pick}
-use Rattle.arith.proofs.PickLaws.{both-left, pick-both}
+use Rattle.arith.proofs.PickLaws.{pick-both}
 use Rattle.chip.specs.Range.{inRange}
 use Rattle.chip_api.specs.Answer.{isMemory}
-use Rattle.c_state.specs.Bytes.{isState}
 use Rattle.log_rules.proofs.Limits.{check-limits}
 use Rattle.text_print.specs.Printed.{fits, placed}
 use Rattle.play_rules.specs.declared.Player.{Player}
@@ -24,11 +23,11 @@ use Rattle.play_text.specs.Entries.{refusalText}
 use Rattle.play.specs.Playing.{Piece, Untouched, Answered, Where, PlayedOn}
 use Rattle.play_begin.specs.Whole.{playPlace, begunOf}
 use Rattle.play_text.proofs.TextLaws.{refusal-size}
-use Rattle.c_player.specs.Player.{playerSize, playerBytes, playerAt, statePart, isPlayer, playerEncoded}
-use Rattle.c_chip.specs.Boundary.{noState}
+use Rattle.c_player.specs.Player.{playerSize, playerBytes, playerIn, playerEncoded}
 use Rattle.c_log.specs.Logs.{logPacked}
-use Rattle.c_play.specs.Players.{playerAfter, beginNumber, beginPlace, beginPacked, beginBytes, PlayedFrom}
-use Rattle.c_chip.proofs.StoreLaws.{written-by, no-state-refused}
+use Rattle.c_play.specs.Players.{playerAfter, otherLength, beginNumber, beginPlace, beginPacked, beginBytes}
+use Rattle.c_chip.proofs.StoreLaws.{written-by}
+use Rattle.c_player.proofs.CodeLaws.{in-long}
 
 where-on : {A B C D : Type 0} (t : Bool) → (A → C) → (B → D) → Where t A B → Where t C D
 where-on true f g x = f x
@@ -103,23 +102,24 @@ player-stored : (t : Bool) (p : Player) (b : List ℕ) → (t ≡ true → lengt
 unfolding playerEncoded
 player-stored t p b h = written-by t (playerEncoded p b) (playerBytes p) b (λ e. rw (eq-eqb (length b) playerSize (h e)))
 
-player-long : (b : List ℕ) → isPlayer b ≡ true → length b ≡ playerSize
-unfolding isPlayer
-player-long b e = eqb-true (length b) playerSize (both-left (eqb (length b) playerSize) (isState (statePart b)) e)
-
-done-player : (log memory b before after : List ℕ) (r : Played) → PlayedFrom log memory b before after r → eqb (r .number) 0 ≡ true → length b ≡ playerSize
-done-player log memory b before after r x e = go (isPlayer b) refl x
+-- a piece is done only for a state in range
+played-done : (log memory : List ℕ) (p : Player) (before after : List ℕ) (r : Played) → PlayedOn log memory p before after r
+    → eqb (r .number) 0 ≡ true → inRange (p .state) ≡ true
+unfolding PlayedOn
+played-done log memory p before after r x e = by (isMemory memory) (inRange (p .state)) x
   where
-    go : (t : Bool) → isPlayer b ≡ t → Where t (PlayedOn log memory (playerAt b) before after r) (Untouched (playerAt b) (noState memory) 0 before after r) → length b ≡ playerSize
-    go true f y = player-long b f
-    go false f y =
-        let n = ap (λ (x : Played). eqb (x .number) 0) (y .answer) in
-        let m = no-state-refused (isMemory memory) in
-        absurd (let z : _≡_ {A = ℕ} 0 1 = cc in omega arith)
+    refused : (n : ℕ) → Untouched p n 0 before after r → eqb n 0 ≡ true
+    refused n u = sym (ap (λ (x : Played). eqb (x .number) 0) (u .answer)) ∙ e
 
-pub piece-stored : (log memory b before after : List ℕ) (r : Played) → PlayedFrom log memory b before after r
+    by : (t u : Bool) → Where t (Where u (Answered log memory p before after r) (Untouched p 2 0 before after r)) (Untouched p 1 0 before after r) → u ≡ true
+    by t true y = refl
+    by true false y = refused 2 y
+    by false false y = refused 1 y
+
+pub piece-stored : (log memory b before after : List ℕ) (r : Played) → PlayedOn log memory (playerIn b) before after r
     → pick (eqb (r .number) 0) (playerEncoded (r .player) b) b ≡ playerAfter (r .number) (r .player) b
-piece-stored log memory b before after r x = player-stored (eqb (r .number) 0) (r .player) b (done-player log memory b before after r x)
+piece-stored log memory b before after r x =
+    player-stored (eqb (r .number) 0) (r .player) b (λ e. in-long b (played-done log memory (playerIn b) before after r x e))
 
 -- a beginning
 
@@ -127,10 +127,14 @@ pub begun-place : (log memory : List ℕ) → begunOf log memory .place ≤ 6000
 unfolding begunOf playPlace
 begun-place log memory = pick-both (λ (p : ℕ). p ≤ 60000) (isMemory memory) (check-limits log .place) (omega arith)
 
+other-refused : (t : Bool) → eqb (pick t 2 1) 0 ≡ false
+other-refused true = refl
+other-refused false = refl
+
 module _ (log memory b : List ℕ) where
-  pub not-begun : (length b ≡ playerSize → ⊥) → (logPacked (noState memory) 0 0 ≡ beginPacked log memory b) × (b ≡ beginBytes log memory b)
+  pub not-begun : (length b ≡ playerSize → ⊥) → (logPacked (otherLength memory) 0 0 ≡ beginPacked log memory b) × (b ≡ beginBytes log memory b)
   unfolding beginNumber beginPlace
-  not-begun h = rw (ne-eqb (length b) playerSize h) (refl, rw (no-state-refused (isMemory memory)))
+  not-begun h = rw (ne-eqb (length b) playerSize h) (refl, rw (other-refused (isMemory memory)))
 
   pub begun : length b ≡ playerSize → (g : Begun) → g ≡ begunOf log memory → (answer : ℕ) → answer ≡ logPacked (g .number) (g .place) 0
       → (b′ : List ℕ) → b′ ≡ pick (eqb (g .number) 0) (playerEncoded (g .player) b) b

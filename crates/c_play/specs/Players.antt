@@ -5,24 +5,28 @@ use mathlib.Core.List.{List}
 use lib.ListN.{length}
 use lib.Dec.{eqb}
 use Rattle.arith.specs.Pick.{pick}
+use Rattle.chip_api.specs.Answer.{isMemory}
 use Rattle.c_bytes.specs.Fields.{flagByte}
 use Rattle.text_print.specs.Printed.{placed}
 use Rattle.play_rules.specs.declared.Player.{Player}
 use Rattle.play.specs.declared.Played.{Played}
 use Rattle.play_text.specs.Entries.{refusalText}
-use Rattle.play.specs.Playing.{Where, Untouched, PlayedOn}
+use Rattle.play.specs.Playing.{PlayedOn}
 use Rattle.play_begin.specs.Whole.{begunOf}
-use Rattle.c_player.specs.Player.{playerSize, playerBytes, playerAt, isPlayer, PlayerFits}
-use Rattle.c_chip.specs.Boundary.{noState}
+use Rattle.c_player.specs.Player.{playerSize, playerBytes, playerIn, PlayerFits}
 use Rattle.c_log.specs.Logs.{logPacked}
 
 -- the bytes after an answer: done, those of its player; refused, as they were
 abbrev pub playerAfter : ℕ → Player → List ℕ → List ℕ
 playerAfter number p b = pick (eqb number 0) (playerBytes p) b
 
+-- the number where other than a player's bytes are lent: "Lowest number first"
+abbrev pub otherLength : List ℕ → ℕ
+otherLength memory = pick (isMemory memory) 2 1
+
 -- a beginning: 1, then 2 (other than a player's bytes are lent), then the log's number with its place
 unfoldable pub beginNumber : List ℕ → List ℕ → List ℕ → ℕ
-beginNumber log memory b = pick (eqb (length b) playerSize) (begunOf log memory .number) (noState memory)
+beginNumber log memory b = pick (eqb (length b) playerSize) (begunOf log memory .number) (otherLength memory)
 
 unfoldable pub beginPlace : List ℕ → List ℕ → List ℕ → ℕ
 beginPlace log memory b = pick (eqb (length b) playerSize) (begunOf log memory .place) 0
@@ -38,15 +42,11 @@ abbrev pub piecePacked : Played → ℕ
 piecePacked r =
     pick (eqb (r .number) 0) (2 ^ 8 * flagByte (r .over) + 2 ^ 32 * r .length) (logPacked (r .number) (r .place % 2 ^ 24) 0)
 
--- a piece: 1, then 2 (bytes that are no player's, or hold a state out of range), then what the player comes to
-abbrev pub PlayedFrom : List ℕ → List ℕ → List ℕ → List ℕ → List ℕ → Played → Type 0
-PlayedFrom log memory b before after r =
-    Where (isPlayer b) (PlayedOn log memory (playerAt b) before after r) (Untouched (playerAt b) (noState memory) 0 before after r)
-
--- WHAT `play_on` PROMISES of its answer, the player's bytes b and the text. How full the piece gets is left free, as in `play`.
+-- WHAT `play_on` PROMISES of its answer, the player's bytes b and the text: what `play` promises of the player that they stand for. How full the piece gets is
+-- left free, as there.
 pub record Continued (log memory b b′ text text′ : List ℕ) (answer : ℕ) : Type 0 where
   pub played : Played
-  pub does : PlayedFrom log memory b text text′ played
+  pub does : PlayedOn log memory (playerIn b) text text′ played
   pub says : answer ≡ piecePacked played
   pub small : played .number < 2 ^ 8
   -- done, the bytes are those of the player behind the lines, and stand for it; refused, they stay

@@ -6,8 +6,9 @@ ghost use lib.Dec.{eqb};
 ghost use Rattle.arith.specs.Pick.{pick};
 ghost use Rattle.text_print.specs.Printed.{printed};
 ghost use Rattle.play_text.specs.Entries.{refusalText};
-ghost use Rattle.c_player.specs.Player.{playerEncoded};
-ghost use Rattle.c_play.specs.Players.{beginPacked, beginBytes, piecePacked, PlayedFrom, Continued, refusalPacked};
+ghost use Rattle.play.specs.Playing.{PlayedOn};
+ghost use Rattle.c_player.specs.Player.{playerIn, playerEncoded};
+ghost use Rattle.c_play.specs.Players.{beginPacked, beginBytes, piecePacked, Continued, refusalPacked};
 use play::Played;
 use play_rules::Player;
 
@@ -26,7 +27,7 @@ pub fn begin(player: &mut [u8], log: &[u8], memory: &[u8]) -> u64
     ensures { λ r. ⌜ now (player .exit) ≡ beginBytes (now (log .entry)) (now (memory .entry)) (now (player .entry)) ⌝ }
 {
     if player.len() != c_player::SIZE {
-        let number = c_chip::no_state(memory);
+        let number = arith::pick_u8(memory.len() == 32768, 2, 1);
         return c_log::pack(number, 0, 0);
     }
     let g = play_begin::begin(log, memory);
@@ -35,23 +36,14 @@ pub fn begin(player: &mut [u8], log: &[u8], memory: &[u8]) -> u64
     c_log::pack(g.number, g.place, 0)
 }
 
+// A piece of the player that bytes stand for.
 fn play_from(b: &[u8], log: &[u8], memory: &[u8], text: &mut [u8]) -> Played
-    ensures { λ r. ⌜ PlayedFrom (now (log .entry)) (now (memory .entry)) (now (b .entry)) (now (text .entry)) (now (text .exit)) r × (r .length ≤ 4294967295) ⌝ }
+    ensures { λ r. ⌜ PlayedOn (now (log .entry)) (now (memory .entry)) (playerIn (now (b .entry))) (now (text .entry)) (now (text .exit)) r × (r .length ≤ 4294967295) ⌝ }
 {
-    let p = c_player::decode(b);
-    if c_player::is_player(b) {
-        // As many bytes of the text as the answer can count.
-        let end = arith::least_usize(text.len(), 4294967295);
-        return play::play_on(p, log, memory, &mut text[..end]);
-    }
-    let number = c_chip::no_state(memory);
-    Played {
-        number: number,
-        place: 0,
-        player: p,
-        length: 0,
-        over: false,
-    }
+    let p = c_player::player_in(b);
+    // As many bytes of the text as the answer can count.
+    let end = arith::least_usize(text.len(), 4294967295);
+    play::play_on(p, log, memory, &mut text[..end])
 }
 
 // A piece's answer in one number.

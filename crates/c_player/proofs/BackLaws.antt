@@ -1,4 +1,5 @@
--- Bytes that are a player are written back as they were, and a player that was read has the ranges of its types. Assumes nothing.
+-- Bytes that are told by their number and by the state's bytes are those that are written back as they were, and a player that was read has the ranges of its
+-- types. Assumes nothing.
 use mathlib.Core.Path.{_≡_}
 use mathlib.Core.Bool.{true}
 use mathlib.Core.List.{List, [], _∷_}
@@ -8,14 +9,19 @@ use lib.ListN.{length, getD, take, drop, length-drop}
 use lib.Seq.{getD-drop, length-take-le}
 use lib.Dec.{eqb}
 use borrow.Author.Tests.{eqb-true}
+use Rattle.arith.specs.Pick.{both}
 use Rattle.arith.proofs.PickLaws.{both-left, both-right}
+use Rattle.text.specs.Key.{exactly}
+use Rattle.text.proofs.KeyLaws.{exactly-is}
 use Rattle.c_bytes.specs.Fields.{byteOf}
 use Rattle.c_state.specs.Bytes.{isState}
-use Rattle.c_state.proofs.BackLaws.{read-written as state-written}
+use Rattle.c_state.proofs.BackLaws.{alike}
+use Rattle.c_state.proofs.CodeLaws.{exactly-same, read-written as state-written}
 use Rattle.c_cursor.specs.Cursors.{cursorSize}
 use Rattle.c_bytes.proofs.NumberLaws.{cut, wide-most, wide-kept}
 use Rattle.c_cursor.proofs.CodeLaws.{read-fits as cursor-fits, read-written as cursor-written}
-use Rattle.c_player.specs.Player.{cursorPlace, statePlace, playerSize, cursorPart, statePart, playerBytes, playerAt, isPlayer, PlayerFits}
+use Rattle.c_player.specs.Player.{cursorPlace, playerSize, cursorPart, statePart, playerBytes, playerAt, isPlayer, PlayerFits}
+use Rattle.c_player.proofs.CodeLaws.{read-told}
 
 taken : (n : ℕ) (l : List ℕ) → ((i : ℕ) → getD l i 0 ≤ 255) → (i : ℕ) → getD (take n l) i 0 ≤ 255
 taken zero l h i = omega arith
@@ -39,12 +45,11 @@ module _ (b : List ℕ) (bytes : (i : ℕ) → byteOf b i ≤ 255) where
         cursor = cursor-fits (cursorPart b) (taken cursorSize (drop cursorPlace b) (dropped cursorPlace));
       }
 
-  -- what was read is written
-  read-written : isPlayer b ≡ true → playerBytes (playerAt b) ≡ b
-  unfolding isPlayer playerBytes playerAt
-  read-written e =
+  told-written : both (eqb (length b) playerSize) (isState (statePart b)) ≡ true → playerBytes (playerAt b) ≡ b
+  unfolding playerBytes playerAt
+  told-written e =
       let size : length b ≡ playerSize = eqb-true (length b) playerSize (both-left (eqb (length b) playerSize) (isState (statePart b)) e) in
-      let state = state-written (statePart b) (dropped statePlace) (both-right (eqb (length b) playerSize) (isState (statePart b)) e) in
+      let state = state-written (statePart b) (both-right (eqb (length b) playerSize) (isState (statePart b)) e) in
       let long : length (cursorPart b) ≡ cursorSize = length-take-le cursorSize (drop cursorPlace b) (simp length-drop (omega arith)) in
       let cursor = cursor-written (cursorPart b) (taken cursorSize (drop cursorPlace b) (dropped cursorPlace)) long in
       rw (
@@ -60,3 +65,11 @@ module _ (b : List ℕ) (bytes : (i : ℕ) → byteOf b i ≤ 255) where
         ← cut b 1 4,
         ← cut b 0 1,
       )
+
+  -- THE CODE TELLS THEM RIGHT
+  pub told-right : both (eqb (length b) playerSize) (isState (statePart b)) ≡ isPlayer b
+  unfolding isPlayer
+  told-right =
+      alike (both (eqb (length b) playerSize) (isState (statePart b))) (exactly (playerBytes (playerAt b)) b)
+      (λ e. rw (told-written e) (exactly-same b))
+      (λ e. rw (exactly-is (playerBytes (playerAt b)) b e) (read-told b))

@@ -1,21 +1,26 @@
--- A player written as bytes is read back. Assumes nothing but the ranges of its types.
-use mathlib.Core.Path.{_≡_, sym, ap, _∙_}
-use mathlib.Core.Bool.{true}
-use mathlib.Core.List.{_++_, append-assoc}
-use Prim.Native.Nat.{_+_}
+-- A player written as bytes is read back, and what bytes stand for. Assumes nothing but the ranges of its types.
+use mathlib.Core.Path.{_≡_, refl, sym, ap, _∙_}
+use mathlib.Core.Bool.{Bool, true, false, false≢true}
+use mathlib.Core.List.{List, _++_, append-assoc}
+use Prim.Native.Nat.{ℕ, _+_}
+use lib.Dec.{eqb}
 use lib.ListN.{length, take, drop}
 use lib.Seq.{take-at, drop-at}
-use borrow.Author.Tests.{eq-eqb}
-use Rattle.c_state.specs.Bytes.{stateBytes}
-use Rattle.c_state.proofs.CodeLaws.{state-right, written-read as state-read}
+use borrow.Author.Tests.{eq-eqb, eqb-true}
+use Rattle.arith.specs.Pick.{pick, both}
+use Rattle.arith.proofs.PickLaws.{both-left}
+use Rattle.text.proofs.KeyLaws.{exactly-is}
+use Rattle.chip.specs.Range.{inRange}
+use Rattle.c_state.specs.Bytes.{stateBytes, isState}
+use Rattle.c_state.proofs.CodeLaws.{exactly-same, outside-out, state-right, written-read as state-read}
 use Rattle.c_bytes.specs.Numbers.{wideBytes, wideOf}
-use Rattle.c_cursor.specs.Cursors.{cursorSize, cursorBytes}
+use Rattle.c_cursor.specs.Cursors.{cursorSize, cursorBytes, cursorOf}
 use Rattle.c_bytes.proofs.WideLaws.{wide-size}
-use Rattle.c_bytes.proofs.NumberLaws.{wide-past, wide-read}
+use Rattle.c_bytes.proofs.NumberLaws.{wide-past, wide-read, widths}
 use Rattle.c_cursor.proofs.PlaceLaws.{cursor-size}
 use Rattle.c_cursor.proofs.CodeLaws.{written-read as cursor-read}
 use Rattle.play_rules.specs.declared.Player.{Player}
-use Rattle.c_player.specs.Player.{cursorPlace, statePlace, playerBytes, cursorPart, statePart, playerAt, isPlayer, PlayerFits}
+use Rattle.c_player.specs.Player.{cursorPlace, statePlace, playerSize, playerBytes, cursorPart, statePart, playerAt, isPlayer, outsidePlayer, playerIn, PlayerFits}
 use Rattle.c_player.proofs.PlaceLaws.{numbers, numbers-size, front-size, whole, player-size}
 
 module _ (p : Player) (fits : PlayerFits p) where
@@ -73,7 +78,42 @@ written-read p fits =
       cursor-read (p .cursor) (fits .cursor),
     )
 
--- a player's bytes are a player's
-pub player-right : (p : Player) → length (p .cursor .starts) ≡ 8 → length (p .cursor .left) ≡ 8 → isPlayer (playerBytes p) ≡ true
+-- its bytes are as many as a player is, and those of the state are a state's
+pub player-told : (p : Player) → length (p .cursor .starts) ≡ 8 → length (p .cursor .left) ≡ 8
+    → both (eqb (length (playerBytes p)) playerSize) (isState (statePart (playerBytes p))) ≡ true
+player-told p s l = rw (eq-eqb _ _ (player-size p s l), state-part p (cursor-size (p .cursor) s l)) (state-right (p .state))
+
+-- a player that was read has a player's bytes
+pub read-told : (b : List ℕ) → both (eqb (length (playerBytes (playerAt b))) playerSize) (isState (statePart (playerBytes (playerAt b)))) ≡ true
+unfolding playerAt cursorOf
+read-told b = player-told (playerAt b) (widths (cursorPart b) 16 8 8) (widths (cursorPart b) 80 1 8)
+
+-- BYTES THAT ARE A PLAYER'S
+
+-- a player's bytes are
+player-right : (p : Player) → PlayerFits p → isPlayer (playerBytes p) ≡ true
 unfolding isPlayer
-player-right p s l = rw (eq-eqb _ _ (player-size p s l), state-part p (cursor-size (p .cursor) s l)) (state-right (p .state))
+player-right p fits = rw (written-read p fits) (exactly-same (playerBytes p))
+
+-- they have a player's length
+player-long : (b : List ℕ) → isPlayer b ≡ true → length b ≡ playerSize
+unfolding isPlayer
+player-long b e =
+    ap length (exactly-is (playerBytes (playerAt b)) b e)
+    ∙ eqb-true (length (playerBytes (playerAt b))) playerSize (both-left _ (isState (statePart (playerBytes (playerAt b)))) (read-told b))
+
+-- WHAT BYTES STAND FOR
+
+-- a player's bytes stand for it
+pub written-in : (p : Player) → PlayerFits p → playerIn (playerBytes p) ≡ p
+unfolding playerIn
+written-in p fits = rw (player-right p fits) (written-read p fits)
+
+-- bytes that stand for a player whose state is in range have a player's length
+pub in-long : (b : List ℕ) → inRange (playerIn b .state) ≡ true → length b ≡ playerSize
+unfolding playerIn outsidePlayer
+in-long b e = by (isPlayer b) refl e
+  where
+    by : (t : Bool) → isPlayer b ≡ t → inRange (pick t (playerAt b) outsidePlayer .state) ≡ true → length b ≡ playerSize
+    by true f g = player-long b f
+    by false f g = absurd (false≢true (sym outside-out ∙ g))

@@ -2,11 +2,12 @@
 -- the state's as the crate `c_state` has them.
 use Prim.Native.Nat.{ℕ, _+_, _^_, _<_}
 use mathlib.Core.Bool.{Bool}
-use mathlib.Core.List.{List, _++_}
+use mathlib.Core.List.{List, [], _++_}
 use lib.ListN.{length, take, drop}
 use lib.Dec.{eqb}
-use Rattle.arith.specs.Pick.{pick, both}
-use Rattle.c_state.specs.Bytes.{stateSize, stateBytes, stateOf, isState}
+use Rattle.arith.specs.Pick.{pick}
+use Rattle.text.specs.Key.{exactly}
+use Rattle.c_state.specs.Bytes.{stateSize, stateBytes, stateOf, outside}
 use Rattle.c_bytes.specs.Numbers.{wideBytes, wideOf}
 use Rattle.c_cursor.specs.Cursors.{cursorSize, cursorBytes, cursorOf, CursorFits}
 use Rattle.play_rules.specs.declared.Player.{Player}
@@ -48,9 +49,17 @@ playerAt b =
       cursor = cursorOf (cursorPart b);
     }
 
--- these bytes are a player's: as many as a player is, and those of the state are a state's
+-- these bytes are a player's: read and written back, they are as they were
 unfoldable pub isPlayer : List ℕ → Bool
-isPlayer b = both (eqb (length b) playerSize) (isState (statePart b))
+isPlayer b = exactly (playerBytes (playerAt b)) b
+
+-- a player whose state is out of range
+unfoldable pub outsidePlayer : Player
+outsidePlayer = record { phase = 0; wait = 0; time = 0; last = 0; state = outside; cursor = cursorOf [] }
+
+-- THE PLAYER THAT BYTES STAND FOR; bytes that are no player's stand for one whose state is out of range
+unfoldable pub playerIn : List ℕ → Player
+playerIn b = pick (isPlayer b) (playerAt b) outsidePlayer
 
 -- what writing a player to lent bytes leaves in them: the player's bytes; where other than so many bytes are lent, those as they were
 unfoldable pub playerEncoded : Player → List ℕ → List ℕ

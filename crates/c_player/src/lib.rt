@@ -1,7 +1,7 @@
 // A player as bytes, for callers in other languages: its fields in their order, low byte first, the cursor as the crate `c_cursor` has it, and
 // last the state as the crate `c_state` has it.
 ghost use mathlib.Core.Path.{_≡_};
-ghost use Rattle.c_player.specs.Player.{playerSize, playerAt, isPlayer, playerEncoded};
+ghost use Rattle.c_player.specs.Player.{playerSize, playerAt, isPlayer, playerIn, playerEncoded};
 
 mod reader;
 mod writer;
@@ -23,7 +23,8 @@ pub fn size() -> usize
     SIZE
 }
 
-// Whether bytes are a player's: as many as a player is, and those of the state are a state's.
+// Whether bytes are a player's: read and written back they are as they were. So are as many as a player is whose state's bytes are a state's, and
+// no others.
 pub fn is_player(b: &[u8]) -> bool
     ensures { λ r. ⌜ r ≡ isPlayer (now (b .entry)) ⌝ }
 {
@@ -32,7 +33,7 @@ pub fn is_player(b: &[u8]) -> bool
     arith::both_of(b.len() == SIZE, right)
 }
 
-// The player that bytes stand for.
+// The player read from bytes, whatever they are.
 pub fn decode(b: &[u8]) -> Player
     ensures { λ r. ⌜ r ≡ playerAt (now (b .entry)) ⌝ }
 {
@@ -47,6 +48,25 @@ pub fn decode(b: &[u8]) -> Player
         wait: wait,
         time: time,
         last: last,
+        state: state,
+        cursor: cursor,
+    }
+}
+
+// The player that bytes stand for; bytes that are no player's stand for one whose state is out of range.
+pub fn player_in(b: &[u8]) -> Player
+    ensures { λ r. ⌜ r ≡ playerIn (now (b .entry)) ⌝ }
+{
+    if is_player(b) {
+        return decode(b);
+    }
+    let cursor = c_cursor::decode(b"");
+    let state = c_state_read::decode(b"\xff");
+    Player {
+        phase: 0,
+        wait: 0,
+        time: 0,
+        last: 0,
         state: state,
         cursor: cursor,
     }

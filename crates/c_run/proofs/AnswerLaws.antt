@@ -1,7 +1,7 @@
 -- A run at the boundary: it does at most 1,000,000 clocks, so that its answer fits one number; its answer and its bytes. Assumes nothing.
-use Prim.Native.Nat.{ℕ, _≤_}
-use mathlib.Core.Path.{_≡_, refl, ap, sym, subst, _∙_}
-use mathlib.Core.Bool.{true, false}
+use Prim.Native.Nat.{ℕ, zero, suc, _≤_}
+use mathlib.Core.Path.{_≡_, refl, ap, sym, _∙_}
+use mathlib.Core.Bool.{Bool, true, false, false≢true}
 use mathlib.Core.Logic.{_≢_}
 use mathlib.Core.List.{List}
 use native.Mathlib.Omega.{arith}
@@ -12,21 +12,20 @@ use Rattle.arith.specs.Pick.{pick}
 use Rattle.arith.proofs.PickLaws.{pick-both, pick-each}
 use Rattle.reading.specs.Reading.{start, plain}
 use Rattle.reading.proofs.ReadingLaws.{reading-done}
+use Rattle.chip.specs.Range.{inRange}
 use Rattle.chip.specs.declared.State.{State}
-use Rattle.chip_api.specs.Answer.{isMemory}
 use Rattle.run_answer.specs.Run.{roomOf, number, refusal}
 use Rattle.run_answer.specs.declared.Ran.{Ran}
 use Rattle.run_answer.proofs.AnswerLaws.{number-fine}
 use Rattle.run_dwell.specs.Dwell.{dwellClockwork, dwellNumber, dwellBy, dwellRefusal, dwellAnswered, dwellAnswer, dwellLent}
 use Rattle.run_dwell.specs.declared.Counted.{Counted}
 use Rattle.run_dwell.proofs.DwellLaws.{number-right}
-use Rattle.c_state.specs.Bytes.{isState, stateOf}
+use Rattle.c_state.specs.Bytes.{stateIn}
 use Rattle.c_state.specs.Encoded.{encoded}
-use Rattle.c_chip.specs.Boundary.{bytesAfter, noState}
-use Rattle.c_run.specs.Runs.{ranPacked, noTable, tableAnswer, tableLent, runFrom, wordsFrom}
+use Rattle.c_run.specs.Runs.{noTable, tableAnswer, tableLent, runBytes}
 use Rattle.c_counts.specs.Counts.{tableOf, countsAfter}
 use Rattle.c_counts.proofs.CopyLaws.{table-of, counts-after}
-use Rattle.c_chip.proofs.StoreLaws.{stored-from, no-state-refused}
+use Rattle.c_chip.proofs.StoreLaws.{stored}
 
 -- THE LENT COUNTS
 
@@ -68,29 +67,6 @@ table-refused memory s counts count words size n e ran a =
       (sym (z .1), ap (λ (x : Counted). x .counts) (sym (z .0))),
     )
 
--- THE BYTES OF A STATE
-
-pub from-state : (memory b : List ℕ) (count : ℕ) (words counts : List ℕ) → isState b ≡ true → (s : State) → s ≡ stateOf b → (ran : Ran) (after kept : List ℕ)
-    → (ran ≡ tableAnswer memory s counts count words .ran) × ((after ≡ tableLent memory s counts count words) × (kept ≡ tableAnswer memory s counts count words .counts))
-    → (ran ≡ runFrom memory b count words counts .ran) × ((after ≡ wordsFrom memory b count words counts) × (kept ≡ runFrom memory b count words counts .counts))
-unfolding runFrom wordsFrom
-from-state memory b count words counts e s q ran after kept h =
-    rw e (
-      h .0 ∙ ap (λ (x : State). tableAnswer memory x counts count words .ran) q,
-      (
-        h .1 .0 ∙ ap (λ (x : State). tableLent memory x counts count words) q,
-        h .1 .1 ∙ ap (λ (x : State). tableAnswer memory x counts count words .counts) q,
-      ),
-    )
-
--- and no state's
-pub from-none : (memory b : List ℕ) (count : ℕ) (words counts : List ℕ) → isState b ≡ false → (s : State) → s ≡ stateOf b → (n : ℕ) → n ≡ noState memory
-    → (ran : Ran) → ran ≡ refusal n s
-    → (ran ≡ runFrom memory b count words counts .ran) × ((words ≡ wordsFrom memory b count words counts) × (counts ≡ runFrom memory b count words counts .counts))
-unfolding runFrom wordsFrom
-from-none memory b count words counts e s q n z ran a =
-    rw e (a ∙ ap (λ (k : ℕ). refusal k s) z ∙ ap (λ (x : State). refusal (noState memory) x) q, (refl, refl))
-
 -- THE CLOCKS DONE
 
 answer-most : (memory : List ℕ) (s : State) (counts : List ℕ) (count : ℕ) (words : List ℕ) → dwellAnswer memory s counts count words .ran .done ≤ 1_000_000
@@ -105,31 +81,38 @@ answer-most memory s counts count words =
     ))
     (λ e. omega arith)
 
-table-most : (memory : List ℕ) (s : State) (counts : List ℕ) (count : ℕ) (words : List ℕ) → tableAnswer memory s counts count words .ran .done ≤ 1_000_000
+pub table-most : (memory : List ℕ) (s : State) (counts : List ℕ) (count : ℕ) (words : List ℕ) → tableAnswer memory s counts count words .ran .done ≤ 1_000_000
 unfolding tableAnswer
 table-most memory s counts count words =
     pick-both (λ (r : Counted). r .ran .done ≤ 1_000_000) (eqb (length counts) 128) (answer-most memory s counts count words) (omega arith)
 
-module _ (memory b : List ℕ) (count : ℕ) (words counts : List ℕ) (r : Ran) (e : r ≡ runFrom memory b count words counts .ran) where
-  -- the clocks done
-  pub run-most : r .done ≤ 1_000_000
-  unfolding runFrom
-  run-most =
-      subst (λ (r : Ran). r .done ≤ 1_000_000) (sym e)
-      (pick-both (λ (r : Counted). r .ran .done ≤ 1_000_000) (isState b) (table-most memory (stateOf b) counts count words) (omega arith))
+-- A RUN IS DONE ONLY ON A STATE IN RANGE
 
-  -- the answer
-  pub run-packed : (n : ℕ) → n ≡ ranPacked r → n ≡ ranPacked (runFrom memory b count words counts .ran)
-  run-packed n p = p ∙ ap (λ (r : Ran). ranPacked r) e
+answer-done : (memory : List ℕ) (s : State) (counts : List ℕ) (count : ℕ) (words : List ℕ)
+    → eqb (dwellAnswer memory s counts count words .ran .number) 0 ≡ true → inRange s ≡ true
+unfolding dwellAnswer dwellAnswered
+answer-done memory s counts count words e =
+    let n = dwellNumber memory s counts count in
+    number-fine memory s count (number-right memory s counts count (eqb-true n 0 (by n (eqb n 0) refl _ e)) .0) .1
+  where
+    by : (n : ℕ) (t : Bool) → eqb n 0 ≡ t → (r : Counted) → eqb (pick t r (dwellRefusal n s counts) .ran .number) 0 ≡ true → eqb n 0 ≡ true
+    by n true f r z = f
+    by n false f r z = z
 
-  -- the bytes
-  pub run-stored :
-      (after : List ℕ)
-      → after ≡ pick (eqb (r .number) 0) (encoded (r .state) b) b
-      → after ≡ bytesAfter (runFrom memory b count words counts .ran .number) (runFrom memory b count words counts .ran .state) b
-  unfolding runFrom
-  run-stored after p =
-      p
-      ∙ ap (λ (r : Ran). pick (eqb (r .number) 0) (encoded (r .state) b) b) e
-      ∙ stored-from (λ (r : Counted). r .ran .number) b (tableAnswer memory (stateOf b) counts count words) (dwellRefusal (noState memory) (stateOf b) counts)
-      (runFrom memory b count words counts .ran .state) (no-state-refused (isMemory memory))
+-- without a table there is always a refusal
+no-table-done : (n : ℕ) → eqb (pick (eqb n 0) 13 n) 0 ≡ false
+no-table-done zero = refl
+no-table-done (suc n) = let e : eqb (suc n) 0 ≡ false = ne-eqb (suc n) 0 (λ z. omega arith) in simp e
+
+table-done : (memory : List ℕ) (s : State) (counts : List ℕ) (count : ℕ) (words : List ℕ)
+    → eqb (tableAnswer memory s counts count words .ran .number) 0 ≡ true → inRange s ≡ true
+unfolding tableAnswer noTable
+table-done memory s counts count words =
+    pick-both (λ (r : Counted). eqb (r .ran .number) 0 ≡ true → inRange s ≡ true) (eqb (length counts) 128) (answer-done memory s counts count words)
+    (λ e. absurd (false≢true (sym (no-table-done (number memory s count)) ∙ e)))
+
+pub run-stored : (memory b : List ℕ) (count : ℕ) (words counts : List ℕ) (r : Ran) (after : List ℕ) → r ≡ tableAnswer memory (stateIn b) counts count words .ran
+    → after ≡ pick (eqb (r .number) 0) (encoded (r .state) b) b → after ≡ runBytes (tableAnswer memory (stateIn b) counts count words .ran) b
+run-stored memory b count words counts r after =
+    stored (λ (r : Ran). r .number) (λ (r : Ran). r .state) b (tableAnswer memory (stateIn b) counts count words .ran) r after
+    (table-done memory (stateIn b) counts count words)

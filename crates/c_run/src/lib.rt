@@ -1,7 +1,8 @@
 // The two runs on a state that is bytes, with a dwell table that is lent words. Bytes that are no state in range are refused, and stay.
 ghost use mathlib.Core.Path.{_≡_};
 ghost use Prim.Native.Nat.{_≤_};
-ghost use Rattle.c_run.specs.Runs.{ranPacked, noTable, tableAnswer, tableLent, runFrom, runPacked, runBytes, wordsFrom, countsFrom};
+ghost use Rattle.c_state.specs.Bytes.{stateIn};
+ghost use Rattle.c_run.specs.Runs.{ranPacked, noTable, tableAnswer, tableLent, runBytes};
 use chip::State;
 use run_answer::Ran;
 
@@ -41,19 +42,6 @@ fn leaping_on(s: State, memory: &[u8], count: u64, words: &mut [u32], counts: &m
     run_answer::refuse(number, s)
 }
 
-fn leaping_from(b: &[u8], memory: &[u8], count: u64, words: &mut [u32], counts: &mut [u32]) -> Ran
-    ensures { λ r. ⌜ r ≡ runFrom (now (memory .entry)) (now (b .entry)) count (now (words .entry)) (now (counts .entry)) .ran ⌝ }
-    ensures { λ r. ⌜ now (words .exit) ≡ wordsFrom (now (memory .entry)) (now (b .entry)) count (now (words .entry)) (now (counts .entry)) ⌝ }
-    ensures { λ r. ⌜ now (counts .exit) ≡ countsFrom (now (memory .entry)) (now (b .entry)) count (now (words .entry)) (now (counts .entry)) ⌝ }
-{
-    let s = c_state_read::decode(b);
-    if c_state::is_state(b) {
-        return leaping_on(s, memory, count, words, counts);
-    }
-    let number = c_chip::no_state(memory);
-    run_answer::refuse(number, s)
-}
-
 // Works `count` clocks, leaping where nothing changes, writes a record of two words for each clock whose level differs from that before it, and adds
 // one to the count at the DMC level after each clock done. Refused: 1, 2, 3, 13.
 pub fn run(
@@ -63,14 +51,15 @@ pub fn run(
     words: &mut [u32],
     counts: &mut [u32],
 ) -> u64
-    ensures { λ r. ⌜ r ≡ runPacked (now (memory .entry)) (now (state .entry)) count (now (words .entry)) (now (counts .entry)) ⌝ }
-    ensures { λ r. ⌜ now (state .exit) ≡ runBytes (now (memory .entry)) (now (state .entry)) count (now (words .entry)) (now (counts .entry)) ⌝ }
-    ensures { λ r. ⌜ now (words .exit) ≡ wordsFrom (now (memory .entry)) (now (state .entry)) count (now (words .entry)) (now (counts .entry)) ⌝ }
-    ensures { λ r. ⌜ now (counts .exit) ≡ countsFrom (now (memory .entry)) (now (state .entry)) count (now (words .entry)) (now (counts .entry)) ⌝ }
+    ensures { λ r. ⌜ r ≡ ranPacked (tableAnswer (now (memory .entry)) (stateIn (now (state .entry))) (now (counts .entry)) count (now (words .entry)) .ran) ⌝ }
+    ensures { λ r. ⌜ now (state .exit) ≡ runBytes (tableAnswer (now (memory .entry)) (stateIn (now (state .entry))) (now (counts .entry)) count (now (words .entry)) .ran) (now (state .entry)) ⌝ }
+    ensures { λ r. ⌜ now (words .exit) ≡ tableLent (now (memory .entry)) (stateIn (now (state .entry))) (now (counts .entry)) count (now (words .entry)) ⌝ }
+    ensures { λ r. ⌜ now (counts .exit) ≡ tableAnswer (now (memory .entry)) (stateIn (now (state .entry))) (now (counts .entry)) count (now (words .entry)) .counts ⌝ }
 {
-    let r = leaping_from(state, memory, count, words, counts);
-    let s = r.state;
-    c_chip::store(r.number, s, state);
+    let s = c_state_read::state_in(state);
+    let r = leaping_on(s, memory, count, words, counts);
+    let after = r.state;
+    c_chip::store(r.number, after, state);
     pack_run(r)
 }
 
@@ -91,19 +80,6 @@ fn plain_on(s: State, memory: &[u8], count: u64, words: &mut [u32], counts: &mut
     run_answer::refuse(number, s)
 }
 
-fn plain_from(b: &[u8], memory: &[u8], count: u64, words: &mut [u32], counts: &mut [u32]) -> Ran
-    ensures { λ r. ⌜ r ≡ runFrom (now (memory .entry)) (now (b .entry)) count (now (words .entry)) (now (counts .entry)) .ran ⌝ }
-    ensures { λ r. ⌜ now (words .exit) ≡ wordsFrom (now (memory .entry)) (now (b .entry)) count (now (words .entry)) (now (counts .entry)) ⌝ }
-    ensures { λ r. ⌜ now (counts .exit) ≡ countsFrom (now (memory .entry)) (now (b .entry)) count (now (words .entry)) (now (counts .entry)) ⌝ }
-{
-    let s = c_state_read::decode(b);
-    if c_state::is_state(b) {
-        return plain_on(s, memory, count, words, counts);
-    }
-    let number = c_chip::no_state(memory);
-    run_answer::refuse(number, s)
-}
-
 // The same, clock by clock.
 pub fn run_plain(
     state: &mut [u8],
@@ -112,13 +88,14 @@ pub fn run_plain(
     words: &mut [u32],
     counts: &mut [u32],
 ) -> u64
-    ensures { λ r. ⌜ r ≡ runPacked (now (memory .entry)) (now (state .entry)) count (now (words .entry)) (now (counts .entry)) ⌝ }
-    ensures { λ r. ⌜ now (state .exit) ≡ runBytes (now (memory .entry)) (now (state .entry)) count (now (words .entry)) (now (counts .entry)) ⌝ }
-    ensures { λ r. ⌜ now (words .exit) ≡ wordsFrom (now (memory .entry)) (now (state .entry)) count (now (words .entry)) (now (counts .entry)) ⌝ }
-    ensures { λ r. ⌜ now (counts .exit) ≡ countsFrom (now (memory .entry)) (now (state .entry)) count (now (words .entry)) (now (counts .entry)) ⌝ }
+    ensures { λ r. ⌜ r ≡ ranPacked (tableAnswer (now (memory .entry)) (stateIn (now (state .entry))) (now (counts .entry)) count (now (words .entry)) .ran) ⌝ }
+    ensures { λ r. ⌜ now (state .exit) ≡ runBytes (tableAnswer (now (memory .entry)) (stateIn (now (state .entry))) (now (counts .entry)) count (now (words .entry)) .ran) (now (state .entry)) ⌝ }
+    ensures { λ r. ⌜ now (words .exit) ≡ tableLent (now (memory .entry)) (stateIn (now (state .entry))) (now (counts .entry)) count (now (words .entry)) ⌝ }
+    ensures { λ r. ⌜ now (counts .exit) ≡ tableAnswer (now (memory .entry)) (stateIn (now (state .entry))) (now (counts .entry)) count (now (words .entry)) .counts ⌝ }
 {
-    let r = plain_from(state, memory, count, words, counts);
-    let s = r.state;
-    c_chip::store(r.number, s, state);
+    let s = c_state_read::state_in(state);
+    let r = plain_on(s, memory, count, words, counts);
+    let after = r.state;
+    c_chip::store(r.number, after, state);
     pack_run(r)
 }

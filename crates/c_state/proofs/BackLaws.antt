@@ -1,6 +1,6 @@
--- Bytes that are a state are written back as they were. Assumes nothing.
+-- Bytes that are told by number and flags are those that are written back as they were. Assumes nothing.
 use mathlib.Core.Path.{_≡_, refl, sym, ap, _∙_}
-use mathlib.Core.Bool.{true}
+use mathlib.Core.Bool.{Bool, true, false}
 use mathlib.Core.List.{List, [], _∷_, _++_, append-nil}
 use Prim.Native.Nat.{ℕ, zero, suc, _+_, _*_, _≤_}
 use native.Mathlib.Nat.{add-zero, add-assoc}
@@ -10,8 +10,18 @@ use lib.Seq.{drop-cons}
 use lib.Dec.{leb, eqb}
 use borrow.Author.Tests.{leb-true, eqb-true}
 use Rattle.arith.proofs.PickLaws.{both-left, both-right}
+use Rattle.text.specs.Key.{exactly}
+use Rattle.text.proofs.KeyLaws.{exactly-is}
 use Rattle.c_bytes.specs.Fields.{flagByte, low, high, byteOf, flagOf}
-use Rattle.c_state.specs.Bytes.{squareBytes, triangleBytes, noiseBytes, dmcBytes, frameBytes, stateBytes, stateSize, squareOf, triangleOf, noiseOf, dmcOf, frameOf, stateOf, flagPlaces, flagsRight, isState}
+use Rattle.c_state.specs.Bytes.{squareBytes, triangleBytes, noiseBytes, dmcBytes, frameBytes, stateBytes, stateSize, squareOf, triangleOf, noiseOf, dmcOf, frameOf, stateOf, isState}
+use Rattle.c_state.specs.Flags.{flagPlaces, flagsRight, told}
+use Rattle.c_state.proofs.CodeLaws.{exactly-same, state-told}
+
+-- two tests of which each says what the other says
+pub alike : (t u : Bool) → (t ≡ true → u ≡ true) → (u ≡ true → t ≡ true) → t ≡ u
+alike true u f g = sym (f refl)
+alike false true f g = g refl
+alike false false f g = refl
 
 -- n bytes, from k places after `at` on
 unfoldable gather : List ℕ → ℕ → ℕ → ℕ → List ℕ
@@ -94,10 +104,9 @@ module _ (b : List ℕ) (bytes : (i : ℕ) → byteOf b i ≤ 255) where
   unfolding frameBytes frameOf gather
   frame-kept at f = simp (low-kept, high-kept, add-assoc, add-zero, f .0, f .1 .0, f .1 .1 .0, f .1 .1 .1 .0)
 
-  -- what was read is written
-  pub read-written : isState b ≡ true → stateBytes (stateOf b) ≡ b
-  unfolding stateBytes stateOf isState
-  read-written e =
+  told-written : told b ≡ true → stateBytes (stateOf b) ≡ b
+  unfolding stateBytes stateOf told
+  told-written e =
       let size : length b ≡ stateSize = eqb-true (length b) stateSize (both-left (eqb (length b) stateSize) (flagsRight b flagPlaces) e) in
       let k₁ = split b (squarePlaces 0) (squarePlaces 21 ++ (trianglePlaces 42 ++ (noisePlaces 53 ++ (dmcPlaces 67 ++ framePlaces 85)))) (kept b flagPlaces (both-right (eqb (length b) stateSize) (flagsRight b flagPlaces) e)) in
       let k₂ = split b (squarePlaces 21) (trianglePlaces 42 ++ (noisePlaces 53 ++ (dmcPlaces 67 ++ framePlaces 85))) (k₁ .1) in
@@ -126,3 +135,11 @@ module _ (b : List ℕ) (bytes : (i : ℕ) → byteOf b i ≤ 255) where
       (gathered b 85 0 6 (omega arith)
       ∙ ap (λ (l : List ℕ). gather b 85 0 6 ++ l) (drop-of-length-le b {i = stateSize} (omega arith))
       ∙ append-nil (gather b 85 0 6))))))))
+
+  -- THE CODE TELLS THEM RIGHT
+  pub told-right : told b ≡ isState b
+  unfolding isState
+  told-right =
+      alike (told b) (exactly (stateBytes (stateOf b)) b)
+      (λ e. rw (told-written e) (exactly-same b))
+      (λ e. rw (exactly-is (stateBytes (stateOf b)) b e) (state-told (stateOf b)))

@@ -10,7 +10,7 @@ use lib.Dec.{leb}
 use borrow.Author.Tests.{le-leb, lt-leb}
 use Rattle.arith.specs.Pick.{both}
 use Rattle.c_bytes.specs.Fields.{byteOf}
-use Rattle.c_state.specs.Bytes.{flagPlaces, flagsRight}
+use Rattle.c_state.specs.Flags.{flagPlaces, flagsRight}
 
 -- the flags from place k on: that one, and those behind it
 flag-next : (b : List ℕ) (k : ℕ) → k < 33 → flagsRight b (drop k flagPlaces) ≡ both (leb (byteOf b (getD flagPlaces k 0)) 1) (flagsRight b (drop (k + 1) flagPlaces))

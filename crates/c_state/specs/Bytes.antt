@@ -1,11 +1,10 @@
 -- A state as 91 bytes: the 78 fields in the order in which document 01's "State, ranges and power-on" names them, square 1, square 2, triangle,
 -- noise, DMC, frame, and behind them the machine, 0 NTSC and 1 PAL. Period, timer, register, address, remaining and clock number take two bytes, low first, every other field one; a flag is 0 or 1.
 use Prim.Native.Nat.{ℕ, _+_}
-use mathlib.Core.Bool.{Bool, true}
+use mathlib.Core.Bool.{Bool}
 use mathlib.Core.List.{List, [], _∷_, _++_}
-use lib.ListN.{length}
-use lib.Dec.{leb, eqb}
-use Rattle.arith.specs.Pick.{both}
+use Rattle.arith.specs.Pick.{pick}
+use Rattle.text.specs.Key.{exactly}
 use Rattle.c_bytes.specs.Fields.{flagByte, low, high, byteOf, flagOf, pairOf}
 use Rattle.chip_square.specs.declared.Square.{Square}
 use Rattle.chip_triangle.specs.declared.Triangle.{Triangle}
@@ -242,22 +241,14 @@ stateOf b =
       pal = flagOf b 90;
     }
 
--- the places of the flags
-abbrev pub flagPlaces : List ℕ
-flagPlaces =
-    1 ∷ 2 ∷ 4 ∷ 5 ∷ 8 ∷ 14 ∷ 16 ∷ 20
-    ∷ 22 ∷ 23 ∷ 25 ∷ 26 ∷ 29 ∷ 35 ∷ 37 ∷ 41
-    ∷ 42 ∷ 45 ∷ 52
-    ∷ 53 ∷ 54 ∷ 56 ∷ 60 ∷ 61
-    ∷ 67 ∷ 68 ∷ 80 ∷ 83 ∷ 84
-    ∷ 85 ∷ 86 ∷ 89
-    ∷ 90 ∷ []
-
--- every flag is 0 or 1
-unfoldable pub flagsRight : List ℕ → List ℕ → Bool
-flagsRight b [] = true
-flagsRight b (i ∷ is) = both (leb (byteOf b i) 1) (flagsRight b is)
-
--- these bytes are a state's: as many as a state is, and every flag 0 or 1
+-- these bytes are a state's: read and written back, they are as they were
 unfoldable pub isState : List ℕ → Bool
-isState b = both (eqb (length b) stateSize) (flagsRight b flagPlaces)
+isState b = exactly (stateBytes (stateOf b)) b
+
+-- a state out of range: its first square's duty is 255
+unfoldable pub outside : State
+outside = stateOf (255 ∷ [])
+
+-- THE STATE THAT BYTES STAND FOR; bytes that are no state's stand for one out of range
+unfoldable pub stateIn : List ℕ → State
+stateIn b = pick (isState b) (stateOf b) outside

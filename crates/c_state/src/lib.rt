@@ -2,7 +2,8 @@
 // whether bytes are a state's; `c_state_read` reads a state from them and `c_state_write` writes it.
 ghost use mathlib.Core.Path.{_≡_};
 ghost use lib.ListN.{getD};
-ghost use Rattle.c_state.specs.Bytes.{stateSize, flagPlaces, flagsRight, isState};
+ghost use Rattle.c_state.specs.Bytes.{stateSize, isState};
+ghost use Rattle.c_state.specs.Flags.{flagPlaces, flagsRight};
 use c_bytes::field;
 
 // How many bytes a state is.
@@ -73,7 +74,7 @@ fn flags_right(b: &[u8]) -> bool
     true
 }
 
-// Whether bytes are a state's: as many as a state is, and every flag 0 or 1.
+// Whether bytes are a state's: read and written back they are as they were. So are as many as a state is with every flag 0 or 1, and no others.
 pub fn is_state(b: &[u8]) -> bool
     ensures { λ r. ⌜ r ≡ isState (now (b .entry)) ⌝ }
 {

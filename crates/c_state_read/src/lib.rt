@@ -1,13 +1,13 @@
 // A state read from its bytes (crate `c_state`).
 ghost use mathlib.Core.Path.{_≡_};
-ghost use Rattle.c_state.specs.Bytes.{stateOf};
+ghost use Rattle.c_state.specs.Bytes.{stateOf, stateIn};
 
 mod reader;
 
 use c_bytes::field;
 use chip::State;
 
-// The state that bytes stand for.
+// The state read from bytes, whatever they are.
 pub fn decode(b: &[u8]) -> State
     ensures { λ r. ⌜ r ≡ stateOf (now (b .entry)) ⌝ }
 {
@@ -27,4 +27,14 @@ pub fn decode(b: &[u8]) -> State
         frame: frame,
         pal: pal,
     }
+}
+
+// The state that bytes stand for; bytes that are no state's stand for one out of range.
+pub fn state_in(b: &[u8]) -> State
+    ensures { λ r. ⌜ r ≡ stateIn (now (b .entry)) ⌝ }
+{
+    if c_state::is_state(b) {
+        return decode(b);
+    }
+    decode(b"\xff")
 }

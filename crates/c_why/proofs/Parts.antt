@@ -1,40 +1,59 @@
 -- Number and value can be had again from the one number, and tell every answer from every other. Assumes nothing.
-use Prim.Native.Nat.{ℕ, _/_, _%_, _^_, _≤_}
+use Prim.Native.Nat.{ℕ, _+_, _-_, _/_, _%_, _^_, _≤_}
 use mathlib.Core.Path.{_≡_, refl}
 use mathlib.Core.Bool.{false}
-use mathlib.Core.List.{List}
 use native.Mathlib.Omega.{arith}
-use lib.Dec.{eqb}
+use lib.Dec.{leb, eqb}
+use borrow.Author.Tests.{le-leb}
+use Rattle.arith.specs.Pick.{pick, either}
 use Rattle.arith.proofs.PickLaws.{pick-both}
 use Rattle.chip.specs.Range.{inRange}
 use Rattle.chip.specs.declared.State.{State}
-use Rattle.c_state.specs.Bytes.{stateOf, isState}
 use Rattle.chip_why.specs.Why.{whyAnswer}
-use Rattle.chip_why.specs.Value.{reasonNumber, valueOf}
+use Rattle.chip_why.specs.Value.{reasonNumber, whyNumber}
 use Rattle.chip_why.specs.declared.Reason.{Reason}
-use Rattle.chip_why.proofs.Numbers.{refusals, nought, never-nought, reasonOf, told-apart}
-use Rattle.c_why.specs.Packed.{whyFrom, whyPacked}
+use Rattle.chip_why.specs.declared.Reason.the-variants.{Refused, NotEnabled, LengthZero, PeriodLow, TargetHigh, StepLow, VolumeZero, Sounds}
+use Rattle.chip_why.proofs.Numbers.{refusals, nought, never-nought}
+use Rattle.c_why.specs.Packed.{valueOf, whyPacked}
 
-answer-most : (channel : ℕ) (s : State) → reasonNumber (whyAnswer channel s) ≤ 24
-answer-most channel s =
+number-most : (channel : ℕ) (s : State) → reasonNumber (whyAnswer channel s) ≤ 24
+unfolding whyNumber
+number-most channel s =
     let P : ℕ → Type 0 = λ k. k ≤ 24 in
     rw (refusals channel s)
-    (pick-both P (inRange s) (pick-both P (eqb channel 0) (omega arith) (pick-both P (eqb channel 1) (omega arith) (pick-both P (eqb channel 3) (omega arith) (omega arith)))) (omega arith))
-
-number-most : (channel : ℕ) (b : List ℕ) → reasonNumber (whyFrom channel b) ≤ 24
-unfolding whyFrom
-number-most channel b = pick-both (λ (r : Reason). reasonNumber r ≤ 24) (isState b) (answer-most channel (stateOf b)) (omega arith)
+    (pick-both P (inRange s) (pick-both P (either (eqb channel 0) (either (eqb channel 1) (eqb channel 3))) (omega arith) (omega arith)) (omega arith))
 
 -- THE PARTS OF AN ANSWER
-pub apart : (channel : ℕ) (b : List ℕ)
-    → (whyPacked channel b % 2 ^ 8 ≡ reasonNumber (whyFrom channel b)) × (whyPacked channel b / 2 ^ 8 ≡ valueOf (whyFrom channel b))
-unfolding whyPacked
-apart channel b = let h = number-most channel b in (omega arith, omega arith)
+pub apart : (channel : ℕ) (s : State)
+    → let r = whyAnswer channel s in
+    (whyPacked r % 2 ^ 8 ≡ reasonNumber r) × (whyPacked r / 2 ^ 8 ≡ valueOf r)
+apart channel s = let h = number-most channel s in (omega arith, omega arith)
 
-never : (channel : ℕ) (b : List ℕ) → nought (whyFrom channel b) ≡ false
-unfolding whyFrom
-never channel b = pick-both (λ (r : Reason). nought r ≡ false) (isState b) (never-nought channel (stateOf b)) refl
+-- an answer, from its number and its value
+abbrev reasonOf : ℕ → ℕ → Reason
+reasonOf number value =
+    pick (eqb number 0)
+    (pick (leb 16 value) (Sounds (value - 16))
+    (pick (eqb value 1) NotEnabled
+    (pick (eqb value 2) LengthZero
+    (pick (eqb value 3) PeriodLow
+    (pick (eqb value 4) TargetHigh (pick (eqb value 5) StepLow VolumeZero))))))
+    (Refused number)
+
+told-apart : (r : Reason) → nought r ≡ false → reasonOf (reasonNumber r) (valueOf r) ≡ r
+told-apart (Refused n) h = rw h
+told-apart NotEnabled h = refl
+told-apart LengthZero h = refl
+told-apart PeriodLow h = refl
+told-apart TargetHigh h = refl
+told-apart StepLow h = refl
+told-apart VolumeZero h = refl
+told-apart (Sounds n) h =
+    let e : 16 + n - 16 ≡ n = omega arith in
+    rw (le-leb 16 (16 + n) (omega arith), e)
 
 -- THE ANSWER CAN BE HAD AGAIN WHOLE
-pub told : (channel : ℕ) (b : List ℕ) → reasonOf (whyPacked channel b % 2 ^ 8) (whyPacked channel b / 2 ^ 8) ≡ whyFrom channel b
-told channel b = rw (apart channel b .0, apart channel b .1) (told-apart (whyFrom channel b) (never channel b))
+pub told : (channel : ℕ) (s : State)
+    → let r = whyAnswer channel s in
+    reasonOf (whyPacked r % 2 ^ 8) (whyPacked r / 2 ^ 8) ≡ r
+told channel s = rw (apart channel s .0, apart channel s .1) (told-apart (whyAnswer channel s) (never-nought channel s))

@@ -1,18 +1,21 @@
--- What C and Rust get of request 6: for any bytes, the answer about the state that they stand for, as one number.
-use Prim.Native.Nat.{ℕ}
-use mathlib.Core.List.{List}
-use Rattle.arith.specs.Pick.{pick}
-use Rattle.c_state.specs.Bytes.{stateOf, isState}
+-- What C and Rust get of request 6: an answer as one number.
+use Prim.Native.Nat.{ℕ, _+_}
 use Rattle.c_chip.specs.Boundary.{packed}
-use Rattle.chip_why.specs.Why.{whyAnswer}
-use Rattle.chip_why.specs.Value.{reasonNumber, valueOf}
+use Rattle.chip_why.specs.Value.{reasonNumber, reasonValue}
 use Rattle.chip_why.specs.declared.Reason.{Reason}
-use Rattle.chip_why.specs.declared.Reason.the-variants.{Refused}
+use Rattle.chip_why.specs.declared.Reason.the-variants.{Refused, NotEnabled, LengthZero, PeriodLow, TargetHigh, StepLow, VolumeZero, Sounds}
 
--- bytes that are no state's are a state out of range: 2; else 2, then 24
-unfoldable pub whyFrom : ℕ → List ℕ → Reason
-whyFrom channel b = pick (isState b) (whyAnswer channel (stateOf b)) (Refused 2)
+-- the value as C has it: of what sounds 16 + its number, which tells it from the reasons
+abbrev pub valueOf : Reason → ℕ
+valueOf (Refused n) = reasonValue (Refused n)
+valueOf NotEnabled = reasonValue NotEnabled
+valueOf LengthZero = reasonValue LengthZero
+valueOf PeriodLow = reasonValue PeriodLow
+valueOf TargetHigh = reasonValue TargetHigh
+valueOf StepLow = reasonValue StepLow
+valueOf VolumeZero = reasonValue VolumeZero
+valueOf (Sounds n) = 16 + reasonValue (Sounds n)
 
 -- "number + 256 x value", by the number and the value of each answer
-unfoldable pub whyPacked : ℕ → List ℕ → ℕ
-whyPacked channel b = packed (reasonNumber (whyFrom channel b)) (valueOf (whyFrom channel b))
+abbrev pub whyPacked : Reason → ℕ
+whyPacked r = packed (reasonNumber r) (valueOf r)

@@ -1,16 +1,14 @@
--- The numbers that an answer carries: refusals come exactly where they should, and number and value give the answer again. Assumes nothing.
-use Prim.Native.Nat.{ℕ, _+_, _-_}
-use mathlib.Core.Path.{_≡_, refl}
+-- The number and the value that an answer carries. Assumes nothing.
+use Prim.Native.Nat.{ℕ}
+use mathlib.Core.Path.{_≡_, refl, ap, _∙_}
 use mathlib.Core.Bool.{Bool, true, false}
-use native.Mathlib.Omega.{arith}
-use lib.Dec.{leb, eqb}
-use borrow.Author.Tests.{le-leb}
-use Rattle.arith.specs.Pick.{pick}
+use lib.Dec.{eqb}
+use Rattle.arith.specs.Pick.{pick, either}
 use Rattle.chip_square.specs.declared.Square.{Square}
 use Rattle.chip_noise.specs.declared.Noise.{Noise}
 use Rattle.chip.specs.Range.{inRange}
 use Rattle.chip.specs.declared.State.{State}
-use Rattle.chip_why.specs.Value.{reasonNumber, valueOf}
+use Rattle.chip_why.specs.Value.{reasonNumber, reasonValue, whyNumber, whyValue}
 use Rattle.chip_why.specs.Why.{firstReason, squareWhy, noiseWhy, channelWhy, whyAnswer}
 use Rattle.chip_why.specs.declared.Reason.{Reason}
 use Rattle.chip_why.specs.declared.Reason.the-variants.{Refused, NotEnabled, LengthZero, PeriodLow, TargetHigh, StepLow, VolumeZero, Sounds}
@@ -31,11 +29,30 @@ noise-done : (c : Noise) → reasonNumber (noiseWhy c) ≡ 0
 unfolding noiseWhy firstReason
 noise-done c = simp (number-pick, either-way)
 
--- WHICH CALLS ARE REFUSED: 2 a state out of range, then 24 "any other channel"
-pub refusals : (channel : ℕ) (s : State)
-    → reasonNumber (whyAnswer channel s) ≡ pick (inRange s) (pick (eqb channel 0) 0 (pick (eqb channel 1) 0 (pick (eqb channel 3) 0 24))) 2
-unfolding whyAnswer channelWhy
-refusals channel s = simp (number-pick, square-done, noise-done)
+channel-done : (a b c : Bool) (r s t : Reason) → reasonNumber r ≡ 0 → reasonNumber s ≡ 0 → reasonNumber t ≡ 0
+    → reasonNumber (pick a r (pick b s (pick c t (Refused 24)))) ≡ pick (either a (either b c)) 0 24
+channel-done true b c r s t e f g = e
+channel-done false true c r s t e f g = f
+channel-done false false true r s t e f g = g
+channel-done false false false r s t e f g = refl
+
+-- WHICH CALLS ARE REFUSED
+pub refusals : (channel : ℕ) (s : State) → reasonNumber (whyAnswer channel s) ≡ whyNumber channel s
+unfolding whyAnswer channelWhy whyNumber
+refusals channel s =
+    number-pick (inRange s) _ (Refused 2)
+    ∙ ap (λ (n : ℕ). pick (inRange s) n 2)
+    (channel-done (eqb channel 0) (eqb channel 1) (eqb channel 3) _ _ _
+    (square-done false (s .square1)) (square-done true (s .square2)) (noise-done (s .noise)))
+
+value-pick : (t : Bool) (a b : Reason) → reasonValue (pick t a b) ≡ pick t (reasonValue a) (reasonValue b)
+value-pick true a b = refl
+value-pick false a b = refl
+
+-- AND THE VALUES
+pub values : (channel : ℕ) (s : State) → reasonValue (whyAnswer channel s) ≡ whyValue channel s
+unfolding whyAnswer whyValue
+values channel s = value-pick (inRange s) (channelWhy channel s) (Refused 2)
 
 -- a refusal with number 0: never given
 abbrev pub nought : Reason → Bool
@@ -55,27 +72,3 @@ nought-pick false a b = refl
 pub never-nought : (channel : ℕ) (s : State) → nought (whyAnswer channel s) ≡ false
 unfolding whyAnswer channelWhy squareWhy noiseWhy firstReason
 never-nought channel s = simp (nought-pick, either-way)
-
--- an answer, from its number and its value
-abbrev pub reasonOf : ℕ → ℕ → Reason
-reasonOf number value =
-    pick (eqb number 0)
-    (pick (leb 16 value) (Sounds (value - 16))
-    (pick (eqb value 1) NotEnabled
-    (pick (eqb value 2) LengthZero
-    (pick (eqb value 3) PeriodLow
-    (pick (eqb value 4) TargetHigh (pick (eqb value 5) StepLow VolumeZero))))))
-    (Refused number)
-
--- NUMBER AND VALUE TELL EVERY ANSWER FROM EVERY OTHER
-pub told-apart : (r : Reason) → nought r ≡ false → reasonOf (reasonNumber r) (valueOf r) ≡ r
-told-apart (Refused n) h = rw h
-told-apart NotEnabled h = refl
-told-apart LengthZero h = refl
-told-apart PeriodLow h = refl
-told-apart TargetHigh h = refl
-told-apart StepLow h = refl
-told-apart VolumeZero h = refl
-told-apart (Sounds n) h =
-    let e : 16 + n - 16 ≡ n = omega arith in
-    rw (le-leb 16 (16 + n) (omega arith), e)

@@ -21,6 +21,7 @@ use Rattle.chip_square.proofs.RangeLaws.{SquareRanged}
 use Rattle.chip_noise.specs.Noise.{noiseAmount, noiseOutput}
 use Rattle.chip_noise.specs.declared.Noise.{Noise}
 use Rattle.chip_noise.proofs.RangeLaws.{NoiseRanged}
+use Rattle.chip_why.specs.Given.{ofSweep}
 use Rattle.chip_why.specs.Why.{firstReason, squareWhy, noiseWhy}
 use Rattle.chip_why.specs.declared.Reason.{Reason}
 use Rattle.chip_why.specs.declared.Reason.the-variants.{Refused, NotEnabled, LengthZero, PeriodLow, TargetHigh, StepLow, VolumeZero, Sounds}
@@ -46,17 +47,6 @@ hollow TargetHigh = false
 hollow StepLow = false
 hollow VolumeZero = false
 hollow (Sounds n) = eqb n 0
-
--- one of the two sweep reasons
-abbrev pub ofSweep : Reason → Bool
-ofSweep (Refused n) = false
-ofSweep NotEnabled = false
-ofSweep LengthZero = false
-ofSweep PeriodLow = true
-ofSweep TargetHigh = true
-ofSweep StepLow = false
-ofSweep VolumeZero = false
-ofSweep (Sounds n) = false
 
 -- an answer about a channel that gives n
 pub record Fair (r : Reason) (n : ℕ) : Type 0 where

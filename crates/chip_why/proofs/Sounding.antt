@@ -7,23 +7,20 @@ use lib.Dec.{eqb}
 use borrow.Author.Tests.{eqb-false}
 use Rattle.arith.specs.Pick.{pick}
 use Rattle.arith.proofs.PickLaws.{pick-true, pick-both}
-use Rattle.chip_triangle.specs.Triangle.{triangleOutput}
-use Rattle.chip_dmc.specs.Clock.{dmcOutput}
-use Rattle.chip_mixer.specs.Mixer.{mixed}
 use Rattle.chip_square.proofs.RangeLaws.{square-output-most}
 use Rattle.chip_noise.proofs.RangeLaws.{noise-output-most}
 use Rattle.chip.specs.Level.{stateLevel}
 use Rattle.chip.specs.Range.{inRange}
 use Rattle.chip.specs.declared.State.{State}
 use Rattle.chip.proofs.RangeLaws.{StateRanged, state-in}
-use Rattle.chip_why.specs.Given.{givenBy}
+use Rattle.chip_why.specs.Given.{givenBy, MixedFrom, SoundsWhere, SoundsOnly, ofSweep, NeverNoise}
 use Rattle.chip_why.specs.Why.{channelWhy, whyAnswer}
 use Rattle.chip_why.specs.declared.Reason.{Reason}
 use Rattle.chip_why.specs.declared.Reason.the-variants.{Refused, NotEnabled, LengthZero, PeriodLow, TargetHigh, StepLow, VolumeZero, Sounds}
-use Rattle.chip_why.proofs.Rows.{heard, hollow, Fair, ofSweep, square-fair, noise-fair, noise-no-sweep}
+use Rattle.chip_why.proofs.Rows.{heard, hollow, Fair, square-fair, noise-fair, noise-no-sweep}
 
 -- WHAT IT GIVES IS WHAT THE LEVEL IS MIXED FROM
-pub level-of-given : (s : State) → stateLevel s ≡ mixed (givenBy 0 s) (givenBy 1 s) (triangleOutput (s .triangle)) (givenBy 3 s) (dmcOutput (s .dmc))
+pub level-of-given : MixedFrom
 unfolding stateLevel givenBy
 level-of-given s = refl
 
@@ -61,7 +58,7 @@ unfolding whyAnswer
 answered channel s e = pick-true (inRange s) _ _ e
 
 -- A CHANNEL THAT GIVES A NUMBER IS TOLD THAT IT SOUNDS, with that number
-pub sounds : (channel : ℕ) (s : State) → inRange s ≡ true → (givenBy channel s ≡ 0 → ⊥) → whyAnswer channel s ≡ Sounds (givenBy channel s)
+pub sounds : SoundsWhere
 sounds channel s e f =
     answered channel s e ∙ loud (channelWhy channel s) (givenBy channel s) (channel-fair channel s (state-in s e) .says) f
 
@@ -70,13 +67,8 @@ ranged : (t : Bool) (r : Reason) (n : ℕ) → pick t r (Refused 2) ≡ Sounds n
 ranged true r n e = refl
 ranged false r n e = let z : _≡_ {A = ℕ} 0 1 = cc in absurd (omega arith)
 
-pub record Heard (channel : ℕ) (s : State) (n : ℕ) : Type 0 where
-  pub given : n ≡ givenBy channel s
-  pub least : 1 ≤ n
-  pub most : n ≤ 15
-
 -- ONLY SUCH A CHANNEL IS: the number is what it gives, from 1 to 15
-pub sounds-only : (channel : ℕ) (s : State) (n : ℕ) → whyAnswer channel s ≡ Sounds n → Heard channel s n
+pub sounds-only : SoundsOnly
 unfolding whyAnswer
 sounds-only channel s n e =
     let r : inRange s ≡ true = ranged (inRange s) (channelWhy channel s) n e in
@@ -90,6 +82,6 @@ sounds-only channel s n e =
     record { given = g; least = omega (arith, p); most = omega arith }
 
 -- "The two sweep reasons are for squares only."
-pub noise-never : (s : State) → ofSweep (whyAnswer 3 s) ≡ false
+pub noise-never : NeverNoise
 unfolding whyAnswer channelWhy
 noise-never s = pick-both (λ (r : Reason). ofSweep r ≡ false) (inRange s) (noise-no-sweep (s .noise)) refl

@@ -1,7 +1,7 @@
 // Why a channel is silent: the first true reason, or that it sounds, for any state and any channel number.
 ghost use mathlib.Core.Path.{_≡_};
 ghost use Rattle.chip_why.specs.Why.{firstReason, squareWhy, noiseWhy, channelWhy, whyAnswer};
-ghost use Rattle.chip_why.specs.Value.{reasonNumber, valueOf};
+ghost use Rattle.chip_why.specs.Value.{reasonNumber, reasonValue, whyNumber, whyValue};
 use chip::State;
 use chip_noise::Noise;
 use chip_square::Square;
@@ -94,6 +94,8 @@ fn channel_why(s: State, channel: u64) -> Reason
 // Why a channel is silent: 0 is square 1, 1 square 2, 3 the noise. Refused: 2, 24.
 pub fn why(s: State, channel: u64) -> Reason
     ensures { λ r. ⌜ r ≡ whyAnswer channel s ⌝ }
+    ensures { λ r. ⌜ reasonNumber r ≡ whyNumber channel s ⌝ }
+    ensures { λ r. ⌜ reasonValue r ≡ whyValue channel s ⌝ }
 {
     if s.in_range() {
         return channel_why(s, channel);
@@ -117,9 +119,9 @@ pub fn number_of(r: Reason) -> u8
     }
 }
 
-// The value that an answer carries beside its number.
-pub fn value_of(r: Reason) -> u16
-    ensures { λ n. ⌜ n ≡ valueOf r ⌝ }
+// The value that an answer carries beside its number: of a reason its place in the order, of what sounds its number.
+pub fn value_of(r: Reason) -> u8
+    ensures { λ n. ⌜ n ≡ reasonValue r ⌝ }
 {
     match r {
         Reason::Refused(_) => 0,
@@ -129,6 +131,6 @@ pub fn value_of(r: Reason) -> u16
         Reason::TargetHigh => 4,
         Reason::StepLow => 5,
         Reason::VolumeZero => 6,
-        Reason::Sounds(n) => 16 + n as u16,
+        Reason::Sounds(n) => n,
     }
 }

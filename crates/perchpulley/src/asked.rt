@@ -1,5 +1,7 @@
 // What C and Rust ask without playing: why a channel is silent, and the sheet of a sample.
 ghost use mathlib.Core.Path.{_≡_};
+ghost use Rattle.chip_why.specs.Why.{whyAnswer};
+ghost use Rattle.c_state.specs.Bytes.{stateIn};
 ghost use Rattle.c_why.specs.Packed.{whyPacked};
 ghost use Rattle.chip_sheet.specs.Sheet.{sheetBuffer};
 ghost use Rattle.c_sheet.specs.Packed.{sheetPacked};
@@ -8,7 +10,7 @@ ghost use Rattle.c_sheet.specs.Packed.{sheetPacked};
 // channel gives. Refused: 2, 24.
 #[no_mangle]
 pub extern "C" fn perch_why(state: &[u8], channel: u64) -> u64
-    ensures { λ r. ⌜ r ≡ whyPacked channel (now (state .entry)) ⌝ }
+    ensures { λ r. ⌜ r ≡ whyPacked (whyAnswer channel (stateIn (now (state .entry)))) ⌝ }
 {
     c_why::why(state, channel)
 }

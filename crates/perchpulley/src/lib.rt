@@ -2,8 +2,9 @@
 // pointer and a length, and an answer is one 64-bit number: its number, and above its low byte its value. Bytes that are no state in range are
 // refused, and stay.
 ghost use mathlib.Core.Path.{_≡_};
-ghost use Rattle.c_state.specs.Bytes.{stateSize};
-ghost use Rattle.c_chip.specs.Boundary.{powerPacked, powerBytes, inRangePacked, accessOf, accessFrom, accessPacked, accessBytes, linePacked, levelPacked, clockPacked, clockBytes};
+ghost use Rattle.chip_api.specs.Answer.{accessAnswer, lineAnswer, levelAnswer, clockAnswer};
+ghost use Rattle.c_state.specs.Bytes.{stateSize, stateIn};
+ghost use Rattle.c_chip.specs.Boundary.{powerPacked, powerBytes, inRangePacked, accessOf, accessPacked, accessBytes, linePacked, levelPacked, clockPacked, clockBytes};
 ghost use Rattle.perchpulley.specs.Version.{version};
 
 pub mod asked;
@@ -54,8 +55,8 @@ pub extern "C" fn perch_in_range(state: &[u8]) -> u64
 // 2^8 x byte read (0 for a write) + 2^16 x level after + 2^32 x whether it differs from before. Refused: 2, 4.
 #[no_mangle]
 pub extern "C" fn perch_access(state: &mut [u8], read: u8, register: u16, value: u8) -> u64
-    ensures { λ r. ⌜ r ≡ accessPacked (accessFrom (accessOf read register value) (now (state .entry))) ⌝ }
-    ensures { λ r. ⌜ now (state .exit) ≡ accessBytes (accessFrom (accessOf read register value) (now (state .entry))) (now (state .entry)) ⌝ }
+    ensures { λ r. ⌜ r ≡ accessPacked (accessAnswer (accessOf read register value) (stateIn (now (state .entry)))) ⌝ }
+    ensures { λ r. ⌜ now (state .exit) ≡ accessBytes (accessAnswer (accessOf read register value) (stateIn (now (state .entry)))) (now (state .entry)) ⌝ }
 {
     c_chip::access(state, read, register, value)
 }
@@ -63,7 +64,7 @@ pub extern "C" fn perch_access(state: &mut [u8], read: u8, register: u16, value:
 // Value 1 where the interrupt line is asserted. Refused: 2.
 #[no_mangle]
 pub extern "C" fn perch_interrupt_line(state: &[u8]) -> u64
-    ensures { λ r. ⌜ r ≡ linePacked (now (state .entry)) ⌝ }
+    ensures { λ r. ⌜ r ≡ linePacked (lineAnswer (stateIn (now (state .entry)))) ⌝ }
 {
     c_chip::interrupt_line(state)
 }
@@ -71,7 +72,7 @@ pub extern "C" fn perch_interrupt_line(state: &[u8]) -> u64
 // The mixed level. Refused: 2.
 #[no_mangle]
 pub extern "C" fn perch_level(state: &[u8]) -> u64
-    ensures { λ r. ⌜ r ≡ levelPacked (now (state .entry)) ⌝ }
+    ensures { λ r. ⌜ r ≡ levelPacked (levelAnswer (stateIn (now (state .entry)))) ⌝ }
 {
     c_chip::level(state)
 }
@@ -79,8 +80,8 @@ pub extern "C" fn perch_level(state: &[u8]) -> u64
 // Works one clock. Refused: 1, 2.
 #[no_mangle]
 pub extern "C" fn perch_clock(state: &mut [u8], memory: &[u8]) -> u64
-    ensures { λ r. ⌜ r ≡ clockPacked (now (memory .entry)) (now (state .entry)) ⌝ }
-    ensures { λ r. ⌜ now (state .exit) ≡ clockBytes (now (memory .entry)) (now (state .entry)) ⌝ }
+    ensures { λ r. ⌜ r ≡ clockPacked (clockAnswer (now (memory .entry)) (stateIn (now (state .entry)))) ⌝ }
+    ensures { λ r. ⌜ now (state .exit) ≡ clockBytes (clockAnswer (now (memory .entry)) (stateIn (now (state .entry)))) (now (state .entry)) ⌝ }
 {
     c_chip::clock(state, memory)
 }

@@ -1,6 +1,7 @@
 // The runs that C and Rust call.
 ghost use mathlib.Core.Path.{_≡_};
-ghost use Rattle.c_run.specs.Runs.{runPacked, runBytes, wordsFrom, countsFrom};
+ghost use Rattle.c_state.specs.Bytes.{stateIn};
+ghost use Rattle.c_run.specs.Runs.{ranPacked, tableAnswer, tableLent, runBytes};
 
 // Works `count` clocks, leaping where nothing changes, writes a record of two words for each clock whose level differs from that before it, and adds
 // one to the count at the DMC level after each clock done. Refused: 1, 2, 3, 13.
@@ -12,10 +13,10 @@ pub extern "C" fn perch_run(
     words: &mut [u32],
     counts: &mut [u32],
 ) -> u64
-    ensures { λ r. ⌜ r ≡ runPacked (now (memory .entry)) (now (state .entry)) count (now (words .entry)) (now (counts .entry)) ⌝ }
-    ensures { λ r. ⌜ now (state .exit) ≡ runBytes (now (memory .entry)) (now (state .entry)) count (now (words .entry)) (now (counts .entry)) ⌝ }
-    ensures { λ r. ⌜ now (words .exit) ≡ wordsFrom (now (memory .entry)) (now (state .entry)) count (now (words .entry)) (now (counts .entry)) ⌝ }
-    ensures { λ r. ⌜ now (counts .exit) ≡ countsFrom (now (memory .entry)) (now (state .entry)) count (now (words .entry)) (now (counts .entry)) ⌝ }
+    ensures { λ r. ⌜ r ≡ ranPacked (tableAnswer (now (memory .entry)) (stateIn (now (state .entry))) (now (counts .entry)) count (now (words .entry)) .ran) ⌝ }
+    ensures { λ r. ⌜ now (state .exit) ≡ runBytes (tableAnswer (now (memory .entry)) (stateIn (now (state .entry))) (now (counts .entry)) count (now (words .entry)) .ran) (now (state .entry)) ⌝ }
+    ensures { λ r. ⌜ now (words .exit) ≡ tableLent (now (memory .entry)) (stateIn (now (state .entry))) (now (counts .entry)) count (now (words .entry)) ⌝ }
+    ensures { λ r. ⌜ now (counts .exit) ≡ tableAnswer (now (memory .entry)) (stateIn (now (state .entry))) (now (counts .entry)) count (now (words .entry)) .counts ⌝ }
 {
     c_run::run(state, memory, count, words, counts)
 }
@@ -29,10 +30,10 @@ pub extern "C" fn perch_run_plain(
     words: &mut [u32],
     counts: &mut [u32],
 ) -> u64
-    ensures { λ r. ⌜ r ≡ runPacked (now (memory .entry)) (now (state .entry)) count (now (words .entry)) (now (counts .entry)) ⌝ }
-    ensures { λ r. ⌜ now (state .exit) ≡ runBytes (now (memory .entry)) (now (state .entry)) count (now (words .entry)) (now (counts .entry)) ⌝ }
-    ensures { λ r. ⌜ now (words .exit) ≡ wordsFrom (now (memory .entry)) (now (state .entry)) count (now (words .entry)) (now (counts .entry)) ⌝ }
-    ensures { λ r. ⌜ now (counts .exit) ≡ countsFrom (now (memory .entry)) (now (state .entry)) count (now (words .entry)) (now (counts .entry)) ⌝ }
+    ensures { λ r. ⌜ r ≡ ranPacked (tableAnswer (now (memory .entry)) (stateIn (now (state .entry))) (now (counts .entry)) count (now (words .entry)) .ran) ⌝ }
+    ensures { λ r. ⌜ now (state .exit) ≡ runBytes (tableAnswer (now (memory .entry)) (stateIn (now (state .entry))) (now (counts .entry)) count (now (words .entry)) .ran) (now (state .entry)) ⌝ }
+    ensures { λ r. ⌜ now (words .exit) ≡ tableLent (now (memory .entry)) (stateIn (now (state .entry))) (now (counts .entry)) count (now (words .entry)) ⌝ }
+    ensures { λ r. ⌜ now (counts .exit) ≡ tableAnswer (now (memory .entry)) (stateIn (now (state .entry))) (now (counts .entry)) count (now (words .entry)) .counts ⌝ }
 {
     c_run::run_plain(state, memory, count, words, counts)
 }

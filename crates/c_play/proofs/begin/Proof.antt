@@ -11,7 +11,7 @@ returns : tie.Need-returns
 returns c =
     let start = c .before .before .before .before .before .before .args in
     let n = not-begun (start .log .now) (start .memory .now) (start .player .now) (c .before .before .if1 .taken) in
-    rw (c .pack .ensures, c .before .no-state .ensures) n
+    rw (c .pack .ensures, c .before .pick-u8 .ensures) n
 
 returns-2 : tie.Need-returns-2
 returns-2 c =

@@ -1,4 +1,4 @@
-use mathlib.Core.Path.{refl, sym}
+use mathlib.Core.Path.{sym}
 use native.Mathlib.Omega.{arith}
 use borrow.Author.Needs.{needs}
 use lib.Seq.{length-take-le}
@@ -11,33 +11,17 @@ slice-aggregate-play-on c = sym (length-take-le _ _ (omega (arith, c .before .le
 
 returns : tie.Need-returns
 returns c =
-    let start = c .before .before .before .before .before .before .before .before .before .before .before .before .args in
+    let start = c .before .before .before .before .before .before .before .before .before .before .args in
     let size = c .before .before .before .before .least-usize in
     let went = c .before .before .play-on in
-    let is = c .before .before .before .before .before .before .is-player .ensures in
-    let read = c .before .before .before .before .before .before .before .decode .ensures in
     let l = length-take-le (size .result) (start .text .now) (omega (arith, size .ensures)) in
     let fits = played-fits _ _ _ _ _ _ (went .ensures) in (
-      rw (← is, c .before .before .before .before .before .if1 .taken, ← read)
+      rw (← c .before .before .before .before .before .player-in .ensures)
           (played-whole (start .log .now) (start .memory .now) _ (start .text .now) _ (size .result) (went .result) (omega (arith, size .ensures)) (λ h. omega (arith, size .ensures)) (went .kept .1 .1 .1 .0) (went .ensures)),
       omega (arith, size .ensures),
     )
 
-returns-2 : tie.Need-returns-2
-returns-2 c =
-    (rw (← c .before .before .is-player .ensures, c .before .if1 .left, c .no-state .ensures, c .before .before .before .decode .ensures) (record { answer = refl; stays = refl }), omega arith)
-
 pub play-from-spec : {M : Type 1} → statement M
 play-from-spec =
     tie.close
-    (tie.spec
-    (λ c κs. tt)
-    (λ c κs. tt)
-    (λ c κs. tt)
-    (λ c. search needs)
-    slice-aggregate-play-on
-    (λ c κs. tt)
-    (λ c. search needs)
-    returns
-    (λ c κs. tt)
-    returns-2)
+    (tie.spec (λ c κs. tt) (λ c κs. tt) (λ c. search needs) slice-aggregate-play-on (λ c κs. tt) (λ c. search needs) returns)

@@ -1,7 +1,7 @@
 use mathlib.Core.Path.{refl}
 use borrow.Author.Needs.{needs}
 use Rattle.arith.proofs.TableLaws.{past-end}
-use Rattle.c_state.specs.Bytes.{flagPlaces}
+use Rattle.c_state.specs.Flags.{flagPlaces}
 use Rattle.c_state.proofs.flag_place.Statement.{statement}
 use Rattle.c_state.proofs.flag_place.Tie as tie
 

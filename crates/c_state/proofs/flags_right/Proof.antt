@@ -4,7 +4,7 @@ use Prim.Native.Nat.{ℕ, _≤_, _-_}
 use native.Mathlib.Omega.{arith}
 use native.Mathlib.Nat.{le-antisymm}
 use lib.ListN.{drop}
-use Rattle.c_state.specs.Bytes.{flagPlaces, flagsRight}
+use Rattle.c_state.specs.Flags.{flagPlaces, flagsRight}
 use Rattle.c_state.proofs.FlagLaws.{flag-wrong, flag-right}
 use Rattle.c_state.proofs.flags_right.Statement.{statement}
 use Rattle.c_state.proofs.flags_right.Tie as tie

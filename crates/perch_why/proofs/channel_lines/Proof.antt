@@ -11,7 +11,7 @@ returns c =
     let s1 = c .before .before .before .before .before .before .before in
     let s0 = s1 .before .before .before .before .before in
     let y = s0 .before .before .before in
-    rw (← y .before .before .why .ensures, ← y .before .why2 .ensures, ← y .why3 .ensures)
+    rw (← y .before .before .why .ensures .0, ← y .before .why2 .ensures .0, ← y .why3 .ensures .0)
     (puts-then _ _ (s0 .channel-line .ensures) (puts-then _ _ (s1 .channel-line2 .ensures) (c .before .before .channel-line3 .ensures)))
 
 pub channel-lines-spec : {M : Type 1} → statement M

@@ -1,6 +1,6 @@
 use borrow.Author.Needs.{needs}
-use Rattle.chip_why.proofs.value_of.Statement.{statement}
-use Rattle.chip_why.proofs.value_of.Tie as tie
+use Rattle.c_why.proofs.value_of.Statement.{statement}
+use Rattle.c_why.proofs.value_of.Tie as tie
 
 returns-8 : tie.Need-returns-8
 returns-8 c = rw (c .before .r .given .1)
