@@ -13,6 +13,23 @@
  * lent to it as it was. Where several refusals hold the lowest is given; in a log 5 comes before 4, and of 4, 7, 8 and
  * 14 to 19 the first line at fault wins, before 9 to 12.
  *
+ *   answer of            bits 8 and up
+ *   access               8..15 PERCH_BYTE, 16..31 PERCH_LEVEL_AFTER, 32 PERCH_DIFFERS
+ *   next_interrupt       8 PERCH_RISES, 32..63 PERCH_RISE_CLOCKS
+ *   run, run_plain       8..31 PERCH_CLOCKS, 32..63 PERCH_RECORDS
+ *   meter, meter_records 8..15 PERCH_CASE, 16..31 PERCH_LOWEST, 32..47 PERCH_HIGHEST
+ *   check                8..31 PERCH_PLACE, 32..62 PERCH_LOG_CLOCKS, 63 PERCH_LOG_MACHINE
+ *   turns, items, fold   8..31 PERCH_PLACE, 32..63 PERCH_LOG_VALUE
+ *   item, cursor_next    8..31 PERCH_PLACE, 32..55 PERCH_HELD, 56..63 PERCH_KIND
+ *   body                 8..31 PERCH_PLACE, 32..47 PERCH_START, 48..63 PERCH_LENGTH
+ *   salvage              8..31 PERCH_PLACE, 32..47 PERCH_REPAIRED_LENGTH, 48..63 PERCH_REPAIRED_ENTRIES
+ *   begin                8..31 PERCH_PLACE
+ *   play_on              8 PERCH_OVER, 32..63 PERCH_WRITTEN; refused 8..31 PERCH_PLACE
+ *   refusal_text         32..63 PERCH_WRITTEN
+ *   any other            8..63 PERCH_VALUE
+ *
+ * A call takes 6.5 KB of stack at most, measured, and no heap.
+ *
  * A state is PERCH_STATE_SIZE bytes: the fields in the order in which document 01, "State, ranges and power-on", names
  * them, then the machine. Period, timer, shift register, address, remaining and clock number take two bytes, low first,
  * every other field one; a flag is 0 or 1, the machine PERCH_NTSC or PERCH_PAL. Bytes of another length, or with a flag

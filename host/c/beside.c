@@ -3,7 +3,7 @@
  *
  *   beside [-t TRIES] [-l LOG] [-n NSF] BUILD.so BUILD.so ..
  *
- * With -l a log is played by the runs of its waits, and as text; with -n libgme, where it is installed, plays the same tune
+ * With -l a log that passes is played by the runs of its waits, and as text; with -n libgme, where it is installed, plays the same tune
  * beside it.
  * host/beside makes the builds from archives. */
 #define _GNU_SOURCE
@@ -16,7 +16,7 @@
 
 #include "perchpulley.h"
 
-enum { MOST_BUILDS = 8, MOST_ACTS = 4000000, WORDS = 32768, TEXT = 65536 };
+enum { MOST_BUILDS = 8, MOST_ACTS = 1000000, WORDS = 32768, TEXT = 65536 };
 
 struct build {
     const char *name;
@@ -26,6 +26,11 @@ struct build {
     uint64_t (*begin)(uint8_t *, size_t, const uint8_t *, size_t, const uint8_t *, size_t);
     uint64_t (*play_on)(uint8_t *, size_t, const uint8_t *, size_t, const uint8_t *, size_t, uint8_t *, size_t);
     size_t size, player_size;
+    /* NULL in builds from before the cursor */
+    uint64_t (*check)(const uint8_t *, size_t);
+    uint64_t (*cursor_start)(uint8_t *, size_t);
+    uint64_t (*cursor_next)(uint8_t *, size_t, const uint8_t *, size_t);
+    size_t (*cursor_size)(void);
 };
 
 struct act {
@@ -85,6 +90,10 @@ static struct build loaded(const char *name)
     *(void **)&b.play_on = found(build, "perch_play_on");
     b.size = ((size_t(*)(void))found(build, "perch_state_size"))();
     b.player_size = ((size_t(*)(void))found(build, "perch_player_size"))();
+    *(void **)&b.check = dlsym(build, "perch_check");
+    *(void **)&b.cursor_start = dlsym(build, "perch_cursor_start");
+    *(void **)&b.cursor_next = dlsym(build, "perch_cursor_next");
+    *(void **)&b.cursor_size = dlsym(build, "perch_cursor_size");
     return b;
 }
 
@@ -94,6 +103,10 @@ static void wait(const struct build *b, uint8_t *state, uint64_t left, struct pl
         uint64_t answer = b->run(state, b->size, memory, sizeof memory, left, words, WORDS, counts, PERCH_COUNTS);
         uint64_t done = PERCH_CLOCKS(answer), records = PERCH_RECORDS(answer), k;
 
+        if (PERCH_NUMBER(answer) != PERCH_DONE) {
+            fprintf(stderr, "%s: a run is refused with %u\n", b->name, PERCH_NUMBER(answer));
+            exit(2);
+        }
         for (k = 0; k < records; k++)
             p->sum = p->sum * 31 + ((p->clocks + words[2 * k]) << 16) + words[2 * k + 1];
         p->clocks += done;
@@ -123,47 +136,6 @@ static struct played play(const struct build *b, const struct scene *s)
     return p;
 }
 
-/* The acts of a log that passes, its loops unrolled. */
-static struct scene log_scene(const char *name)
-{
-    struct scene s = {"the log", NULL, 0, PERCH_NTSC};
-    struct act *acts = malloc(sizeof *acts * MOST_ACTS);
-    size_t starts[8], n = 0, depth = 0, length, i;
-    unsigned long turns[8], value, reg;
-    char line[64];
-    FILE *file = fopen(name, "r");
-
-    if (!file || !acts) {
-        perror(name);
-        exit(2);
-    }
-    while (fgets(line, sizeof line, file) && n < MOST_ACTS) {
-        if (sscanf(line, "wait=%lu", &value) == 1) {
-            acts[n].kind = PERCH_WAIT;
-            acts[n++].held = (uint32_t)value;
-        } else if (sscanf(line, "write=%lx:%lx", &reg, &value) == 2) {
-            acts[n].kind = PERCH_WRITE;
-            acts[n++].held = (uint32_t)(reg << 8 | value);
-        } else if (!strncmp(line, "read=", 5)) {
-            acts[n].kind = PERCH_READ;
-            acts[n++].held = 0;
-        } else if (sscanf(line, "loop=%lu", &value) == 1 && depth < 8) {
-            starts[depth] = n;
-            turns[depth++] = value;
-        } else if (!strncmp(line, "done=", 5) && depth > 0) {
-            depth--;
-            length = n - starts[depth];
-            for (i = 1; i < turns[depth] && n + length <= MOST_ACTS; i++, n += length)
-                memcpy(acts + n, acts + starts[depth], length * sizeof *acts);
-        } else if (!strcmp(line, "machine=pal\n"))
-            s.machine = PERCH_PAL;
-    }
-    fclose(file);
-    s.acts = acts;
-    s.count = n;
-    return s;
-}
-
 /* A log's bytes. */
 struct bytes {
     uint8_t *bytes;
@@ -180,8 +152,45 @@ static struct bytes read_log(const char *name)
         exit(2);
     }
     log.size = fread(log.bytes, 1, TEXT, file);
+    if (ferror(file)) {
+        perror(name);
+        exit(2);
+    }
     fclose(file);
     return log;
+}
+
+/* The acts of a log, its loops unrolled, by the last build that has a cursor; the program ends where the log doesn't pass there. */
+static struct scene log_scene(const struct build *builds, int n, const char *name, const struct bytes *log)
+{
+    struct scene s = {"the log", NULL, 0, PERCH_NTSC};
+    struct act *acts = malloc(sizeof *acts * MOST_ACTS);
+    uint8_t cursor[256];
+    uint64_t answer;
+
+    while (n > 0 && !(builds[n - 1].check && builds[n - 1].cursor_start && builds[n - 1].cursor_next && builds[n - 1].cursor_size))
+        n--;
+    if (n == 0 || !acts) {
+        fprintf(stderr, n == 0 ? "no build has a cursor to go through the log with\n" : "no memory for the log\n");
+        exit(2);
+    }
+    builds += n - 1;
+    answer = builds->check(log->bytes, log->size);
+    if (PERCH_NUMBER(answer) != PERCH_DONE) {
+        fprintf(stderr, "%s: refused=%u:%u\n", name, PERCH_NUMBER(answer), (unsigned)PERCH_PLACE(answer));
+        exit(2);
+    }
+    s.machine = (uint8_t)PERCH_LOG_MACHINE(answer);
+    builds->cursor_start(cursor, builds->cursor_size());
+    while (s.count < MOST_ACTS) {
+        answer = builds->cursor_next(cursor, builds->cursor_size(), log->bytes, log->size);
+        if (PERCH_NUMBER(answer) != PERCH_DONE || PERCH_KIND(answer) == PERCH_END)
+            break;
+        acts[s.count].kind = (int)PERCH_KIND(answer);
+        acts[s.count++].held = PERCH_HELD(answer);
+    }
+    s.acts = acts;
+    return s;
 }
 
 /* A log's text, piece by piece into one buffer: its bytes, and their sum where it is asked for. */
@@ -326,16 +335,14 @@ int main(int argc, char **argv)
         {"all channels, audible", audible, COUNT(audible), PERCH_NTSC},
         {"all channels, shortest periods", shortest, COUNT(shortest), PERCH_NTSC}};
     struct bytes log = {NULL, 0};
-    const char *nsf = NULL;
+    const char *nsf = NULL, *name = NULL;
     int n = 0, count = 5, tries = 9, wrong = 0, i;
 
     for (i = 1; i < argc; i++) {
         if (!strcmp(argv[i], "-t") && i + 1 < argc)
             tries = atoi(argv[++i]);
-        else if (!strcmp(argv[i], "-l") && i + 1 < argc && !log.bytes) {
-            log = read_log(argv[++i]);
-            scenes[count++] = log_scene(argv[i]);
-        }
+        else if (!strcmp(argv[i], "-l") && i + 1 < argc)
+            name = argv[++i];
         else if (!strcmp(argv[i], "-n") && i + 1 < argc)
             nsf = argv[++i];
         else if (n < MOST_BUILDS)
@@ -347,6 +354,10 @@ int main(int argc, char **argv)
     }
     for (i = 0; i < PERCH_MEMORY_SIZE; i++)
         memory[i] = (uint8_t)(i * 73 >> 3);
+    if (name) {
+        log = read_log(name);
+        scenes[count++] = log_scene(builds, n, name, &log);
+    }
     printf("| scene | clocks | records | each build: time, of the first |\n|---|---|---|---|\n");
     for (i = 0; i < count; i++)
         wrong |= beside(builds, n, &scenes[i], tries, i == 5 ? nsf : NULL);

@@ -1,16 +1,25 @@
-//! Links the library's archive where it has been built, else the stand-in.
+//! Links the library's archive: that of `rt staticlib perchpulley` in this tree, or of the folder that PERCH_LIBRARY names. With the
+//! feature `standin` the stand-in takes its place.
 
-use std::path::Path;
+use std::path::PathBuf;
 
 fn main() {
-    let folder = Path::new(env!("CARGO_MANIFEST_DIR")).join("../../target/staticlib");
+    let built = concat!(env!("CARGO_MANIFEST_DIR"), "/../../target/staticlib");
+    println!("cargo:rerun-if-env-changed=PERCH_LIBRARY");
+    if std::env::var_os("CARGO_FEATURE_STANDIN").is_some() {
+        return;
+    }
+    let folder = PathBuf::from(std::env::var_os("PERCH_LIBRARY").unwrap_or_else(|| built.into()));
     let archive = folder.join("libperchpulley.a");
     println!("cargo:rerun-if-changed={}", archive.display());
-    println!("cargo:rerun-if-env-changed=PERCH_STANDIN");
-    if std::env::var_os("PERCH_STANDIN").is_some() || !archive.exists() {
-        return;
+    if !archive.exists() {
+        eprintln!("{} isn't there.", archive.display());
+        eprintln!(
+            "`rt staticlib perchpulley`, in the folder above host/, builds it; PERCH_LIBRARY names another folder that has it."
+        );
+        eprintln!("To try the tools without the library: --features standin.");
+        std::process::exit(1);
     }
     println!("cargo:rustc-link-search=native={}", folder.display());
     println!("cargo:rustc-link-lib=static=perchpulley");
-    println!("cargo:rustc-cfg=archive");
 }

@@ -302,7 +302,20 @@ fn least(command: &str) -> Option<f64> {
     Some(best)
 }
 
+/// The tune: the log of a file, or one that is made; its name in the table and its bytes.
+fn tune(log: Option<String>, quick: bool) -> Result<(&'static str, Vec<u8>), String> {
+    match log {
+        None => Ok(("a tune, made", tune::made(1, 900, if quick { 2 } else { 8 }).into_bytes())),
+        Some(path) => match std::fs::read(&path) {
+            Ok(bytes) => Ok(("the tune of the log", bytes)),
+            Err(error) => Err(format!("{path}: {error}")),
+        },
+    }
+}
+
 fn table(log: Option<String>, gme: Option<String>, quick: bool) -> Result<(), Box<dyn std::error::Error>> {
+    let (name, tune) = tune(log, quick)?;
+    let (machine, acts) = tune::of_log(&tune).map_err(|fault| format!("the tune is refused: {fault}"))?;
     let random = &mut Random::new(1, "memory", 0);
     let memory: Vec<u8> = (0..MEMORY).map(|_| random.byte()).collect();
     let runs = if quick { 2 } else { 10 };
@@ -365,11 +378,6 @@ fn table(log: Option<String>, gme: Option<String>, quick: bool) -> Result<(), Bo
     row(&scene("all channels, shortest periods", &all)?, &memory)?;
     let (states, clocks) = if quick { (50, 20_000) } else { (400, 60_000) };
     row(&worst(&memory, states, clocks)?, &memory)?;
-    let (name, tune) = match log {
-        Some(path) => ("the tune of the log", std::fs::read_to_string(path)?),
-        None => ("a tune, made", tune::made(1, 900, if quick { 2 } else { 8 })),
-    };
-    let (machine, acts) = tune::of_log(&tune).ok_or("the tune is no log")?;
     let leap = row(&Scene { name: name.into(), first: Chip::power_on(machine), acts }, &memory)?;
 
     println!(
@@ -377,7 +385,7 @@ fn table(log: Option<String>, gme: Option<String>, quick: bool) -> Result<(), Bo
         "the player", "clocks", "bytes", "seconds", "times its run"
     );
     println!("|{}|{}", "-".repeat(36), "-:|".repeat(4));
-    let (seconds, bytes, clocks) = heard(tune.as_bytes(), &memory)?;
+    let (seconds, bytes, clocks) = heard(&tune, &memory)?;
     println!("| {name:<34} | {clocks:>11} | {bytes:>10} | {seconds:>8.4} | {:>14.2} |", seconds / leap);
     if perch::ARCHIVE && !quick {
         for (name, first) in [("2,000,000,000 quiet clocks", ""), ("the same after $400E:0f", "write=400e:0f\n")] {
@@ -415,8 +423,8 @@ fn main() -> ExitCode {
     let mut words = std::env::args().skip(1);
     while let Some(word) = words.next() {
         match word.as_str() {
-            "--log" => log = words.next(),
-            "--gme" => gme = words.next(),
+            "--log" if words.len() > 0 => log = words.next(),
+            "--gme" if words.len() > 0 => gme = words.next(),
             "--quick" => quick = true,
             _ => {
                 eprintln!("{USAGE}");

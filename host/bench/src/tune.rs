@@ -1,7 +1,7 @@
 //! What is played: acts, read from a log or made here.
 
 use compare::random::Random;
-use perch::Machine;
+use perch::{Fault, Item, Machine};
 
 /// One act of a list.
 #[derive(Clone, Copy, Debug)]
@@ -14,34 +14,14 @@ pub enum Act {
     Read,
 }
 
-/// A log's machine and the acts that it stands for; none where a line isn't of the form.
-pub fn of_log(text: &str) -> Option<(Machine, Vec<Act>)> {
-    // The open loops: where each begins in the list, and its turns.
-    let mut open: Vec<(usize, usize)> = Vec::new();
-    let mut acts = Vec::new();
-    let mut machine = Machine::Ntsc;
-    for line in text.lines() {
-        let (key, value) = line.split_once('=')?;
-        match key {
-            "log" | "stop" => {}
-            "machine" => machine = Machine::Pal,
-            "wait" => acts.push(Act::Wait(value.parse().ok()?)),
-            "read" => acts.push(Act::Read),
-            "write" => {
-                let (register, byte) = value.split_once(':')?;
-                acts.push(Act::Write(u16::from_str_radix(register, 16).ok()?, u8::from_str_radix(byte, 16).ok()?));
-            }
-            "loop" => open.push((acts.len(), value.parse().ok()?)),
-            "done" => {
-                let (first, turns) = open.pop()?;
-                let body = acts[first..].to_vec();
-                acts.truncate(first);
-                acts.extend(body.repeat(turns));
-            }
-            _ => return None,
-        }
-    }
-    Some((machine, acts))
+/// The machine and the acts of a log that passes, its loops unrolled; or its fault.
+pub fn of_log(log: &[u8]) -> Result<(Machine, Vec<Act>), Fault> {
+    let acts = perch::all_items(log)?.map(|item| match item {
+        Item::Wait(clocks) => Act::Wait(clocks.into()),
+        Item::Write(register, value) => Act::Write(register, value),
+        Item::Read => Act::Read,
+    });
+    Ok((perch::check(log)?.machine, acts.collect()))
 }
 
 const FRAME: u64 = 29_780;

@@ -1,9 +1,29 @@
-//! What `perch why` and `perch dwell` write about the examples (`host/verbs`), by the reading.
+//! What the verbs of `perch` write about the examples (`host/verbs`), by the reading.
 
 use reading::log::{Item, items, machine};
+use reading::salvage::Done;
 use reading::why::why;
-use reading::{Chip, dwell, play};
+use reading::{Chip, Machine, dwell, meter, play, sheet};
 use std::fs::read;
+
+const HOST: &str = concat!(env!("CARGO_MANIFEST_DIR"), "/..");
+
+fn example(name: &str) -> Vec<u8> {
+    read(format!("{HOST}/../examples/{name}")).unwrap()
+}
+
+/// Holds each stored text whose name begins so to what is expected of the rest of its name.
+fn hold(beginning: &str, expected: impl Fn(&str) -> String) {
+    let mut files = 0;
+    for entry in std::fs::read_dir(format!("{HOST}/verbs")).unwrap().flatten() {
+        let name = entry.file_name().into_string().unwrap();
+        if let Some(rest) = name.strip_prefix(beginning) {
+            assert_eq!(expected(rest), String::from_utf8(read(entry.path()).unwrap()).unwrap(), "{name}");
+            files += 1;
+        }
+    }
+    assert!(files > 0, "nothing stored begins with {beginning}");
+}
 
 /// The words of the reasons by number less one.
 const REASONS: [&str; 6] = ["disabled", "length", "period", "sweep", "step", "volume"];
@@ -44,20 +64,121 @@ fn asked(log: &[u8], memory: &[u8], clock: u64) -> String {
 
 #[test]
 fn reasons_of_the_examples() {
-    let host = concat!(env!("CARGO_MANIFEST_DIR"), "/..");
-    let memory = read(format!("{host}/../examples/sample.bin")).unwrap();
-    let mut files = 0;
-    for entry in std::fs::read_dir(format!("{host}/verbs")).unwrap().flatten() {
-        let name = entry.file_name().into_string().unwrap();
-        let Some((log, clock)) = name.strip_prefix("why-").and_then(|name| name.rsplit_once('-')) else {
-            continue;
-        };
-        let log = read(format!("{host}/../examples/{log}.log")).unwrap();
-        let stored = String::from_utf8(read(entry.path()).unwrap()).unwrap();
-        assert_eq!(asked(&log, &memory, clock.parse().unwrap()), stored, "{name}");
-        files += 1;
+    hold("why-", |name| {
+        let (log, clock) = name.rsplit_once('-').unwrap();
+        asked(&example(&format!("{log}.log")), &example("sample.bin"), clock.parse().unwrap())
+    });
+}
+
+/// The text of `perch check` for a log.
+fn checked(log: &[u8]) -> String {
+    match reading::log::check(log) {
+        Ok(totals) => {
+            let machine = if machine(log) == Ok(Machine::Pal) { "machine=pal\n" } else { "" };
+            let items = items(log).expect("the log passes").len();
+            format!("check=1\n{machine}clocks={}\nturns={}\nitems={items}\n", totals.clocks, totals.turns)
+        }
+        Err(fault) => {
+            let start = log[..fault.place].iter().rposition(|byte| *byte == b'\n').map_or(0, |feed| feed + 1);
+            let number = 1 + log[..start].iter().filter(|byte| **byte == b'\n').count();
+            let line = String::from_utf8_lossy(log[start..].split(|byte| *byte == b'\n').next().unwrap_or_default());
+            let (before, words) = (fault.place - start, perch::Refusal(fault.number));
+            let first = format!(
+                "check=1\nrefused={}:{}\nline {number}, column {}: {words}\n",
+                fault.number,
+                fault.place,
+                before + 1
+            );
+            format!("{first}{line}\n{}^\n", " ".repeat(before))
+        }
     }
-    assert!(files > 0);
+}
+
+#[test]
+fn checks_of_the_examples() {
+    hold("check-", |log| checked(&example(&format!("{log}.log"))));
+}
+
+/// The words for levels: the case, the lowest and the highest.
+fn shown(levels: &[u32]) -> String {
+    let answer = meter::meter(levels);
+    let (lowest, highest) = (answer >> 16 & 0xffff, answer >> 32);
+    match answer >> 8 & 0xff {
+        1 => "silent".into(),
+        2 => format!("steady:{lowest}"),
+        _ => format!("moving:{lowest}:{highest}"),
+    }
+}
+
+/// The text of `perch meter` for a log, with a line for each wait where they are asked for. Of a log that is longer than 20,000,000
+/// clocks only these are worked.
+fn metered(log: &[u8], memory: &[u8], each: bool) -> String {
+    if let Err(fault) = play::check(log, memory) {
+        return play::refusal(fault).replace("play=1", "meter=1");
+    }
+    let mut chip = Chip::power_on(machine(log).expect("the log passes"));
+    let (mut time, mut waits) = (0, String::new());
+    let mut all = vec![u32::from(chip.level())];
+    for item in items(log).expect("the log passes") {
+        match item {
+            Item::Wait(clocks) => {
+                let mut levels = vec![u32::from(chip.level())];
+                for _ in 0..clocks {
+                    chip.clock(memory);
+                    levels.push(chip.level().into());
+                }
+                waits += &format!("wait={time}:{clocks}:{}\n", shown(&levels));
+                time += clocks;
+                levels.sort_unstable();
+                levels.dedup();
+                all.extend(levels);
+            }
+            Item::Write(register, value) => chip.write(register, value),
+            Item::Read => drop(chip.read_status()),
+        }
+        all.push(chip.level().into());
+        if time >= 20_000_000 {
+            break;
+        }
+    }
+    format!("meter=1\nall={}\n{}", shown(&all), if each { &waits } else { "" })
+}
+
+#[test]
+fn meters_of_the_examples() {
+    hold("meter-", |name| {
+        let (log, each) = name.strip_prefix("waits-").map_or((name, false), |log| (log, true));
+        metered(&example(&format!("{log}.log")), &example("sample.bin"), each)
+    });
+}
+
+#[test]
+fn sheet_of_the_sample() {
+    hold("sheet", |_| {
+        let mut levels = [0; 20];
+        assert_eq!(sheet::sheet(&example("sample.bin"), 64, 0xc000, 20, &mut levels), 20 << 8);
+        let lines = levels.iter().zip(0xc000..).map(|(level, address)| format!("{address:04x}:{level}\n"));
+        format!("sheet=1\n{}", lines.collect::<String>())
+    });
+}
+
+#[test]
+fn repairs_of_the_examples() {
+    hold("salvage-", |name| {
+        let damaged = example(&format!("{name}.log"));
+        let (repaired, list) = reading::salvage::salvaged(&damaged).expect("the log can be repaired");
+        let line = |log: &[u8], place: usize| 1 + log[..place].iter().filter(|byte| **byte == b'\n').count();
+        let entry = |done: &Done| match *done {
+            Done::Added(place) => {
+                let added = repaired[place..].split(|byte| *byte == b'\n').next().unwrap_or_default();
+                format!("added={place}:0 line {}: {}\n", line(&repaired, place), String::from_utf8_lossy(added))
+            }
+            Done::Dropped(place, number) => {
+                format!("dropped={place}:{number} line {}: {}\n", line(&damaged, place), perch::Refusal(number))
+            }
+        };
+        list.iter().map(entry).collect()
+    });
 }
 
 #[test]

@@ -26,7 +26,7 @@ impl Cursor {
     /// A cursor at a log's beginning.
     pub fn new() -> Self {
         let mut bytes = [0; CURSOR];
-        raw::cursor_start(&mut bytes);
+        value(raw::cursor_start(&mut bytes)).expect("a cursor's bytes aren't refused");
         Self(bytes)
     }
 

@@ -33,6 +33,20 @@
 //! # Ok::<(), perch::Fault>(())
 //! ```
 //!
+//! A player that is stored goes on where it stood:
+//!
+//! ```
+//! # let memory = [0; perch::MEMORY];
+//! let log = b"log=1\nwrite=4011:40\nwait=10\nread=4015\nstop=10\n";
+//! let mut player = perch::Player::new(log, &memory)?;
+//! let stored: [u8; perch::PLAYER] = *player.bytes();
+//! let text: Vec<u8> = player.by_ref().flatten().collect();
+//! assert_eq!(player.time(), 10);
+//! let again = perch::Player::from_bytes(stored, log, &memory)?;
+//! assert_eq!(again.flatten().collect::<Vec<u8>>(), text);
+//! # Ok::<(), perch::Fault>(())
+//! ```
+//!
 //! ```
 //! # use perch::{Found, Item};
 //! let log = b"log=1\nloop=3\nwait=10\nread=4015\ndone=loop\nstop=30\n";
@@ -113,7 +127,8 @@ mod why;
 pub use access::{Access, Accessed};
 pub use cursor::{CURSOR, Cursor, Found, all_items};
 pub use log::{
-    Checked, Fault, Item, LOG, Player, Repair, body, check, fold, import, item, items, refusal_text, salvage, turns,
+    Checked, Fault, Item, LOG, PLAYER, Player, Repair, body, check, fold, import, item, items, refusal_text, salvage,
+    turns,
 };
 pub use meter::{Meter, meter, meter_records};
 pub use sheet::sheet;
@@ -130,7 +145,8 @@ pub const STATE: usize = 91;
 /// The version of the header that this wraps; the library's is `version()`.
 pub const VERSION: u32 = 9;
 
-/// The version of the library linked. One of another version has other sizes, layouts or functions.
+/// The version of the library linked. One of another version has other sizes, layouts or functions: the first call of any other
+/// function here ends the program where it isn't `VERSION`.
 pub fn version() -> u32 {
     raw::version()
 }
@@ -139,9 +155,9 @@ pub fn version() -> u32 {
 pub const LINKED: &str = if ARCHIVE { "the archive" } else { "the stand-in" };
 
 /// Whether the functions are the library's, and not the stand-in's.
-pub const ARCHIVE: bool = cfg!(archive);
+pub const ARCHIVE: bool = !cfg!(feature = "standin");
 
-/// A refusal, with its number by document 01.
+/// A refusal, with its number by document 01. Its words are those of `perch`.
 #[derive(Clone, Copy, Debug, PartialEq, Eq)]
 pub struct Refusal(pub u8);
 
@@ -151,16 +167,16 @@ impl fmt::Display for Refusal {
             1 => "sample memory isn't 32,768 bytes",
             2 => "a state field is outside its range",
             3 => "a run of more than 1,000,000 clocks",
-            4 => "register not among $4000..$4013, $4015, $4017",
+            4 => "register not among 4000..4013, 4015, 4017",
             5 => "log longer than 60,000 bytes",
             7 => "a ninth loop opened inside eight",
             8 => "`done` with no loop open, or `stop` with one open",
             9 => "over 2,000,000,000 clocks or 1,000,000 turns in all",
             10 => "`stop` differs from the clocks in all",
             11 => "the log has no such item",
-            12 => "no loop line begins at the offset",
-            13 => "a count above 4,000,000,000",
-            14 => "unknown key, or one not allowed there",
+            12 => "no loop line begins there",
+            13 => "a count over 4,000,000,000",
+            14 => "unknown key, or one that is not allowed here",
             15 => "value not of its shape",
             16 => "value outside its range",
             17 => "line feed missing",
@@ -170,15 +186,15 @@ impl fmt::Display for Refusal {
             21 => "address outside 32768..65535",
             22 => "length above 4081",
             23 => "buffer shorter than the length",
-            24 => "the channel is no square and not the noise",
-            25 => "unknown command in the stream",
-            26 => "register of a command not among $00..$13, $15, $17",
-            27 => "the stream ends before $66",
+            24 => "no such channel",
+            25 => "unknown command",
+            26 => "register not among 00..13, 15, 17",
+            27 => "the stream ends before its end command",
             28 => "the log is longer than the buffer or 60,000 bytes",
             29 => "a level above 32,767",
             30 => "the repaired log is longer than the buffer or 60,000 bytes",
-            31 => "the list of what was done has no room",
-            32 => "the buffer is shorter than the log to be folded",
+            31 => "the list has no room",
+            32 => "buffer shorter than the log",
             number => return write!(f, "refusal {number}"),
         })
     }
@@ -242,7 +258,7 @@ impl Chip {
     /// A machine's state at power-on.
     pub fn power_on(machine: Machine) -> Self {
         let mut state = [0; STATE];
-        raw::power_on(&mut state, machine as u8);
+        value(raw::power_on(&mut state, machine as u8)).expect("a state's bytes and a machine aren't refused");
         Self(state)
     }
 

@@ -156,12 +156,21 @@ pub fn refusal_text(fault: Fault) -> Vec<u8> {
     text
 }
 
-/// A log being played: an iterator of pieces of its text, each of whole lines.
+/// How many bytes a player is.
+pub const PLAYER: usize = 190;
+
+/// The first of the four bytes of a player that tell its time.
+const TIME: usize = 5;
+
+/// A log being played: an iterator of pieces of its text, each of whole lines. A copy is a bookmark, which gives the same lines
+/// again; `bytes` can be stored, for a library of the same version.
+#[derive(Clone, Debug)]
 pub struct Player<'a> {
-    bytes: Vec<u8>,
+    bytes: [u8; PLAYER],
     log: &'a [u8],
     memory: &'a [u8],
     over: bool,
+    fault: Option<Fault>,
 }
 
 impl<'a> Player<'a> {
@@ -169,9 +178,32 @@ impl<'a> Player<'a> {
 
     /// A player at the log's beginning.
     pub fn new(log: &'a [u8], memory: &'a [u8]) -> Result<Self, Fault> {
-        let mut bytes = vec![0; raw::player_size()];
+        let mut bytes = [0; PLAYER];
         value(raw::begin(&mut bytes, log, memory))?;
-        Ok(Self { bytes, log, memory, over: false })
+        Ok(Self { bytes, log, memory, over: false, fault: None })
+    }
+
+    /// The player that was stored, with the log and the memory that it began with. Refused: bytes that are no player (2), memory
+    /// of another length (1). Bytes that this log didn't lead to may be refused later: then the pieces end, and `fault` says why.
+    pub fn from_bytes(bytes: [u8; PLAYER], log: &'a [u8], memory: &'a [u8]) -> Result<Self, Fault> {
+        // With no room for a line the player stays.
+        value(raw::play_on(&mut { bytes }, log, memory, &mut []))?;
+        Ok(Self { bytes, log, memory, over: false, fault: None })
+    }
+
+    /// The player's bytes, to be stored between two pieces.
+    pub fn bytes(&self) -> &[u8; PLAYER] {
+        &self.bytes
+    }
+
+    /// The clocks up to which the player has come: those of its last line or later, and not past its next line.
+    pub fn time(&self) -> u32 {
+        u32::from_le_bytes(std::array::from_fn(|place| self.bytes[TIME + place]))
+    }
+
+    /// What ended the pieces early: none for a player that began with its log and memory.
+    pub fn fault(&self) -> Option<Fault> {
+        self.fault
     }
 }
 
@@ -184,9 +216,9 @@ impl Iterator for Player<'_> {
         }
         let mut text = vec![0; Self::PIECE];
         let answer = raw::play_on(&mut self.bytes, self.log, self.memory, &mut text);
-        // A player that was begun with this log and memory isn't refused.
+        self.fault = value(answer).err();
         self.over = answer as u16 != 0;
         text.truncate((answer >> 32) as usize);
-        Some(text)
+        (!text.is_empty()).then_some(text)
     }
 }

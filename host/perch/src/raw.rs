@@ -5,17 +5,19 @@
 //! 2^8 x place; a meter's number + 2^8 x case + 2^16 x lowest + 2^32 x highest; an access's number + 2^8 x byte + 2^16 x
 //! level + 2^32 x differs.
 
-#[cfg(not(archive))]
+use std::sync::Once;
+
+#[cfg(feature = "standin")]
 use standin::{
     perch_access, perch_begin, perch_body, perch_check, perch_clock, perch_fold, perch_import, perch_in_range,
     perch_interrupt_line, perch_item, perch_level, perch_level_fraction, perch_meter, perch_meter_records,
     perch_next_interrupt, perch_play_on, perch_player_size, perch_power_on, perch_refusal_text, perch_run,
     perch_run_plain, perch_salvage, perch_sheet, perch_state_size, perch_why,
 };
-#[cfg(not(archive))]
+#[cfg(feature = "standin")]
 use standin::{perch_cursor_next, perch_cursor_size, perch_cursor_start, perch_items, perch_turns, perch_version};
 
-#[cfg(archive)]
+#[cfg(not(feature = "standin"))]
 unsafe extern "C" {
     safe fn perch_version() -> u32;
     fn perch_turns(log: *const u8, n: usize) -> u64;
@@ -25,7 +27,7 @@ unsafe extern "C" {
     fn perch_cursor_next(cursor: *mut u8, c: usize, log: *const u8, n: usize) -> u64;
 }
 
-#[cfg(archive)]
+#[cfg(not(feature = "standin"))]
 unsafe extern "C" {
     safe fn perch_state_size() -> usize;
     fn perch_power_on(state: *mut u8, n: usize, machine: u8) -> u64;
@@ -91,6 +93,16 @@ unsafe extern "C" {
     ) -> u64;
 }
 
+/// Ends the program where the library linked is of another version than this wrapper: it has other sizes, layouts or functions. The
+/// first call asks, and no later one.
+fn same_version() {
+    static ASKED: Once = Once::new();
+    ASKED.call_once(|| {
+        let (here, there) = (crate::VERSION, perch_version());
+        assert!(here == there, "the library linked is of version {there}, and its wrapper for Rust of version {here}");
+    });
+}
+
 // In every call below a slice gives a pointer that is valid for its length, and two slices of which one may be written
 // don't overlap.
 
@@ -101,36 +113,43 @@ pub fn state_size() -> usize {
 
 /// Writes a machine's state at power-on.
 pub fn power_on(state: &mut [u8], machine: u8) -> u64 {
+    same_version();
     unsafe { perch_power_on(state.as_mut_ptr(), state.len(), machine) }
 }
 
 /// Value 1 where the bytes are a state in range, else 0; it refuses nothing.
 pub fn in_range(state: &[u8]) -> u64 {
+    same_version();
     unsafe { perch_in_range(state.as_ptr(), state.len()) }
 }
 
 /// Reads $4015 where `read` isn't 0, else writes a register.
 pub fn access(state: &mut [u8], read: u8, register: u16, value: u8) -> u64 {
+    same_version();
     unsafe { perch_access(state.as_mut_ptr(), state.len(), read, register, value) }
 }
 
 /// 1 where the interrupt line is asserted.
 pub fn interrupt_line(state: &[u8]) -> u64 {
+    same_version();
     unsafe { perch_interrupt_line(state.as_ptr(), state.len()) }
 }
 
 /// The level.
 pub fn level(state: &[u8]) -> u64 {
+    same_version();
     unsafe { perch_level(state.as_ptr(), state.len()) }
 }
 
 /// Works one clock.
 pub fn clock(state: &mut [u8], memory: &[u8]) -> u64 {
+    same_version();
     unsafe { perch_clock(state.as_mut_ptr(), state.len(), memory.as_ptr(), memory.len()) }
 }
 
 /// Runs, leaping where nothing changes.
 pub fn run(state: &mut [u8], memory: &[u8], count: u64, words: &mut [u32], counts: &mut [u32]) -> u64 {
+    same_version();
     unsafe {
         perch_run(
             state.as_mut_ptr(),
@@ -148,6 +167,7 @@ pub fn run(state: &mut [u8], memory: &[u8], count: u64, words: &mut [u32], count
 
 /// The same, clock by clock.
 pub fn run_plain(state: &mut [u8], memory: &[u8], count: u64, words: &mut [u32], counts: &mut [u32]) -> u64 {
+    same_version();
     unsafe {
         perch_run_plain(
             state.as_mut_ptr(),
@@ -165,16 +185,19 @@ pub fn run_plain(state: &mut [u8], memory: &[u8], count: u64, words: &mut [u32],
 
 /// Checks a log; the value is the clocks in all + 2^31 x its machine.
 pub fn check(log: &[u8]) -> u64 {
+    same_version();
     unsafe { perch_check(log.as_ptr(), log.len()) }
 }
 
 /// Item k of a log: kind x 2^24 + what it holds.
 pub fn item(log: &[u8], k: u64) -> u64 {
+    same_version();
     unsafe { perch_item(log.as_ptr(), log.len(), k) }
 }
 
 /// The body of the loop whose line begins at the offset: start + 2^16 x length.
 pub fn body(log: &[u8], offset: u64) -> u64 {
+    same_version();
     unsafe { perch_body(log.as_ptr(), log.len(), offset) }
 }
 
@@ -185,11 +208,13 @@ pub fn player_size() -> usize {
 
 /// Makes the bytes a player at the log's beginning.
 pub fn begin(player: &mut [u8], log: &[u8], memory: &[u8]) -> u64 {
+    same_version();
     unsafe { perch_begin(player.as_mut_ptr(), player.len(), log.as_ptr(), log.len(), memory.as_ptr(), memory.len()) }
 }
 
 /// Writes the player's next lines.
 pub fn play_on(player: &mut [u8], log: &[u8], memory: &[u8], text: &mut [u8]) -> u64 {
+    same_version();
     unsafe {
         perch_play_on(
             player.as_mut_ptr(),
@@ -206,52 +231,62 @@ pub fn play_on(player: &mut [u8], log: &[u8], memory: &[u8], text: &mut [u8]) ->
 
 /// Writes the text of a refusal.
 pub fn refusal_text(number: u8, place: u64, text: &mut [u8]) -> u64 {
+    same_version();
     unsafe { perch_refusal_text(number, place, text.as_mut_ptr(), text.len()) }
 }
 
 /// Writes the log of a VGM command stream.
 pub fn import(stream: &[u8], text: &mut [u8]) -> u64 {
+    same_version();
     unsafe { perch_import(stream.as_ptr(), stream.len(), text.as_mut_ptr(), text.len()) }
 }
 
 /// Writes a log folded; the value is its length.
 pub fn fold(log: &[u8], text: &mut [u8]) -> u64 {
+    same_version();
     unsafe { perch_fold(log.as_ptr(), log.len(), text.as_mut_ptr(), text.len()) }
 }
 
 /// Writes a damaged log repaired, and the list of what was done; the value is its length + 2^16 x the list's entries.
 pub fn salvage(log: &[u8], text: &mut [u8], list: &mut [u32]) -> u64 {
+    same_version();
     unsafe { perch_salvage(log.as_ptr(), log.len(), text.as_mut_ptr(), text.len(), list.as_mut_ptr(), list.len()) }
 }
 
 /// The least number of clocks after which the line is asserted (which = 1: the frame's flag is set, 2: the DMC's): 2^8 x whether there
 /// is one within the count + 2^32 x it.
 pub fn next_interrupt(state: &[u8], memory: &[u8], count: u64, which: u8) -> u64 {
+    same_version();
     unsafe { perch_next_interrupt(state.as_ptr(), state.len(), memory.as_ptr(), memory.len(), count, which) }
 }
 
 /// Why a channel is silent: the reason's number, or 16 + the channel's number where it sounds.
 pub fn why(state: &[u8], channel: u64) -> u64 {
+    same_version();
     unsafe { perch_why(state.as_ptr(), state.len(), channel) }
 }
 
 /// The meter over levels.
 pub fn meter(levels: &[u32]) -> u64 {
+    same_version();
     unsafe { perch_meter(levels.as_ptr(), levels.len()) }
 }
 
 /// The meter over the levels of records, behind the level before if that is below 2^32.
 pub fn meter_records(words: &[u32], start: u64, count: u64, before: u64) -> u64 {
+    same_version();
     unsafe { perch_meter_records(words.as_ptr(), words.len(), start, count, before) }
 }
 
 /// A level over 32,768.
 pub fn level_fraction(level: u16) -> f32 {
+    same_version();
     perch_level_fraction(level)
 }
 
 /// Writes the level after each byte of a sample; the value is how many they are.
 pub fn sheet(memory: &[u8], level: u64, address: u64, length: u64, buffer: &mut [u8]) -> u64 {
+    same_version();
     unsafe { perch_sheet(memory.as_ptr(), memory.len(), level, address, length, buffer.as_mut_ptr(), buffer.len()) }
 }
 
@@ -262,11 +297,13 @@ pub fn version() -> u32 {
 
 /// The turns of a log in all.
 pub fn turns(log: &[u8]) -> u64 {
+    same_version();
     unsafe { perch_turns(log.as_ptr(), log.len()) }
 }
 
 /// How many items a log stands for.
 pub fn items(log: &[u8]) -> u64 {
+    same_version();
     unsafe { perch_items(log.as_ptr(), log.len()) }
 }
 
@@ -277,10 +314,12 @@ pub fn cursor_size() -> usize {
 
 /// Makes the bytes a cursor at a log's beginning.
 pub fn cursor_start(cursor: &mut [u8]) -> u64 {
+    same_version();
     unsafe { perch_cursor_start(cursor.as_mut_ptr(), cursor.len()) }
 }
 
 /// The next item, as `item` has it; the value is 0 at the log's end.
 pub fn cursor_next(cursor: &mut [u8], log: &[u8]) -> u64 {
+    same_version();
     unsafe { perch_cursor_next(cursor.as_mut_ptr(), cursor.len(), log.as_ptr(), log.len()) }
 }

@@ -1,0 +1,130 @@
+//! What the wrapper makes of the library's answers.
+
+use perch::{Access, Chip, Cursor, Fault, Found, Item, MEMORY, Machine, Player, Refusal};
+
+const LOG: &[u8] = b"log=1\nloop=3\nwait=10\nwrite=4011:40\ndone=loop\nread=4015\nstop=30\n";
+
+fn fault(number: u8, place: usize) -> Fault {
+    Fault { refusal: Refusal(number), place }
+}
+
+#[test]
+fn items_by_number() {
+    assert_eq!(perch::item(LOG, 0), Ok(Item::Wait(10)));
+    assert_eq!(perch::item(LOG, 3), Ok(Item::Write(0x4011, 0x40)));
+    assert_eq!(perch::item(LOG, 6), Ok(Item::Read));
+    assert_eq!(perch::item(LOG, 7), Err(fault(11, 0)));
+    assert_eq!(perch::item(b"log=1\n", 0), Err(fault(18, 6)));
+}
+
+#[test]
+fn bodies_of_loops() {
+    assert_eq!(perch::body(LOG, 6), Ok(&b"wait=10\nwrite=4011:40\n"[..]));
+    assert_eq!(perch::body(LOG, 0), Err(fault(12, 0)));
+    assert_eq!(perch::body(b"log=1\nloop=2\ndone=loop\nstop=0\n", 6), Ok(&b""[..]));
+}
+
+#[test]
+fn machines_of_chips() {
+    for machine in [Machine::Ntsc, Machine::Pal] {
+        let mut chip = Chip::power_on(machine);
+        assert_eq!(chip.machine(), machine);
+        chip.access(Access::Write(0x4015, 0x1f)).unwrap();
+        assert_eq!(chip.machine(), machine);
+        assert_eq!(Chip::from_bytes(*chip.bytes()), Ok(chip));
+    }
+    assert_eq!(Chip::from_bytes([0xff; perch::STATE]), Err(Refusal(2)));
+}
+
+#[test]
+fn levels_as_fractions() {
+    let mut chip = Chip::power_on(Machine::Ntsc);
+    assert_eq!(chip.level_f32(), Ok(8074.0 / 32768.0));
+    chip.access(Access::Write(0x4011, 0x40)).unwrap();
+    assert_eq!(chip.level_f32(), Ok(16620.0 / 32768.0));
+}
+
+#[test]
+fn cursors_of_bytes() {
+    let mut cursor = Cursor::new();
+    for _ in 0..3 {
+        cursor.next(LOG).unwrap();
+    }
+    let mut stored = Cursor::from_bytes(*cursor.bytes());
+    assert_eq!(stored, cursor);
+    assert_eq!(stored.next(LOG), Ok(Found::Item(Item::Write(0x4011, 0x40))));
+    // Any bytes are a cursor: this one stands far behind the log's end.
+    assert_eq!(Cursor::from_bytes([0xff; perch::CURSOR]).next(LOG), Err(fault(18, LOG.len())));
+}
+
+#[test]
+fn players_are_copied_and_stored() {
+    let memory = vec![0x55; MEMORY];
+    let log = b"log=1\nwrite=4015:01\nwrite=4000:bf\nwrite=4002:10\nwrite=4003:00\nloop=3\nwait=1000000\ndone=loop\nstop=3000000\n";
+    let whole: Vec<u8> = Player::new(log, &memory).unwrap().flatten().collect();
+    let mut player = Player::new(log, &memory).unwrap();
+    let first: Vec<u8> = player.by_ref().take(2).flatten().collect();
+    assert!(first.len() < whole.len() && whole.starts_with(&first));
+    // The time is not before the last line and not past the next.
+    let clock = |line: &[u8]| -> u32 {
+        let line = std::str::from_utf8(line).unwrap();
+        line.split(['=', ':']).nth(1).unwrap().parse().unwrap()
+    };
+    let last = first.split(|byte| *byte == b'\n').nth_back(1).unwrap();
+    let next = whole[first.len()..].split(|byte| *byte == b'\n').next().unwrap();
+    assert!((clock(last)..=clock(next)).contains(&player.time()), "{}", player.time());
+    let copy = player.clone();
+    let stored = Player::from_bytes(*player.bytes(), log, &memory).unwrap();
+    for (rest, kind) in [(player, "itself"), (copy, "a copy"), (stored, "a stored one")] {
+        assert!([&first[..], &rest.flatten().collect::<Vec<u8>>()].concat() == whole, "{kind}");
+    }
+}
+
+#[test]
+fn players_end() {
+    let memory = vec![0; MEMORY];
+    let mut player = Player::new(LOG, &memory).unwrap();
+    assert_eq!(player.time(), 0);
+    assert!(player.by_ref().flatten().collect::<Vec<u8>>().ends_with(b"stop=30\n"));
+    assert_eq!((player.time(), player.fault()), (30, None));
+    assert_eq!(Player::from_bytes(*player.bytes(), LOG, &memory).unwrap().next(), None);
+    // Bytes that are no player, memory of another length, and a player that this log didn't lead to.
+    assert_eq!(Player::from_bytes([0xff; perch::PLAYER], LOG, &memory).err(), Some(fault(2, 0)));
+    assert_eq!(Player::from_bytes(*player.bytes(), LOG, &memory[1..]).err(), Some(fault(1, 0)));
+    let begun = *Player::new(LOG, &memory).unwrap().bytes();
+    let mut other = Player::from_bytes(begun, b"log=1\nnothing\n", &memory).unwrap();
+    other.by_ref().for_each(drop);
+    assert_eq!(other.fault(), Some(fault(14, 6)));
+}
+
+/// The words of `perch` for a refusal, out of the table that it is built from.
+fn words(table: &str, number: u8) -> Option<&str> {
+    let line = table.split_once(&format!("(eqb n {number}) (bytes \""))?.1;
+    line.split_once('"').map(|(words, _)| words)
+}
+
+#[test]
+fn refusals_in_words() {
+    let root = concat!(env!("CARGO_MANIFEST_DIR"), "/../..");
+    let table = std::fs::read_to_string(format!("{root}/crates/perch_reasons/specs/Reasons.antt")).unwrap();
+    let header = std::fs::read_to_string(format!("{root}/include/perchpulley.h")).unwrap();
+    let refused = header.lines().filter_map(|line| line.strip_prefix("#define PERCH_REFUSED_"));
+    let mut numbers = 0;
+    for line in refused {
+        let number: u8 = line.split_whitespace().nth(1).unwrap().parse().unwrap();
+        assert_eq!(Some(Refusal(number).to_string().as_str()), words(&table, number), "{line}");
+        numbers += 1;
+    }
+    assert!(numbers > 30);
+    assert_eq!(Refusal(6).to_string(), "refusal 6");
+    assert_eq!(fault(16, 67).to_string(), "value outside its range at 67");
+    assert_eq!(perch::refusal_text(fault(16, 67)), b"play=1\nrefused=16:67\n");
+}
+
+#[test]
+fn versions_and_sizes_agree() {
+    assert_eq!(perch::version(), perch::VERSION);
+    assert_eq!(perch::raw::state_size(), perch::STATE);
+    assert_eq!(perch::raw::player_size(), perch::PLAYER);
+    assert_eq!(perch::raw::cursor_size(), perch::CURSOR);
+}
