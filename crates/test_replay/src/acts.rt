@@ -1,5 +1,6 @@
 // What a line asks for, worked with the functions that `perchpulley` hands out under C names. An answer is the number that C gets: number +
-// 256 x value, of a run number + 2^8 x clocks done + 2^32 x records, of an access number + 2^8 x byte + 2^16 x level + 2^32 x differs.
+// 256 x value, of a run number + 2^8 x clocks done + 2^32 x records, of an access number + 2^8 x byte + 2^16 x level + 2^32 x differs, of the next
+// interrupt number + 2^8 x found + 2^32 x clocks.
 use super::lent;
 use super::stored::byte;
 use super::stored::number;
@@ -20,6 +21,18 @@ fn write(line: &[u8], state: &mut [u8]) -> u64 {
     let a = c_chip::access(state, 0, short(line, 2), value(line, 7));
     hold(a / 256 % 256 == 0);
     a % 256 + a / 65536 * 256
+}
+
+// The next interrupt, without the two bytes between found and clocks, which must be 0.
+fn next(line: &[u8], memory: &[u8], state: &[u8]) -> u64 {
+    let a = c_interrupt::next_interrupt(
+        state,
+        lent::front(line, memory),
+        number(line, 7, 8),
+        value(line, 24),
+    );
+    hold(a / 65536 % 65536 == 0);
+    a % 65536 + a / 4294967296 * 65536
 }
 
 fn access(line: &[u8], state: &mut [u8]) -> u64 {
@@ -80,6 +93,7 @@ pub(crate) fn work(
             let from = lent::least(used, words.len());
             run(line, memory, state, &mut words[from..])
         }
+        b'Q' => next(line, memory, state),
         b'C' => c_chip::clock(state, lent::front(line, memory)),
         b'E' => lent::sum(words) as u64,
         _ => access(line, state),

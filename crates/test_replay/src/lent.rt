@@ -55,7 +55,7 @@ pub(crate) fn least(n: usize, most: usize) -> usize
     if n <= most { n } else { most }
 }
 
-// The bytes of memory that a clock or a run is lent.
+// The bytes of memory that a clock, a run or a question is lent.
 pub(crate) fn front<'a>(line: &[u8], memory: &'a [u8]) -> &'a [u8] {
     let n = least(number(line, 2, 2) as usize, memory.len());
     &memory[0..n]

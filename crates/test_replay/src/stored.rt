@@ -72,6 +72,7 @@ fn widths(letter: u8) -> u64 {
         b'V' => 02_01,
         b'C' => 01_02,
         b'N' => 03_03_01_08_02,
+        b'Q' => 04_01_01_01_08_02,
         b'E' => lent::STATE as u64 * 100 + 04,
         _ => 0,
     }
@@ -120,6 +121,7 @@ pub(crate) fn answers(letter: u8) -> usize
     match letter {
         b'B' => LONGEST,
         b'N' => 24,
+        b'Q' => 27,
         b'W' => 10,
         b'C' => 7,
         _ => 2,

@@ -59,6 +59,15 @@ pub enum Op {
     Line,
     /// The level, and the level as a float.
     Level,
+    /// When the line is asserted next, or a flag set, within `count` clocks with the first `memory` bytes.
+    Next {
+        /// Bytes of sample memory.
+        memory: usize,
+        /// Clocks.
+        count: u64,
+        /// What is asked for: 1 the frame's flag, 2 the DMC's, any other number the line.
+        which: u8,
+    },
 }
 
 /// The most bytes that a case lends as a state.
@@ -84,7 +93,7 @@ pub struct Case {
 #[derive(Clone, Debug, PartialEq, Eq)]
 pub struct Outcome {
     /// Number + 256 x value; of a run number + 2^8 x clocks done + 2^32 x records; of an access number + 2^8 x byte + 2^16 x
-    /// level + 2^32 x differs.
+    /// level + 2^32 x differs; of the next interrupt number + 2^8 x found + 2^32 x clocks.
     pub answers: Vec<u64>,
     /// The state's bytes.
     pub state: Vec<u8>,
@@ -124,6 +133,10 @@ pub fn text(case: &Case, outcome: &Outcome) -> String {
             Op::Read => writeln!(text, "R {number:02x} {byte:02x} {level:04x} {differs:02x}"),
             Op::Line => writeln!(text, "I {number:02x} {value:02x}"),
             Op::Level => writeln!(text, "V {number:02x} {value:04x}"),
+            Op::Next { memory, count, which } => {
+                let (found, clocks) = (value & 0xff_ffff, value >> 24);
+                writeln!(text, "Q {memory:04x} {count:016x} {which:02x} {number:02x} {found:02x} {clocks:08x}")
+            }
         };
     }
     let _ = writeln!(text, "E {:08x} {}", outcome.sum, hex(&outcome.state));
@@ -165,6 +178,10 @@ pub fn parse(text: &str) -> Option<Vec<(Case, Outcome)>> {
             "R" => (Op::Read, simple(0)? | number(2)? << 16 | number(3)? << 32),
             "I" => (Op::Line, simple(0)?),
             "V" => (Op::Level, simple(0)?),
+            "Q" => {
+                let answer = simple(3)? | number(5)? << 32;
+                (Op::Next { memory: number(0)? as usize, count: number(1)?, which: number(2)? as u8 }, answer)
+            }
             "E" => {
                 outcome.sum = number(0)? as u32;
                 outcome.state = bytes(1, case.state.len())?;

@@ -2,10 +2,11 @@
 //! around a frame step, the edges of what is quiet.
 
 use crate::case::{Case, MOST_STATE, Memory, Op};
+use crate::interrupts;
 use crate::random::Random;
 use reading::bytes::{SIZE, Slot};
 use reading::machine::{Machine, Times};
-use reading::{Chip, MEMORY, MOST_CLOCKS};
+use reading::{Chip, MEMORY, MOST_CLOCKS, interrupt};
 
 fn lengths(chip: &mut Chip, mut each: impl FnMut(&mut reading::chip::Length)) {
     let [first, second] = &mut chip.squares;
@@ -371,12 +372,56 @@ fn registers(random: &mut Random, number: u64) -> Case {
     Case { memory: memory(random), state: chip.encode().to_vec(), words: 0, ops }
 }
 
+/// When the interrupt comes next, asked of a state near an edge and with a count beside the answer; then a run to that clock or
+/// beside it, and asked again there, before an access that may clear and after it.
+fn asking(random: &mut Random) -> Case {
+    let memory = memory(random);
+    let bytes = &memory.bytes()[..MEMORY];
+    let (chip, which, found) = loop {
+        let (chip, which) = (interrupts::state(random), random.pick(&[0, 0, 1, 2, 2, 3]));
+        let found = interrupt::next(chip, bytes, 40_000, which);
+        // Most of the states aren't there yet, and come there.
+        if found.is_some_and(|k| k > 0) || random.one_in(20) {
+            break (chip, which, found);
+        }
+    };
+    let far = random.within(0..=40_000);
+    let count = match (random.within(0..=7), found) {
+        (0..=2, Some(k)) => k,
+        (3 | 4, Some(k)) => k.saturating_sub(1),
+        (5, _) => 0,
+        _ => far,
+    };
+    let clocks = found.unwrap_or(far % 200) + random.within(0..=2);
+    let most = random.pick(&[far, MOST_CLOCKS, MOST_CLOCKS, MOST_CLOCKS + 1, (1 << 32) + 5]);
+    let length = if random.one_in(8) { random.pick(&[0, MEMORY - 1, MEMORY + 1]) } else { MEMORY };
+    let value = random.byte();
+    let access = [
+        Op::Read,
+        Op::Write { register: 0x4010, value: value & 0x4f },
+        Op::Write { register: 0x4015, value },
+        Op::Write { register: 0x4017, value },
+    ];
+    let ops = vec![
+        Op::Next { memory: MEMORY, count, which },
+        Op::Next { memory: length, count: most, which: (which + 1) % 3 },
+        Op::Run { memory: MEMORY, count: clocks.saturating_sub(1) },
+        Op::Next { memory: MEMORY, count: random.within(0..=3), which },
+        Op::Line,
+        random.pick(&access),
+        Op::Next { memory: MEMORY, count: MOST_CLOCKS - random.within(0..=1), which: random.pick(&[0, 1, 2, 255]) },
+        Op::Line,
+    ];
+    Case { memory, state: chip.encode().to_vec(), words: 1024, ops }
+}
+
 /// A case to be stored: some of each kind, with few words.
 pub fn stored(random: &mut Random, number: u64) -> Case {
     let mut case = match number % 24 {
         2 => slow(random),
         6 | 14 | 18 => edge(random),
         10 | 22 => registers(random, number / 12),
+        11 => asking(random),
         kind if kind % 4 == 0 => single(random),
         kind if kind % 4 == 1 => {
             let clocks = random.within(7_500..=40_000);
@@ -391,5 +436,10 @@ pub fn stored(random: &mut Random, number: u64) -> Case {
     }
     case.words = case.words.min(random.within(900..=1024) as usize);
     case.ops.truncate(if Chip::decode(&case.state).is_some() { 30 } else { 6 });
+    if number % 48 == 7 {
+        // Of what is no state.
+        let (other, many) = random.pick(&[(0, 0), (0, 0), (1, 0), (0, 1), (1, 1)]);
+        case.ops.push(Op::Next { memory: MEMORY - other, count: 999_999 + 2 * many, which: random.byte() % 4 });
+    }
     case
 }

@@ -27,7 +27,7 @@ fn things() -> Vec<(String, u64)> {
 }
 
 /// A state near an edge: the frame before, at or behind its fourth step; a sample with few bytes left, its buffer full or empty.
-fn state(random: &mut Random) -> Chip {
+pub fn state(random: &mut Random) -> Chip {
     let mut chip = draw::state(random);
     if random.one_in(2) {
         // The flag's own step, of either machine, and the clock behind it.

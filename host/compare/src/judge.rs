@@ -12,6 +12,7 @@ struct Engine {
     access: fn(&mut [u8], u8, u16, u8) -> u64,
     line: fn(&[u8]) -> u64,
     level: fn(&[u8]) -> u64,
+    next: fn(&[u8], &[u8], u64, u8) -> u64,
     fraction: fn(u16) -> f32,
     run: fn(&mut [u8], &[u8], u64, &mut [u32], &mut [u32]) -> u64,
 }
@@ -22,6 +23,7 @@ const READING: Engine = Engine {
     access: reading::access::access,
     line: boundary::line,
     level: boundary::level,
+    next: reading::interrupt::next_interrupt,
     fraction: reading::mixer::level_f32,
     run: boundary::run,
 };
@@ -32,6 +34,7 @@ const LEAPING: Engine = Engine {
     access: raw::access,
     line: raw::interrupt_line,
     level: raw::level,
+    next: raw::next_interrupt,
     fraction: raw::level_fraction,
     run: raw::run,
 };
@@ -91,6 +94,7 @@ impl Side {
                 }
                 level
             }
+            Op::Next { memory: length, count, which } => (self.engine.next)(state, &memory[..length], count, which),
         })
     }
 }
@@ -266,7 +270,7 @@ pub fn judge(case: &Case, tally: &mut Tally) -> Result<(), String> {
                 tally.add(count, ours);
                 list.ran(before, length, count, ours);
             }
-            Op::Line | Op::Level => {}
+            Op::Line | Op::Level | Op::Next { .. } => {}
             Op::Clock { .. } | Op::Write { .. } | Op::Read => list = List::new(&reading),
         }
     }

@@ -5,6 +5,7 @@ pub mod case;
 pub mod counts;
 pub mod cursors;
 pub mod draw;
+pub mod edges;
 pub mod every;
 pub mod folds;
 pub mod free;

@@ -4,8 +4,8 @@ use compare::case::{self, Case, Outcome};
 use compare::judge::{self, Tally, judge};
 use compare::random::Random;
 use compare::{
-    accesses, cursors, draw, every, folds, free, imports, interrupts, lines, logs, machines, meters, orders, players,
-    reasons, salvages, sheets, stored,
+    accesses, cursors, draw, edges, every, folds, free, imports, interrupts, lines, logs, machines, meters, orders,
+    players, reasons, salvages, sheets, stored,
 };
 use reading::{Chip, MEMORY};
 use std::process::ExitCode;
@@ -21,6 +21,8 @@ compare log-cases N FOLDER [--seed N]                   write N logs, a sample.b
 compare examples FOLDER                                 hold the library to the reading on the logs of a folder, with sample.bin
 compare text LOG SAMPLE                                 write what the player writes for a log, by the reading
 compare dwell LOG SAMPLE                                write what perch dwell writes for a log, by the reading
+compare flags LOG SAMPLE                                write what perch interrupts writes for a log, by the reading
+compare edges N PERCH [--seed N]                        hold what a built perch interrupts writes for N logs drawn near edges to the reading
 compare judged FOLDER                                   write what test_logs prints about the logs of a folder
 compare played FOLDER                                   write what test_plays prints about them, with sample.bin
 --each N: so many accesses, orders, reasons, meters, sheets and texts, half as many whole logs, cursors, players and imports
@@ -210,6 +212,11 @@ fn write_logs(asked: &Asked, count: &str, folder: &str) -> Result<(), String> {
     write("texts".into(), texts.as_bytes())
 }
 
+fn write_edges(asked: &Asked, count: &str, program: &str) -> Result<(), String> {
+    let count: u64 = count.parse().map_err(|_| USAGE)?;
+    edges::compare(asked.seed, count, program).map(|told| print!("{told}"))
+}
+
 fn read_cases(path: &str) -> Result<Vec<(Case, Outcome)>, String> {
     let text = std::fs::read_to_string(path).map_err(|error| format!("{path}: {error}"))?;
     case::parse(&text).ok_or(format!("{path}: a line not of the form"))
@@ -253,6 +260,8 @@ fn main() -> ExitCode {
         ["examples", folder] => stored::examples(folder).map(|told| print!("{told}")),
         ["text", log, sample] => stored::text(log, sample).map(|text| print!("{text}")),
         ["dwell", log, sample] => stored::dwell(log, sample).map(|text| print!("{text}")),
+        ["flags", log, sample] => stored::flags(log, sample).map(|text| print!("{text}")),
+        ["edges", count, program] => write_edges(&asked, count, program),
         ["judged", folder] => stored::judged(folder).map(|text| print!("{text}")),
         ["played", folder] => stored::played(folder).map(|text| print!("{text}")),
         _ => Err(USAGE.into()),

@@ -2,7 +2,7 @@
 
 use perch::raw;
 use reading::log::{self, Fault, Item, Line};
-use reading::{MEMORY, dwell, fold, number, play, salvage};
+use reading::{MEMORY, dwell, flags, fold, number, play, salvage};
 use std::path::{Path, PathBuf};
 
 /// The most steps that a cursor takes in a log that is refused.
@@ -89,6 +89,11 @@ pub fn text(log: &str, sample: &str) -> Result<String, String> {
 /// What `perch dwell` writes for a log, by the reading.
 pub fn dwell(log: &str, sample: &str) -> Result<String, String> {
     Ok(dwell::text(&read(log)?, &read(sample)?))
+}
+
+/// What `perch interrupts` writes for a log, by the reading.
+pub fn flags(log: &str, sample: &str) -> Result<String, String> {
+    Ok(flags::text(&read(log)?, &read(sample)?))
 }
 
 /// What `crates/test_logs/stdout` holds: of each log the check, some items, some bodies, a cursor's way, the log folded, and the

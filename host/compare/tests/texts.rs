@@ -18,7 +18,7 @@ fn cases_are_read_back() {
         }
         assert_eq!(parse(&written), Some(vec![(case, outcome)]));
     }
-    assert_eq!(lengths.len(), 8);
+    assert_eq!(lengths.len(), 9);
 }
 
 #[test]

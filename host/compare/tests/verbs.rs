@@ -3,7 +3,7 @@
 use reading::log::{Item, items, machine};
 use reading::salvage::Done;
 use reading::why::why;
-use reading::{Chip, Machine, dwell, meter, play, sheet};
+use reading::{Chip, Machine, dwell, flags, meter, play, sheet};
 use std::fs::read;
 
 const HOST: &str = concat!(env!("CARGO_MANIFEST_DIR"), "/..");
@@ -183,18 +183,10 @@ fn repairs_of_the_examples() {
 
 #[test]
 fn dwell_tables_of_the_examples() {
-    let host = concat!(env!("CARGO_MANIFEST_DIR"), "/..");
-    let memory = read(format!("{host}/../examples/sample.bin")).unwrap();
-    let mut files = 0;
-    for entry in std::fs::read_dir(format!("{host}/verbs")).unwrap().flatten() {
-        let name = entry.file_name().into_string().unwrap();
-        let Some(log) = name.strip_prefix("dwell-") else {
-            continue;
-        };
-        let log = read(format!("{host}/../examples/{log}.log")).unwrap();
-        let stored = String::from_utf8(read(entry.path()).unwrap()).unwrap();
-        assert_eq!(dwell::text(&log, &memory), stored, "{name}");
-        files += 1;
-    }
-    assert!(files > 0);
+    hold("dwell-", |log| dwell::text(&example(&format!("{log}.log")), &example("sample.bin")));
+}
+
+#[test]
+fn interrupts_of_the_examples() {
+    hold("interrupts-", |log| flags::text(&example(&format!("{log}.log")), &example("sample.bin")));
 }

@@ -11,6 +11,7 @@ pub mod bytes;
 pub mod chip;
 pub mod cursor;
 pub mod dwell;
+pub mod flags;
 pub mod fold;
 pub mod interrupt;
 pub mod layout;
