@@ -7,7 +7,7 @@ use native.Mathlib.Omega.{arith}
 use lib.Count.{ones, ones-step, ones-le}
 use borrow.Author.Tests.{lt-ltb, eq-eqb, ne-eqb}
 use Rattle.chip_dmc_output.specs.Output.{levelMoved}
-use Rattle.chip_sheet.specs.Byte.{lowSteps, eightSteps, byOnes, Agree}
+use Rattle.chip_sheet.specs.Byte.{lowSteps, Agree}
 
 -- one step away from the ends: 2 down, and 4 up for a set bit
 one : (byte b l : ℕ) → byte % 2 ≡ b → 2 ≤ l → l ≤ 125 → levelMoved byte l + 2 ≡ l + 4 * b

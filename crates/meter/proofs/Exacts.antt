@@ -1,18 +1,13 @@
 -- Every level that is handed out is its exact fraction of 32,768, and times 32,768 it is the level again. Assumes nothing.
 use Prim.Native.Nat.{ℕ, _≤_}
-use mathlib.Core.Path.{_≡_}
-use mathlib.Core.Bool.{false}
-use mathlib.Core.List.{List, [], _∷_}
+use mathlib.Core.List.{List}
 use native.Mathlib.Omega.{arith}
-use lib.IntN.{pos}
-use lib.Ieee.{Float, binary32, mul, ofInt}
-use lib.Ieee.Exact.{HasValue}
-use Rattle.chip_mixer.specs.Fraction.{scale, fractionOf}
+use Rattle.chip_mixer.specs.Fraction.{fractionOf}
 use Rattle.chip_mixer.proofs.FractionLaws.{over, again}
 use Rattle.meter.specs.declared.Measured.{Measured}
 use Rattle.meter.specs.declared.Measured.the-variants.{Refused, NoLevels, Silent, Steady, Moving}
 use Rattle.meter.specs.Measure.{measureOf, measuredLevels}
-use Rattle.meter.specs.Meter.{valuesOf, inFractions, meterOf}
+use Rattle.meter.specs.Meter.{valuesOf, inFractions}
 use Rattle.meter.specs.Says.{Says, Exact, Exactly, MeterExact}
 use Rattle.meter.proofs.Answers.{says}
 
