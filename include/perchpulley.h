@@ -57,7 +57,7 @@
 extern "C" {
 #endif
 
-#define PERCH_VERSION 9            /* of this header; perch_version() is the library's */
+#define PERCH_VERSION 10           /* of this header; perch_version() is the library's */
 #define PERCH_STATE_SIZE 91        /* bytes of a state; perch_state_size() at run time */
 #define PERCH_MEMORY_SIZE 32768    /* bytes of sample memory, $8000 to $FFFF */
 #define PERCH_MOST_CLOCKS 1000000  /* clocks that one run may be asked for */
@@ -333,6 +333,11 @@ uint64_t perch_play_on(uint8_t *player, size_t p, const uint8_t *log, size_t n, 
 /* Writes the text of a refusal, `play=1` and `refused=NUMBER:PLACE`, or nothing where the text is too short for it. Of a
  * place of more than ten digits it writes the last ten. The answer is 2^32 x bytes written. */
 uint64_t perch_refusal_text(uint8_t number, uint64_t place, uint8_t *text, size_t t);
+
+/* Writes a refusal's number in words, such as "value outside its range", with nothing behind them, or nothing where the text is
+ * too short for them: 60 bytes hold any. A number that has no words of its own is "refused". The answer is 2^32 x bytes
+ * written. */
+uint64_t perch_reason(uint8_t number, uint8_t *text, size_t t);
 
 #ifdef __cplusplus
 }

@@ -18,7 +18,7 @@ from array import array
 from collections import namedtuple
 from ctypes import c_float, c_size_t, c_uint8, c_uint16, c_uint32, c_uint64, c_void_p
 
-VERSION = 9  # of the library that this file is for
+VERSION = 10  # of the library that this file is for
 MEMORY = 32768  # bytes of sample memory
 NTSC, PAL = 0, 1  # the machines
 MOST_CLOCKS = 1000000  # clocks that one run of the library may be asked for
@@ -37,35 +37,13 @@ Meter = namedtuple("Meter", "case lowest highest")
 _CHANNELS = {"square1": 0, "square2": 1, "noise": 3}
 _REASONS = ("disabled", "length", "period", "sweep", "step", "volume")
 _CASES = ("none", "silent", "steady", "moving")
-_WORDS = {
-    1: "sample memory isn't 32,768 bytes",
-    2: "a state field is outside its range",
-    3: "a run of more than 1,000,000 clocks",
-    4: "register not among 4000..4013, 4015, 4017",
-    5: "log longer than 60,000 bytes",
-    7: "a ninth loop opened inside eight",
-    8: "`done` with no loop open, or `stop` with one open",
-    9: "over 2,000,000,000 clocks or 1,000,000 turns in all",
-    10: "`stop` differs from the clocks in all",
-    11: "the log has no such item",
-    13: "a count over 4,000,000,000",
-    14: "unknown key, or one that is not allowed here",
-    15: "value not of its shape",
-    16: "value outside its range",
-    17: "line feed missing",
-    18: "`stop` missing",
-    19: "something after `stop`",
-    24: "no such channel",
-    29: "a level above 32,767",
-}
-
 
 class Refused(Exception):
     """A refusal: its number, of a log also its place, a byte offset from 0."""
 
     def __init__(self, number, place=0):
         self.number, self.place = number, place
-        self.words = _WORDS.get(number, "refused")
+        self.words = _words(number)
         super().__init__(f"refused={number}:{place}: {self.words}")
 
 
@@ -93,6 +71,7 @@ _FUNCTIONS = {
     "player_size": (c_size_t, []),
     "begin": (c_uint64, _SLICE + _SLICE + _SLICE),
     "play_on": (c_uint64, _SLICE + _SLICE + _SLICE + _SLICE),
+    "reason": (c_uint64, [c_uint8] + _SLICE),
 }
 
 
@@ -115,6 +94,12 @@ def _loaded():
 
 
 _library = _loaded()
+
+
+def _words(number):
+    """A refusal's number in words."""
+    text = (c_uint8 * 60)()
+    return bytes(text[: _library.perch_reason(number, text, len(text)) >> 32]).decode()
 
 
 def _value(answer):

@@ -121,7 +121,7 @@ static void players(void)
     static const char expected[] = "play=1\nlevel=0:8074\nlevel=0:16620\nread=10:00\nread=20:00\nread=30:00\nstop=30\n";
     const uint8_t *log = (const uint8_t *)song;
     uint8_t player[PERCH_PLAYER_SIZE], mark[PERCH_PLAYER_SIZE];
-    uint8_t text[100], refusal[PERCH_REFUSAL_SIZE];
+    uint8_t text[100], refusal[PERCH_REFUSAL_SIZE], words[60];
     const size_t n = strlen(song), m = sizeof memory, p = sizeof player;
     size_t written = 0;
     uint64_t answer = perch_begin(player, p, log, n, memory, m);
@@ -149,6 +149,10 @@ static void players(void)
     answer = perch_refusal_text(255, UINT64_MAX, refusal, sizeof refusal);
     expect("a refusal's text", PERCH_WRITTEN(answer), strlen("play=1\nrefused=255:3709551615\n"));
     expect("the last ten digits", (uint64_t)memcmp(refusal, "play=1\nrefused=255:3709551615\n", PERCH_WRITTEN(answer)), 0);
+    answer = perch_reason(PERCH_REFUSED_RANGE, words, sizeof words);
+    expect("a refusal in words", PERCH_WRITTEN(answer), strlen("value outside its range"));
+    expect("its words", (uint64_t)memcmp(words, "value outside its range", PERCH_WRITTEN(answer)), 0);
+    expect("no room for them", perch_reason(PERCH_REFUSED_RANGE, words, 22), 0);
 }
 
 static void chips(void)

@@ -73,5 +73,5 @@ pub(crate) fn usage(file: i32) -> bool {
 
 // The number is that of `crates/perchpulley/specs/Version.antt`.
 pub(crate) fn version() -> bool {
-    program_io::write_all(STDOUT_FILENO, b"perch 9\n")
+    program_io::write_all(STDOUT_FILENO, b"perch 10\n")
 }

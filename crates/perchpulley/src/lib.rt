@@ -23,7 +23,7 @@ pub mod salvages;
 pub extern "C" fn perch_version() -> u32
     ensures { λ r. ⌜ r ≡ version ⌝ }
 {
-    9
+    10
 }
 
 // How many bytes a state is.

@@ -3,7 +3,9 @@
 ghost use mathlib.Core.Path.{_≡_};
 ghost use Rattle.text_print.specs.Printed.{printed};
 ghost use Rattle.play_text.specs.Entries.{refusalText};
+ghost use Rattle.perch_reasons.specs.Reasons.{reasonText};
 ghost use Rattle.c_player.specs.Player.{playerSize};
+ghost use Rattle.c_reason.specs.Packed.{reasonPacked};
 ghost use Rattle.c_play.specs.Players.{beginPacked, beginBytes, Continued, refusalPacked};
 
 // How many bytes a player is.
@@ -44,4 +46,13 @@ pub extern "C" fn perch_refusal_text(number: u8, place: u64, text: &mut [u8]) ->
     ensures { λ r. ⌜ now (text .exit) ≡ printed (now (text .entry)) 0 (refusalText number place) ⌝ }
 {
     c_play::refusal_text(number, place, text)
+}
+
+// Writes a refusal's number in words where they fit, else nothing.
+#[no_mangle]
+pub extern "C" fn perch_reason(number: u8, text: &mut [u8]) -> u64
+    ensures { λ r. ⌜ r ≡ reasonPacked number (now (text .entry)) ⌝ }
+    ensures { λ r. ⌜ now (text .exit) ≡ printed (now (text .entry)) 0 (reasonText number) ⌝ }
+{
+    c_reason::reason(number, text)
 }

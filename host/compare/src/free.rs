@@ -8,7 +8,7 @@ use crate::players::looped;
 use crate::random::Random;
 use perch::raw;
 use reading::log::MOST_BYTES;
-use reading::player;
+use reading::{player, words};
 
 /// A log of free bytes, a byte of any value or one of those that logs are made of.
 pub fn log(random: &mut Random) -> Vec<u8> {
@@ -132,11 +132,25 @@ pub fn compare(seed: u64, logs: u64, memory: &[u8]) -> Result<String, String> {
     Ok(format!("{logs} logs ({})", counts.told()?))
 }
 
+/// Every number in words, in texts of every length up to one more than any words have.
+fn in_words() -> Result<(), String> {
+    for (number, size) in (0..=u8::MAX).flat_map(|number| (0..=61).map(move |size| (number, size))) {
+        let (mut ours, mut theirs) = (vec![b'?'; size], vec![b'?'; size]);
+        let asked = || format!("{number} in words, in {size} bytes");
+        same(asked, words::reason(number, &mut ours), raw::reason(number, &mut theirs))?;
+        if ours != theirs {
+            return Err(format!("{}: {}", asked(), theirs.escape_ascii()));
+        }
+    }
+    Ok(())
+}
+
 /// The texts of any refusals: every number, places of any number of digits, texts of any length.
 pub fn texts(seed: u64, texts: u64) -> Result<String, String> {
     let things =
         [("places of ten digits", 200), ("of more", 2000), ("too short by one", 500), ("just long enough", 500)];
     let mut counts = Counts::new(texts, things);
+    in_words()?;
     for number in 0..texts {
         let random = &mut Random::new(seed, "texts", number);
         let tens = 10u64.pow(random.within(0..=19) as u32);

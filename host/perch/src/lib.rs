@@ -143,7 +143,7 @@ pub const MEMORY: usize = 32_768;
 pub const STATE: usize = 91;
 
 /// The version of the header that this wraps; the library's is `version()`.
-pub const VERSION: u32 = 9;
+pub const VERSION: u32 = 10;
 
 /// The version of the library linked. One of another version has other sizes, layouts or functions: the first call of any other
 /// function here ends the program where it isn't `VERSION`.
@@ -163,40 +163,9 @@ pub struct Refusal(pub u8);
 
 impl fmt::Display for Refusal {
     fn fmt(&self, f: &mut fmt::Formatter) -> fmt::Result {
-        f.write_str(match self.0 {
-            1 => "sample memory isn't 32,768 bytes",
-            2 => "a state field is outside its range",
-            3 => "a run of more than 1,000,000 clocks",
-            4 => "register not among 4000..4013, 4015, 4017",
-            5 => "log longer than 60,000 bytes",
-            7 => "a ninth loop opened inside eight",
-            8 => "`done` with no loop open, or `stop` with one open",
-            9 => "over 2,000,000,000 clocks or 1,000,000 turns in all",
-            10 => "`stop` differs from the clocks in all",
-            11 => "the log has no such item",
-            12 => "no loop line begins there",
-            13 => "a count over 4,000,000,000",
-            14 => "unknown key, or one that is not allowed here",
-            15 => "value not of its shape",
-            16 => "value outside its range",
-            17 => "line feed missing",
-            18 => "`stop` missing",
-            19 => "something after `stop`",
-            20 => "level above 127",
-            21 => "address outside 32768..65535",
-            22 => "length above 4081",
-            23 => "buffer shorter than the length",
-            24 => "no such channel",
-            25 => "unknown command",
-            26 => "register not among 00..13, 15, 17",
-            27 => "the stream ends before its end command",
-            28 => "the log is longer than the buffer or 60,000 bytes",
-            29 => "a level above 32,767",
-            30 => "the repaired log is longer than the buffer or 60,000 bytes",
-            31 => "the list has no room",
-            32 => "buffer shorter than the log",
-            number => return write!(f, "refusal {number}"),
-        })
+        let mut text = [0; 60];
+        let written = (raw::reason(self.0, &mut text) >> 32) as usize;
+        f.write_str(&String::from_utf8_lossy(&text[..written]))
     }
 }
 

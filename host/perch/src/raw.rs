@@ -11,8 +11,8 @@ use std::sync::Once;
 use standin::{
     perch_access, perch_begin, perch_body, perch_check, perch_clock, perch_fold, perch_import, perch_in_range,
     perch_interrupt_line, perch_item, perch_level, perch_level_fraction, perch_meter, perch_meter_records,
-    perch_next_interrupt, perch_play_on, perch_player_size, perch_power_on, perch_refusal_text, perch_run,
-    perch_run_plain, perch_salvage, perch_sheet, perch_state_size, perch_why,
+    perch_next_interrupt, perch_play_on, perch_player_size, perch_power_on, perch_reason, perch_refusal_text,
+    perch_run, perch_run_plain, perch_salvage, perch_sheet, perch_state_size, perch_why,
 };
 #[cfg(feature = "standin")]
 use standin::{perch_cursor_next, perch_cursor_size, perch_cursor_start, perch_items, perch_turns, perch_version};
@@ -74,6 +74,7 @@ unsafe extern "C" {
         t: usize,
     ) -> u64;
     fn perch_refusal_text(number: u8, place: u64, text: *mut u8, t: usize) -> u64;
+    fn perch_reason(number: u8, text: *mut u8, t: usize) -> u64;
     fn perch_import(stream: *const u8, n: usize, text: *mut u8, t: usize) -> u64;
     fn perch_fold(log: *const u8, n: usize, text: *mut u8, t: usize) -> u64;
     fn perch_salvage(log: *const u8, n: usize, text: *mut u8, t: usize, list: *mut u32, w: usize) -> u64;
@@ -233,6 +234,12 @@ pub fn play_on(player: &mut [u8], log: &[u8], memory: &[u8], text: &mut [u8]) ->
 pub fn refusal_text(number: u8, place: u64, text: &mut [u8]) -> u64 {
     same_version();
     unsafe { perch_refusal_text(number, place, text.as_mut_ptr(), text.len()) }
+}
+
+/// Writes a refusal's number in words.
+pub fn reason(number: u8, text: &mut [u8]) -> u64 {
+    same_version();
+    unsafe { perch_reason(number, text.as_mut_ptr(), text.len()) }
 }
 
 /// Writes the log of a VGM command stream.

@@ -116,7 +116,7 @@ fn refusals_in_words() {
         numbers += 1;
     }
     assert!(numbers > 30);
-    assert_eq!(Refusal(6).to_string(), "refusal 6");
+    assert_eq!(Refusal(6).to_string(), "refused");
     assert_eq!(fault(16, 67).to_string(), "value outside its range at 67");
     assert_eq!(perch::refusal_text(fault(16, 67)), b"play=1\nrefused=16:67\n");
 }

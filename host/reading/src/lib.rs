@@ -26,6 +26,7 @@ pub mod salvage;
 pub mod sheet;
 pub mod vgm;
 pub mod why;
+pub mod words;
 
 pub use chip::Chip;
 pub use machine::Machine;

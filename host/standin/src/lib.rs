@@ -10,7 +10,7 @@
 
 use reading::{
     access, boundary, cursor as cursors, fold, interrupt, layout, meter, mixer, player as pieces, salvage, sheet, vgm,
-    why,
+    why, words,
 };
 use std::slice::{from_raw_parts, from_raw_parts_mut};
 
@@ -134,6 +134,11 @@ pub unsafe extern "C" fn perch_play_on(
 #[cfg_attr(feature = "export", unsafe(no_mangle))]
 pub unsafe extern "C" fn perch_refusal_text(number: u8, place: u64, text: *mut u8, t: usize) -> u64 {
     pieces::refusal_text(number, place, unsafe { from_raw_parts_mut(text, t) })
+}
+
+#[cfg_attr(feature = "export", unsafe(no_mangle))]
+pub unsafe extern "C" fn perch_reason(number: u8, text: *mut u8, t: usize) -> u64 {
+    words::reason(number, unsafe { from_raw_parts_mut(text, t) })
 }
 
 #[cfg_attr(feature = "export", unsafe(no_mangle))]
