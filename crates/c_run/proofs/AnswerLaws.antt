@@ -17,7 +17,7 @@ use Rattle.chip.specs.declared.State.{State}
 use Rattle.run_answer.specs.Run.{roomOf, number, refusal}
 use Rattle.run_answer.specs.declared.Ran.{Ran}
 use Rattle.run_answer.proofs.AnswerLaws.{number-fine}
-use Rattle.run_dwell.specs.Dwell.{dwellClockwork, dwellNumber, dwellBy, dwellRefusal, dwellAnswered, dwellAnswer, dwellLent}
+use Rattle.run_dwell.specs.Dwell.{dwellClockwork, dwellNumber, dwellBy, dwellRefusal, runAnswered, runAnswer, runLent}
 use Rattle.run_dwell.specs.declared.Counted.{Counted}
 use Rattle.run_dwell.proofs.DwellLaws.{number-right}
 use Rattle.c_state.specs.Bytes.{stateIn}
@@ -31,7 +31,7 @@ use Rattle.c_chip.proofs.StoreLaws.{stored}
 
 -- 128 of them are a table
 pub table-is : (memory : List ℕ) (s : State) (counts : List ℕ) (count : ℕ) (words : List ℕ) → length counts ≡ 128
-    → (tableAnswer memory s counts count words ≡ dwellAnswer memory s counts count words) × (tableLent memory s counts count words ≡ dwellLent memory s counts count words)
+    → (tableAnswer memory s counts count words ≡ runAnswer memory s counts count words) × (tableLent memory s counts count words ≡ runLent memory s counts count words)
 unfolding tableAnswer tableLent
 table-is memory s counts count words e = rw (eq-eqb _ _ e) (refl, refl)
 
@@ -43,16 +43,16 @@ table-none memory s counts count words e = rw (ne-eqb _ _ e) (refl, refl)
 
 -- a run on the table that they are
 pub table-ran : (memory : List ℕ) (s : State) (counts : List ℕ) (count : ℕ) (words : List ℕ) → length counts ≡ 128 → (table : List ℕ) → table ≡ tableOf counts
-    → (r : Counted) (after : List ℕ) → r ≡ dwellAnswer memory s table count words → after ≡ dwellLent memory s table count words
+    → (r : Counted) (after : List ℕ) → r ≡ runAnswer memory s table count words → after ≡ runLent memory s table count words
     → (kept : List ℕ) → kept ≡ countsAfter (r .counts) counts
     → (r .ran ≡ tableAnswer memory s counts count words .ran) × ((after ≡ tableLent memory s counts count words) × (kept ≡ tableAnswer memory s counts count words .counts))
 table-ran memory s counts count words size table t r after a l kept k =
     let same : table ≡ counts = t ∙ table-of counts size in
     let z = table-is memory s counts count words size in
-    let is : r ≡ tableAnswer memory s counts count words = a ∙ ap (λ (x : List ℕ). dwellAnswer memory s x count words) same ∙ sym (z .0) in (
+    let is : r ≡ tableAnswer memory s counts count words = a ∙ ap (λ (x : List ℕ). runAnswer memory s x count words) same ∙ sym (z .0) in (
       ap (λ (x : Counted). x .ran) is,
       (
-        l ∙ ap (λ (x : List ℕ). dwellLent memory s x count words) same ∙ sym (z .1),
+        l ∙ ap (λ (x : List ℕ). runLent memory s x count words) same ∙ sym (z .1),
         k ∙ counts-after (r .counts) counts size ∙ ap (λ (x : Counted). x .counts) is,
       ),
     )
@@ -69,8 +69,8 @@ table-refused memory s counts count words size n e ran a =
 
 -- THE CLOCKS DONE
 
-answer-most : (memory : List ℕ) (s : State) (counts : List ℕ) (count : ℕ) (words : List ℕ) → dwellAnswer memory s counts count words .ran .done ≤ 1_000_000
-unfolding dwellAnswer dwellAnswered dwellBy plain
+answer-most : (memory : List ℕ) (s : State) (counts : List ℕ) (count : ℕ) (words : List ℕ) → runAnswer memory s counts count words .ran .done ≤ 1_000_000
+unfolding runAnswer runAnswered dwellBy plain
 answer-most memory s counts count words =
     pick-each (λ (r : Counted). r .ran .done ≤ 1_000_000) (eqb (dwellNumber memory s counts count) 0)
     (λ e.
@@ -89,8 +89,8 @@ table-most memory s counts count words =
 -- A RUN IS DONE ONLY ON A STATE IN RANGE
 
 answer-done : (memory : List ℕ) (s : State) (counts : List ℕ) (count : ℕ) (words : List ℕ)
-    → eqb (dwellAnswer memory s counts count words .ran .number) 0 ≡ true → inRange s ≡ true
-unfolding dwellAnswer dwellAnswered
+    → eqb (runAnswer memory s counts count words .ran .number) 0 ≡ true → inRange s ≡ true
+unfolding runAnswer runAnswered
 answer-done memory s counts count words e =
     let n = dwellNumber memory s counts count in
     number-fine memory s count (number-right memory s counts count (eqb-true n 0 (by n (eqb n 0) refl _ e)) .0) .1

@@ -7,7 +7,7 @@ use Rattle.arith.specs.Pick.{pick}
 use Rattle.chip.specs.declared.State.{State}
 use Rattle.run_answer.specs.Run.{number}
 use Rattle.run_answer.specs.declared.Ran.{Ran}
-use Rattle.run_dwell.specs.Dwell.{dwellRefusal, dwellAnswer, dwellLent}
+use Rattle.run_dwell.specs.Dwell.{dwellRefusal, runAnswer, runLent}
 use Rattle.run_dwell.specs.declared.Counted.{Counted}
 use Rattle.c_chip.specs.Boundary.{bytesAfter}
 
@@ -22,10 +22,10 @@ noTable memory s count = pick (eqb (number memory s count) 0) 13 (number memory 
 -- a run on a state with lent counts: 1, then 2, then 3, then 13
 unfoldable pub tableAnswer : List ℕ → State → List ℕ → ℕ → List ℕ → Counted
 tableAnswer memory s counts count words =
-    pick (eqb (length counts) 128) (dwellAnswer memory s counts count words) (dwellRefusal (noTable memory s count) s counts)
+    pick (eqb (length counts) 128) (runAnswer memory s counts count words) (dwellRefusal (noTable memory s count) s counts)
 
 unfoldable pub tableLent : List ℕ → State → List ℕ → ℕ → List ℕ → List ℕ
-tableLent memory s counts count words = pick (eqb (length counts) 128) (dwellLent memory s counts count words) words
+tableLent memory s counts count words = pick (eqb (length counts) 128) (runLent memory s counts count words) words
 
 -- the bytes after it
 abbrev pub runBytes : Ran → List ℕ → List ℕ

@@ -69,8 +69,8 @@ abbrev pub nought : Float
 nought = fin false 0 (pos 0)
 
 -- the level as a float: 2, then the level over 32,768
-unfoldable pub fractionAnswer : State → Scaled
-fractionAnswer s =
+unfoldable pub levelF32Answer : State → Scaled
+levelF32Answer s =
     pick (inRange s) (record { number = 0; fraction = fractionOf (stateLevel s) }) (record { number = 2; fraction = nought })
 
 -- one clock: 1, then 2, then the state a clock later

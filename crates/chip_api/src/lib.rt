@@ -2,7 +2,7 @@
 // back as it came where it refuses.
 ghost use mathlib.Core.Path.{_≡_};
 ghost use Rattle.chip.specs.Range.{inRange, powerOn};
-ghost use Rattle.chip_api.specs.Answer.{moved, allowed, refusedAccess, doneAccess, accessAnswer, lineAnswer, levelAnswer, fractionAnswer, clockAnswer};
+ghost use Rattle.chip_api.specs.Answer.{moved, allowed, refusedAccess, doneAccess, accessAnswer, lineAnswer, levelAnswer, levelF32Answer, clockAnswer};
 use bus::Access;
 use chip::State;
 
@@ -149,7 +149,7 @@ pub fn level(s: State) -> Mixed
 
 // The mixed level over 32,768.
 pub fn level_f32(s: State) -> Scaled
-    ensures { λ r. ⌜ r ≡ fractionAnswer s ⌝ }
+    ensures { λ r. ⌜ r ≡ levelF32Answer s ⌝ }
 {
     if s.in_range() {
         let fraction = chip_mixer::fraction(s.level());

@@ -14,9 +14,9 @@ use Rattle.chip.specs.Clock.{chipClock}
 use Rattle.chip.specs.Level.{stateLevel}
 use Rattle.chip.specs.Range.{inRange, Bytes}
 use Rattle.chip.specs.declared.State.{State}
-use Rattle.run_answer.specs.Run.{number, roomOf, answered, answer}
+use Rattle.run_answer.specs.Run.{number, roomOf, answered, uncountedAnswer}
 use Rattle.run_answer.proofs.AnswerLaws as answers
-use Rattle.run_dwell.specs.Dwell.{dwellLimit, dwellPlace, dwellClockwork, dwellNumber, dwellBy, dwellAnswered, dwellAnswer}
+use Rattle.run_dwell.specs.Dwell.{dwellLimit, dwellPlace, dwellClockwork, dwellNumber, dwellBy, runAnswered, runAnswer}
 use Rattle.run_dwell.specs.Kept.{dwellPlaces}
 use Rattle.run_dwell.specs.declared.Counted.{Counted}
 use Rattle.run_dwell.proofs.DwellLaws.{number-none, dwell-alike}
@@ -48,7 +48,7 @@ module _ (memory : List ℕ) (s : State) (counts : List ℕ) (left : ℕ) (words
       plain-went (dwellClockwork memory) (roomOf words) (portion left) t ∙ counting-times (chipClock memory) dwellPlace stateLevel dwellLimit done s counts
 
   module _ (long : length memory ≡ 32768) (fine : inRange s ≡ true) (few : sum counts + left ≤ 2000000000)
-      (e : r ≡ dwellAnswer memory s counts (portion left) words) where
+      (e : r ≡ runAnswer memory s counts (portion left) words) where
     -- no count is near the limit
     low : (i : ℕ) → getD counts i 0 + portion left ≤ dwellLimit
     low i = omega (arith, count-most counts i)
@@ -61,12 +61,12 @@ module _ (memory : List ℕ) (s : State) (counts : List ℕ) (left : ℕ) (words
 
     ran : r
         ≡ record { ran = record { number = 0; state = read .state .state; done = read .done; records = length (read .marks) }; counts = read .state .counts }
-    unfolding dwellAnswer dwellAnswered
+    unfolding runAnswer runAnswered
     ran = e ∙ rw fine-number refl
 
     -- as a run without counts
-    alike : r .ran ≡ answer memory s (portion left) words
-    unfolding answer answered
+    alike : r .ran ≡ uncountedAnswer memory s (portion left) words
+    unfolding uncountedAnswer answered
     alike =
         ap (λ (x : Counted). x .ran) ran
         ∙ rw plain-number

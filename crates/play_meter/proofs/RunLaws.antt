@@ -15,7 +15,7 @@ use Rattle.chip.specs.Clock.{chipClock}
 use Rattle.chip.specs.Range.{inRange, Bytes}
 use Rattle.chip.specs.declared.State.{State}
 use Rattle.arith.specs.Over.{over}
-use Rattle.run_answer.specs.Run.{chipClockwork, flat, readBy, answered, answer, lent}
+use Rattle.run_answer.specs.Run.{chipClockwork, flat, readBy, answered, uncountedAnswer, uncountedLent}
 use Rattle.run_answer.specs.declared.Ran.{Ran}
 use Rattle.run_answer.proofs.AnswerLaws.{number-none}
 use Rattle.meter.specs.declared.Span.{Span}
@@ -95,21 +95,21 @@ module _ (memory : List ℕ) (s : State) (span : Span) (left : ℕ) (words after
   abbrev read : Progress State
   read = plain (chipClockwork memory) (length words / 2) (portion left) s
 
-  ran : r ≡ answer memory s (portion left) words → r ≡ record { number = 0; state = read .state; done = read .done; records = length (read .marks) }
-  unfolding answer answered readBy
+  ran : r ≡ uncountedAnswer memory s (portion left) words → r ≡ record { number = 0; state = read .state; done = read .done; records = length (read .marks) }
+  unfolding uncountedAnswer answered readBy
   ran e = e ∙ rw (number-none memory s (portion left) long fine (omega arith)) refl
 
-  kept : after ≡ lent memory s (portion left) words → after ≡ over (flat (read .marks)) words
-  unfolding lent readBy
+  kept : after ≡ uncountedLent memory s (portion left) words → after ≡ over (flat (read .marks)) words
+  unfolding uncountedLent readBy
   kept e = e ∙ rw (number-none memory s (portion left) long fine (omega arith)) refl
 
-  run-levels : r ≡ answer memory s (portion left) words → after ≡ lent memory s (portion left) words → recordLevels 0 (r .records) after ≡ changed memory (r .done) s
+  run-levels : r ≡ uncountedAnswer memory s (portion left) words → after ≡ uncountedLent memory s (portion left) words → recordLevels 0 (r .records) after ≡ changed memory (r .done) s
   run-levels e f = rw (ran e, kept f) (records-levels (read .marks) words ∙ plain-heard memory (length words / 2) (portion left) s)
 
-  run-state : r ≡ answer memory s (portion left) words → r .state ≡ iterate (chipClock memory) (r .done) s
+  run-state : r ≡ uncountedAnswer memory s (portion left) words → r .state ≡ iterate (chipClock memory) (r .done) s
   run-state e = rw (ran e) (plain-went (chipClockwork memory) (length words / 2) (portion left) s)
 
-  pub onward : Bytes memory → 2 ≤ length words → 0 < left → r ≡ answer memory s (portion left) words → after ≡ lent memory s (portion left) words
+  pub onward : Bytes memory → 2 ≤ length words → 0 < left → r ≡ uncountedAnswer memory s (portion left) words → after ≡ uncountedLent memory s (portion left) words
       → Onward memory s span left r after
   unfolding clocksOn
   onward bytes room some e f =

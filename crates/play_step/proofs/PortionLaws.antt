@@ -13,7 +13,7 @@ use Rattle.arith.specs.Pick.{pick}
 use Rattle.reading.specs.Reading.{Mark, Progress, start, plain}
 use Rattle.run_answer.specs.declared.Ran.{Ran}
 use Rattle.arith.specs.Over.{over}
-use Rattle.run_answer.specs.Run.{chipClockwork, roomOf, flat, number, readBy, refusal, answered, answer, lent}
+use Rattle.run_answer.specs.Run.{chipClockwork, roomOf, flat, number, readBy, refusal, answered, uncountedAnswer, uncountedLent}
 use Rattle.run_answer.proofs.WordLaws.{length-flat}
 use Rattle.chip.specs.declared.State.{State}
 use Rattle.chip.proofs.RangeLaws.{level-most}
@@ -138,8 +138,8 @@ portion-size memory p room size at h =
 
 -- WHAT A RUN OF A WAIT BRINGS, over the first words of 512
 module _ (memory : List ℕ) (p : Player) (at : ℕ) (out words : List ℕ) (long : length words ≡ 512) (room : ℕ) (is : room ≡ roomFor (length out) at)
-    (ran : Ran) (e : ran ≡ answer memory (p .state) (p .wait) (take (2 * room) words)) (after : List ℕ)
-    (l : after ≡ lent memory (p .state) (p .wait) (take (2 * room) words) ++ drop (2 * room) words) where
+    (ran : Ran) (e : ran ≡ uncountedAnswer memory (p .state) (p .wait) (take (2 * room) words)) (after : List ℕ)
+    (l : after ≡ uncountedLent memory (p .state) (p .wait) (take (2 * room) words) ++ drop (2 * room) words) where
   abbrev S : Progress State
   S = portionOf memory room p
 
@@ -147,7 +147,7 @@ module _ (memory : List ℕ) (p : Player) (at : ℕ) (out words : List ℕ) (lon
   room-is = let n = length-take-le (2 * room) words (let h = room-low (length out) at room is in omega arith) in omega arith
 
   ran-is : ran ≡ record { number = number memory (p .state) (p .wait); state = S .state; done = S .done; records = length (S .marks) }
-  unfolding answer answered readBy portionOf
+  unfolding uncountedAnswer answered readBy portionOf
   ran-is = e ∙ rw room-is (by (eqb (number memory (p .state) (p .wait)) 0) refl)
     where
       by : (t : Bool) → eqb (number memory (p .state) (p .wait)) 0 ≡ t
@@ -177,7 +177,7 @@ module _ (memory : List ℕ) (p : Player) (at : ℕ) (out words : List ℕ) (lon
   test = eqb (number memory (p .state) (p .wait)) 0
 
   after-is : after ≡ flat (S .marks) ++ split test .0
-  unfolding lent readBy over portionOf
+  unfolding uncountedLent readBy over portionOf
   after-is = l ∙ rw room-is (split test .1)
 
   entries-are : levelEntries (p .time) (ran .records) after ≡ map (entryAt (p .time)) (S .marks)

@@ -16,7 +16,7 @@ use Rattle.chip.specs.Clock.{chipClock}
 use Rattle.chip.specs.Range.{inRange, Bytes}
 use Rattle.chip.specs.declared.State.{State}
 use Rattle.chip_api.specs.Answer.{isMemory}
-use Rattle.run_answer.specs.Run.{chipClockwork, readBy, answered, answer}
+use Rattle.run_answer.specs.Run.{chipClockwork, readBy, answered, uncountedAnswer}
 use Rattle.run_answer.specs.declared.Ran.{Ran}
 use Rattle.run_answer.proofs.AnswerLaws.{number-none}
 use Rattle.play_rules.proofs.RoomLaws.{plain-all, plain-most, plain-few, plain-room}
@@ -44,8 +44,8 @@ pub record Nearer (memory : List ℕ) (s : State) (left : ℕ) (r : Ran) : Type 
   pub same : iterate (chipClock memory) (left - r .done) (r .state) ≡ iterate (chipClock memory) left s
 
 pub nearer : (memory : List ℕ) (s : State) (left : ℕ) (words : List ℕ) (r : Ran) → length memory ≡ 32768 → Bytes memory → inRange s ≡ true → 2 ≤ length words → 0 < left
-    → r ≡ answer memory s (portion left) words → Nearer memory s left r
-unfolding answer answered readBy
+    → r ≡ uncountedAnswer memory s (portion left) words → Nearer memory s left r
+unfolding uncountedAnswer answered readBy
 nearer memory s left words r long bytes fine room some e =
     let n = portion left in
     let p = plain (chipClockwork memory) (length words / 2) n s in

@@ -8,8 +8,8 @@ ghost use Rattle.arith.specs.Pick.{pick};
 ghost use Rattle.leap_law.specs.Frame.{beforeStep};
 ghost use Rattle.chip.specs.Range.{inRange};
 ghost use Rattle.arith.specs.Over.{over};
-ghost use Rattle.run_answer.specs.Run.{answer, answered, lent, readBy, flat, stored};
-ghost use Rattle.run_dwell.specs.Dwell.{dwellLimit, countsWithin, dwellBy, dwellAnswered, dwellAnswer, dwellLent};
+ghost use Rattle.run_answer.specs.Run.{uncountedAnswer, answered, uncountedLent, readBy, flat, stored};
+ghost use Rattle.run_dwell.specs.Dwell.{dwellLimit, countsWithin, dwellBy, runAnswered, runAnswer, runLent};
 ghost use Rattle.run_walk.specs.Walk.{Open, Walked};
 ghost use Rattle.run_loops.specs.Leap.{stretchEnd};
 ghost use Rattle.run_loops.specs.Stretch.{Standing, Worked, Stretched};
@@ -222,8 +222,8 @@ fn run_on(s: State, memory: &[u8], count: u32, words: &mut [u32]) -> Ran
 
 // A run whose counts nobody asks for, leaping wherever nothing can change: by the chip without counts.
 pub fn uncounted(s: State, memory: &[u8], count: u64, words: &mut [u32]) -> Ran
-    ensures { λ r. ⌜ r ≡ answer (now (memory .entry)) s count (now (words .entry)) ⌝ }
-    ensures { λ r. ⌜ now (words .exit) ≡ lent (now (memory .entry)) s count (now (words .entry)) ⌝ }
+    ensures { λ r. ⌜ r ≡ uncountedAnswer (now (memory .entry)) s count (now (words .entry)) ⌝ }
+    ensures { λ r. ⌜ now (words .exit) ≡ uncountedLent (now (memory .entry)) s count (now (words .entry)) ⌝ }
 {
     let number = run_answer::number_of(s, memory, count);
     if number != 0 {
@@ -294,7 +294,7 @@ fn run_counted(
     requires { ⌜ inRange s ≡ true ⌝ }
     requires { ⌜ count ≤ 1000000 ⌝ }
     requires { ⌜ countsWithin dwellLimit counts ≡ true ⌝ }
-    ensures { λ r. ⌜ r ≡ dwellAnswered 0 s counts (dwellBy (now (memory .entry)) s counts count (now (words .entry))) ⌝ }
+    ensures { λ r. ⌜ r ≡ runAnswered 0 s counts (dwellBy (now (memory .entry)) s counts count (now (words .entry))) ⌝ }
     ensures { λ r. ⌜ now (words .exit) ≡ over (flat (dwellBy (now (memory .entry)) s counts count (now (words .entry)) .marks)) (now (words .entry)) ⌝ }
 {
     let most = open_clocks(s, memory, counts, count);
@@ -309,8 +309,8 @@ fn run_counted(
 
 // A run with its dwell table, leaping wherever nothing can change.
 pub fn run(s: State, memory: &[u8], counts: [u32; 128], count: u64, words: &mut [u32]) -> Counted
-    ensures { λ r. ⌜ r ≡ dwellAnswer (now (memory .entry)) s counts count (now (words .entry)) ⌝ }
-    ensures { λ r. ⌜ now (words .exit) ≡ dwellLent (now (memory .entry)) s counts count (now (words .entry)) ⌝ }
+    ensures { λ r. ⌜ r ≡ runAnswer (now (memory .entry)) s counts count (now (words .entry)) ⌝ }
+    ensures { λ r. ⌜ now (words .exit) ≡ runLent (now (memory .entry)) s counts count (now (words .entry)) ⌝ }
 {
     let number = run_dwell::number_of(s, memory, counts, count);
     if number != 0 {

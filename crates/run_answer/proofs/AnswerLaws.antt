@@ -14,7 +14,7 @@ use Rattle.chip.specs.declared.State.{State}
 use Rattle.chip_api.specs.Answer.{isMemory}
 use Rattle.run_answer.specs.declared.Ran.{Ran}
 use Rattle.arith.specs.Over.{over}
-use Rattle.run_answer.specs.Run.{number, flat, readBy, refusal, answered, answer, lent}
+use Rattle.run_answer.specs.Run.{number, flat, readBy, refusal, answered, uncountedAnswer, uncountedLent}
 
 module _ (memory : List ℕ) (s : State) (count : ℕ) where
   pub number-one : (length memory ≡ 32768 → ⊥) → number memory s count ≡ 1
@@ -48,13 +48,13 @@ module _ (memory : List ℕ) (s : State) (count : ℕ) where
   module _ (words : List ℕ) where
     -- a run that is refused
     pub refused : (n : ℕ) → n ≢ 0 → n ≡ number memory s count
-        → (refusal n s ≡ answer memory s count words) × (words ≡ lent memory s count words)
-    unfolding answer answered lent
+        → (refusal n s ≡ uncountedAnswer memory s count words) × (words ≡ uncountedLent memory s count words)
+    unfolding uncountedAnswer answered uncountedLent
     refused n h e = rw (← e, ne-eqb n 0 h) (refl, refl)
 
     -- a run that is not: its reading
     pub worked-out : number memory s count ≡ 0 → (r : Ran) (after : List ℕ)
         → r ≡ answered 0 s (readBy memory s count words) → after ≡ over (flat (readBy memory s count words .marks)) words
-        → (r ≡ answer memory s count words) × (after ≡ lent memory s count words)
-    unfolding answer lent
+        → (r ≡ uncountedAnswer memory s count words) × (after ≡ uncountedLent memory s count words)
+    unfolding uncountedAnswer uncountedLent
     worked-out e r after a l = rw e (a, l)

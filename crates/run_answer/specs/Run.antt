@@ -49,9 +49,9 @@ answered n s p =
     pick (eqb n 0) (record { number = 0; state = p .state; done = p .done; records = length (p .marks) }) (refusal n s)
 
 -- WHAT A RUN ANSWERS
-unfoldable pub answer : List ℕ → State → ℕ → List ℕ → Ran
-answer memory s count words = answered (number memory s count) s (readBy memory s count words)
+unfoldable pub uncountedAnswer : List ℕ → State → ℕ → List ℕ → Ran
+uncountedAnswer memory s count words = answered (number memory s count) s (readBy memory s count words)
 
 -- WHAT A RUN LEAVES IN THE LENT WORDS: the records over the first of them; refused, "lent memory untouched"
-unfoldable pub lent : List ℕ → State → ℕ → List ℕ → List ℕ
-lent memory s count words = pick (eqb (number memory s count) 0) (over (flat (readBy memory s count words .marks)) words) words
+unfoldable pub uncountedLent : List ℕ → State → ℕ → List ℕ → List ℕ
+uncountedLent memory s count words = pick (eqb (number memory s count) 0) (over (flat (readBy memory s count words .marks)) words) words

@@ -24,7 +24,7 @@ use Rattle.arith.specs.Over.{over}
 use Rattle.run_answer.specs.Run.{chipClockwork, roomOf, number, flat, readBy, answered}
 use Rattle.run_answer.specs.declared.Ran.{Ran}
 use Rattle.run_answer.proofs.AnswerLaws.{number-fine}
-use Rattle.run_dwell.specs.Dwell.{dwellLimit, dwellPlace, dwellClockwork, countsWithin, dwellNumber, dwellBy, dwellRefusal, dwellAnswered, dwellAnswer, dwellLent, CountsRaised}
+use Rattle.run_dwell.specs.Dwell.{dwellLimit, dwellPlace, dwellClockwork, countsWithin, dwellNumber, dwellBy, dwellRefusal, runAnswered, runAnswer, runLent, CountsRaised}
 use Rattle.run_dwell.specs.Kept.{dwellPlaces}
 use Rattle.run_dwell.specs.declared.Counted.{Counted}
 use Rattle.run_dwell.proofs.WithinLaws.{within-most, within-all}
@@ -57,15 +57,15 @@ module _ (memory : List ℕ) (s : State) (counts : List ℕ) (count : ℕ) where
   module _ (words : List ℕ) where
     -- a run that is refused
     pub dwell-refused : (n : ℕ) → n ≢ 0 → n ≡ dwellNumber memory s counts count
-        → (dwellRefusal n s counts ≡ dwellAnswer memory s counts count words) × (words ≡ dwellLent memory s counts count words)
-    unfolding dwellAnswer dwellAnswered dwellLent
+        → (dwellRefusal n s counts ≡ runAnswer memory s counts count words) × (words ≡ runLent memory s counts count words)
+    unfolding runAnswer runAnswered runLent
     dwell-refused n h e = rw (← e, ne-eqb n 0 h) (refl, refl)
 
     -- a run that is not: its reading
     pub dwell-worked : dwellNumber memory s counts count ≡ 0 → (r : Counted) (after : List ℕ)
-        → r ≡ dwellAnswered 0 s counts (dwellBy memory s counts count words) → after ≡ over (flat (dwellBy memory s counts count words .marks)) words
-        → (r ≡ dwellAnswer memory s counts count words) × (after ≡ dwellLent memory s counts count words)
-    unfolding dwellAnswer dwellLent
+        → r ≡ runAnswered 0 s counts (dwellBy memory s counts count words) → after ≡ over (flat (dwellBy memory s counts count words .marks)) words
+        → (r ≡ runAnswer memory s counts count words) × (after ≡ runLent memory s counts count words)
+    unfolding runAnswer runLent
     dwell-worked e r after a l = rw e (a, l)
 
     -- BY A RUN WITHOUT COUNTS
@@ -79,13 +79,13 @@ module _ (memory : List ℕ) (s : State) (counts : List ℕ) (count : ℕ) where
     -- is what a run with counts gives
     unfoldable pub Owed : Ran → List ℕ → List ℕ → Type 0
     Owed ran table after =
-        (record { ran = ran; counts = table } ≡ dwellAnswered 0 s counts (dwellBy memory s counts count words))
+        (record { ran = ran; counts = table } ≡ runAnswered 0 s counts (dwellBy memory s counts count words))
         × (after ≡ over (flat (dwellBy memory s counts count words .marks)) words)
 
     owed-by : (p : Progress State) → dwellBy memory s counts count words ≡ besides (chipClock memory) dwellPlace stateLevel dwellLimit s counts p
         → (ran : Ran) (table after : List ℕ) → ran ≡ answered 0 s p → after ≡ over (flat (p .marks)) words
         → table ≡ tallied (dwellPlaces memory s) (ran .done) counts → Owed ran table after
-    unfolding Owed dwellAnswered answered
+    unfolding Owed runAnswered answered
     owed-by p e ran table after a l t =
         let d : ran .done ≡ p .done = ap (λ (r : Ran). r .done) a in
         (rw (e, t, d, a) refl, rw e l)
@@ -112,7 +112,7 @@ place-in memory bytes s r j = iterate-keeps StateRanged (chipClock memory) (cloc
 
 -- EACH COUNT IS RAISED BY ITS CLOCKS, THE SUM BY ALL
 pub counts-raised : CountsRaised
-unfolding dwellAnswer dwellAnswered dwellBy
+unfolding runAnswer runAnswered dwellBy
 counts-raised memory bytes s counts size count words = go (dwellNumber memory s counts count) refl (eqb (dwellNumber memory s counts count) 0) refl
   where
     t : Beside State

@@ -20,7 +20,7 @@ use Rattle.run_answer.specs.Run.{chipClockwork, roomOf, flat, readBy, answered}
 use Rattle.run_answer.specs.Held.{Held}
 use Rattle.run_answer.specs.declared.Ran.{Ran}
 use Rattle.run_answer.proofs.RunLaws.{held-ranged, held-end}
-use Rattle.run_dwell.specs.Dwell.{dwellLimit, dwellPlace, dwellBy, dwellAnswered}
+use Rattle.run_dwell.specs.Dwell.{dwellLimit, dwellPlace, dwellBy, runAnswered}
 use Rattle.run_dwell.specs.Kept.{dwellPlaces, Kept}
 use Rattle.run_dwell.proofs.DwellLaws.{Given, Owed, owed-free, owed-full}
 
@@ -70,7 +70,7 @@ module _ (memory : List ℕ) (s : State) (counts : List ℕ) where
       -- the end at such a clock
       pub kept-stopped : (count : ℕ) → done ≤ count → dwellLimit ≤ getD table (dwellPlace next) 0
           → let r : Ran = record { number = 0; state = state; done = done; records = n } in
-          (record { ran = r; counts = table } ≡ dwellAnswered 0 s counts (dwellBy memory s counts count words₀))
+          (record { ran = r; counts = table } ≡ runAnswered 0 s counts (dwellBy memory s counts count words₀))
           × (words ≡ over (flat (dwellBy memory s counts count words₀ .marks)) words₀)
       unfolding Given Owed
       kept-stopped count b m =
@@ -82,7 +82,7 @@ module _ (memory : List ℕ) (s : State) (counts : List ℕ) where
         → (record { number = 0; state = state; done = done; records = n } ≡ answered 0 s (readBy memory s count words₀))
         × (words ≡ over (flat (readBy memory s count words₀ .marks)) words₀)
         → let r : Ran = record { number = 0; state = state; done = done; records = n } in
-        (record { ran = r; counts = table } ≡ dwellAnswered 0 s counts (dwellBy memory s counts count words₀))
+        (record { ran = r; counts = table } ≡ runAnswered 0 s counts (dwellBy memory s counts count words₀))
         × (words ≡ over (flat (dwellBy memory s counts count words₀ .marks)) words₀)
     unfolding Given Owed
     kept-end count z = owed-free memory s counts count words₀ _ table words (z .0, z .1, k .is) (k .free)

@@ -47,25 +47,25 @@ abbrev pub dwellRefusal : ℕ → State → List ℕ → Counted
 dwellRefusal n s counts = record { ran = refusal n s; counts = counts }
 
 -- the answer by its number: 0 gives what was read
-unfoldable pub dwellAnswered : ℕ → State → List ℕ → Progress (Beside State) → Counted
-dwellAnswered n s counts p =
+unfoldable pub runAnswered : ℕ → State → List ℕ → Progress (Beside State) → Counted
+runAnswered n s counts p =
     pick (eqb n 0)
     (record { ran = record { number = 0; state = p .state .state; done = p .done; records = length (p .marks) }; counts = p .state .counts })
     (dwellRefusal n s counts)
 
 -- WHAT A RUN WITH ITS TABLE ANSWERS
-unfoldable pub dwellAnswer : List ℕ → State → List ℕ → ℕ → List ℕ → Counted
-dwellAnswer memory s counts count words = dwellAnswered (dwellNumber memory s counts count) s counts (dwellBy memory s counts count words)
+unfoldable pub runAnswer : List ℕ → State → List ℕ → ℕ → List ℕ → Counted
+runAnswer memory s counts count words = runAnswered (dwellNumber memory s counts count) s counts (dwellBy memory s counts count words)
 
 -- WHAT IT LEAVES IN THE LENT WORDS
-unfoldable pub dwellLent : List ℕ → State → List ℕ → ℕ → List ℕ → List ℕ
-dwellLent memory s counts count words =
+unfoldable pub runLent : List ℕ → State → List ℕ → ℕ → List ℕ → List ℕ
+runLent memory s counts count words =
     pick (eqb (dwellNumber memory s counts count) 0) (over (flat (dwellBy memory s counts count words .marks)) words) words
 
 -- "A run from any given table must raise each count by the number of such clocks by the plain reading, and so the sum by the clocks done."
 abbrev pub CountsRaised : Type 0
 CountsRaised =
     (memory : List ℕ) → Bytes memory → (s : State) (counts : List ℕ) → length counts ≡ 128 → (count : ℕ) (words : List ℕ)
-    → let r = dwellAnswer memory s counts count words in
+    → let r = runAnswer memory s counts count words in
     ((i : ℕ) → i < 128 → getD (r .counts) i 0 ≡ getD counts i 0 + dwelt (chipClock memory) dwellPlace i (r .ran .done) s)
     × (sum (r .counts) ≡ sum counts + r .ran .done)

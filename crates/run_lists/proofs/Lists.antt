@@ -22,7 +22,7 @@ use Rattle.run_answer.specs.Run.{number, roomOf, flat}
 use Rattle.run_lists.specs.Lists.{Request, Outcome, marksOf, wordsWritten, wordsBehind, joined, runAll, asks, asked, Share, ReadAs, ListPlain, ListTables, ListsAlike, Splits, Split}
 use Rattle.run_answer.specs.declared.Ran.{Ran}
 use Rattle.run_answer.proofs.AnswerLaws as without
-use Rattle.run_dwell.specs.Dwell.{dwellLimit, dwellClockwork, countsWithin, dwellNumber, dwellBy, dwellRefusal, dwellAnswered, dwellAnswer, dwellLent}
+use Rattle.run_dwell.specs.Dwell.{dwellLimit, dwellClockwork, countsWithin, dwellNumber, dwellBy, dwellRefusal, runAnswered, runAnswer, runLent}
 use Rattle.run_dwell.specs.declared.Counted.{Counted}
 use Rattle.run_dwell.proofs.DwellLaws.{number-first, number-none, number-thirteen, number-right, dwell-refused, dwell-worked, dwell-within}
 use Rattle.run_answer.proofs.WordLaws.{length-flat}
@@ -92,28 +92,28 @@ read-kept memory bytes s r counts count words =
 -- a run that is not refused
 ran : (memory : List ℕ) (s : State) (counts : List ℕ) (count : ℕ) (words : List ℕ) → dwellNumber memory s counts count ≡ 0
     → let p = dwellBy memory s counts count words in
-    (dwellAnswer memory s counts count words ≡ countedOf p) × (dwellLent memory s counts count words ≡ over (flat (p .marks)) words)
-unfolding dwellAnswered
+    (runAnswer memory s counts count words ≡ countedOf p) × (runLent memory s counts count words ≡ over (flat (p .marks)) words)
+unfolding runAnswered
 ran memory s counts count words z =
     let w = dwell-worked memory s counts count words z _ _ refl refl in (sym (w .0), sym (w .1))
 
 -- and one that is
 not-ran : (memory : List ℕ) (s : State) (counts : List ℕ) (count : ℕ) (words : List ℕ) (n : ℕ) → n ≢ 0 → n ≡ dwellNumber memory s counts count
-    → (dwellAnswer memory s counts count words ≡ dwellRefusal n s counts) × (dwellLent memory s counts count words ≡ words)
+    → (runAnswer memory s counts count words ≡ dwellRefusal n s counts) × (runLent memory s counts count words ≡ words)
 not-ran memory s counts count words n h e =
     let w = dwell-refused memory s counts count words n h e in (sym (w .0), sym (w .1))
 
 -- one run of the list: refused, or the plain reading from its state
 Refused : List ℕ → Request → State → List ℕ → Type 0
 Refused counts q s words =
-    (n : ℕ) × (asks counts q ≡ 0) × (dwellAnswer (q .memory) s counts (q .count) words ≡ dwellRefusal n s counts) × (dwellLent (q .memory) s counts (q .count) words ≡ words)
+    (n : ℕ) × (asks counts q ≡ 0) × (runAnswer (q .memory) s counts (q .count) words ≡ dwellRefusal n s counts) × (runLent (q .memory) s counts (q .count) words ≡ words)
 
 Done : List ℕ → List ℕ → Request → State → List ℕ → Type 0
 Done memory counts q s words =
     let p = dwellBy memory s counts (q .count) words in
     (asks counts q ≡ q .count)
-    × (dwellAnswer (q .memory) s counts (q .count) words ≡ countedOf p)
-    × (dwellLent (q .memory) s counts (q .count) words ≡ over (flat (p .marks)) words)
+    × (runAnswer (q .memory) s counts (q .count) words ≡ countedOf p)
+    × (runLent (q .memory) s counts (q .count) words ≡ over (flat (p .marks)) words)
     × (countsWithin dwellLimit (p .state .counts) ≡ countsWithin dwellLimit counts)
 
 either : (memory : List ℕ) (q : Request) (s : State) (counts words : List ℕ) → StateRanged s
@@ -217,11 +217,11 @@ list-plain memory bytes requests s r counts share words = listed memory bytes re
 
 -- a run hands back a table that 13 refuses exactly where it refuses the one given
 run-table : (memory : List ℕ) (s : State) (counts : List ℕ) (count : ℕ) (words : List ℕ)
-    → countsWithin dwellLimit (dwellAnswer memory s counts count words .counts) ≡ countsWithin dwellLimit counts
+    → countsWithin dwellLimit (runAnswer memory s counts count words .counts) ≡ countsWithin dwellLimit counts
 run-table memory s counts count words = go (dwellNumber memory s counts count) refl (eqb (dwellNumber memory s counts count) 0) refl
   where
     go : (n : ℕ) → dwellNumber memory s counts count ≡ n → (t : Bool) → eqb (dwellNumber memory s counts count) 0 ≡ t
-        → countsWithin dwellLimit (dwellAnswer memory s counts count words .counts) ≡ countsWithin dwellLimit counts
+        → countsWithin dwellLimit (runAnswer memory s counts count words .counts) ≡ countsWithin dwellLimit counts
     go n e true z =
         let right = number-right memory s counts count (eqb-true _ _ z) in
         rw (ran memory s counts count words (eqb-true _ _ z) .0) (dwell-within memory s counts count words (right .1) ∙ sym (right .1))
@@ -231,8 +231,8 @@ pub list-tables : ListTables
 unfolding runAll joined
 list-tables [] s counts words = refl
 list-tables (q ∷ qs) s counts words =
-    let c = dwellAnswer (q .memory) s counts (q .count) words in
-    list-tables qs (c .ran .state) (c .counts) (wordsBehind (c .ran) (dwellLent (q .memory) s counts (q .count) words))
+    let c = runAnswer (q .memory) s counts (q .count) words in
+    list-tables qs (c .ran .state) (c .counts) (wordsBehind (c .ran) (runLent (q .memory) s counts (q .count) words))
     ∙ run-table (q .memory) s counts (q .count) words
 
 -- and so two lists alike end alike
@@ -287,15 +287,15 @@ split memory bytes size s r counts words a b fits = go (countsWithin dwellLimit 
     fine count x h m = without.number-none memory x count size h m
 
     none : (count : ℕ) → count ≤ 1_000_000 → countsWithin dwellLimit counts ≡ false
-        → (dwellAnswer memory s counts count words ≡ dwellRefusal 13 s counts) × (dwellLent memory s counts count words ≡ words)
+        → (runAnswer memory s counts count words ≡ dwellRefusal 13 s counts) × (runLent memory s counts count words ≡ words)
     none count m e = not-ran memory s counts count words 13 (omega arith) (sym (number-thirteen memory s counts count (fine count s r m) e))
 
     go : (t : Bool) → countsWithin dwellLimit counts ≡ t
-        → let first = dwellAnswer memory s counts a words in
-        let words₁ = dwellLent memory s counts a words in
+        → let first = runAnswer memory s counts a words in
+        let words₁ = runLent memory s counts a words in
         let behind = wordsBehind (first .ran) words₁ in
-        Splits first (dwellAnswer memory (first .ran .state) (first .counts) b behind) (dwellAnswer memory s counts (a + b) words)
-        words₁ (dwellLent memory (first .ran .state) (first .counts) b behind) (dwellLent memory s counts (a + b) words)
+        Splits first (runAnswer memory (first .ran .state) (first .counts) b behind) (runAnswer memory s counts (a + b) words)
+        words₁ (runLent memory (first .ran .state) (first .counts) b behind) (runLent memory s counts (a + b) words)
     go true e =
         let p = dwellBy memory s counts a words in
         let rest = drop (2 * length (p .marks)) words in

@@ -14,7 +14,7 @@ use Rattle.chip_api.specs.Answer.{isMemory}
 use Rattle.reading.specs.Counting.{Beside}
 use Rattle.run_answer.specs.Run.{roomOf}
 use Rattle.run_answer.specs.declared.Ran.{Ran}
-use Rattle.run_dwell.specs.Dwell.{dwellLimit, dwellClockwork, countsWithin, dwellAnswer, dwellLent}
+use Rattle.run_dwell.specs.Dwell.{dwellLimit, dwellClockwork, countsWithin, runAnswer, runLent}
 use Rattle.run_dwell.specs.declared.Counted.{Counted}
 
 -- what one run of the list is asked
@@ -61,7 +61,7 @@ joined c words rest =
 unfoldable pub runAll : List Request → State → List ℕ → List ℕ → Outcome
 runAll [] s counts words = record { state = s; counts = counts; done = 0; marks = []; words = words }
 runAll (q ∷ qs) s counts words =
-    joined (dwellAnswer (q .memory) s counts (q .count) words) (dwellLent (q .memory) s counts (q .count) words) (runAll qs)
+    joined (runAnswer (q .memory) s counts (q .count) words) (runLent (q .memory) s counts (q .count) words) (runAll qs)
 
 -- "a run is refused exactly where 1 or 3 holds (2 never does), and then counts as asking for 0 clocks"; "a run refused by 13 asks for 0 clocks": that
 -- is all runs of the list or none, by its first table (`ListTables`)
@@ -133,8 +133,8 @@ pub record Splits (first second whole : Counted) (words₁ words₂ words : List
 abbrev pub Split : Type 0
 Split =
     (memory : List ℕ) → Bytes memory → length memory ≡ 32768 → (s : State) → inRange s ≡ true → (counts words : List ℕ) (a b : ℕ) → a + b ≤ 1_000_000
-    → let first = dwellAnswer memory s counts a words in
-    let words₁ = dwellLent memory s counts a words in
+    → let first = runAnswer memory s counts a words in
+    let words₁ = runLent memory s counts a words in
     let behind = wordsBehind (first .ran) words₁ in
-    Splits first (dwellAnswer memory (first .ran .state) (first .counts) b behind) (dwellAnswer memory s counts (a + b) words)
-    words₁ (dwellLent memory (first .ran .state) (first .counts) b behind) (dwellLent memory s counts (a + b) words)
+    Splits first (runAnswer memory (first .ran .state) (first .counts) b behind) (runAnswer memory s counts (a + b) words)
+    words₁ (runLent memory (first .ran .state) (first .counts) b behind) (runLent memory s counts (a + b) words)

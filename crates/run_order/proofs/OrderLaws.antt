@@ -23,7 +23,7 @@ use Rattle.chip_api.specs.declared.Answered.{Answered}
 use Rattle.arith.specs.Over.{over}
 use Rattle.run_answer.specs.Run.{flat}
 use Rattle.run_answer.proofs.WordLaws.{length-flat}
-use Rattle.run_dwell.specs.Dwell.{dwellNumber, dwellBy, dwellRefusal, dwellAnswered, dwellAnswer, dwellLent}
+use Rattle.run_dwell.specs.Dwell.{dwellNumber, dwellBy, dwellRefusal, runAnswered, runAnswer, runLent}
 use Rattle.run_dwell.specs.declared.Counted.{Counted}
 use Rattle.run_lists.specs.Lists.{wordsWritten}
 use Rattle.run_lists.proofs.Lists.{lists-alike}
@@ -47,7 +47,7 @@ same-written true n s counts p words words′ = written p words ∙ sym (written
 same-written false n s counts p words words′ = refl
 
 by-room : (s : State) → inRange s ≡ true → SameRuns s s
-unfolding dwellAnswer dwellAnswered dwellLent dwellBy
+unfolding runAnswer runAnswered runLent dwellBy
 by-room s r =
     record {
       answers = λ memory counts count words words′ room. rw room refl;

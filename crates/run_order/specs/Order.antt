@@ -13,7 +13,7 @@ use Rattle.chip_access.specs.Write.{channelOf}
 use Rattle.chip_api.specs.Answer.{accessAnswer}
 use Rattle.chip_api.specs.declared.Answered.{Answered}
 use Rattle.run_answer.specs.Run.{roomOf}
-use Rattle.run_dwell.specs.Dwell.{dwellAnswer, dwellLent}
+use Rattle.run_dwell.specs.Dwell.{runAnswer, runLent}
 use Rattle.run_lists.specs.Lists.{Request, wordsWritten, runAll, asked, Share, Alike}
 
 -- "two writes to $4000..$4013 that belong to different channels", four registers a channel: $4009 is the triangle's, $400D the noise's
@@ -28,12 +28,12 @@ pub record Apart (register register′ : ℕ) : Type 0 where
 pub record SameRuns (s s′ : State) : Type 0 where
   -- "from the same memory, table, room and count" a run, leaping or not, answers the same, its table too, and writes the same records;
   pub answers : (memory counts : List ℕ) (count : ℕ) (words words′ : List ℕ) → roomOf words ≡ roomOf words′
-      → dwellAnswer memory s counts count words ≡ dwellAnswer memory s′ counts count words′
+      → runAnswer memory s counts count words ≡ runAnswer memory s′ counts count words′
   pub records : (memory counts : List ℕ) (count : ℕ) (words words′ : List ℕ) → roomOf words ≡ roomOf words′
-      → wordsWritten (dwellAnswer memory s counts count words .ran) (dwellLent memory s counts count words)
-      ≡ wordsWritten (dwellAnswer memory s′ counts count words′ .ran) (dwellLent memory s′ counts count words′)
+      → wordsWritten (runAnswer memory s counts count words .ran) (runLent memory s counts count words)
+      ≡ wordsWritten (runAnswer memory s′ counts count words′ .ran) (runLent memory s′ counts count words′)
   -- of the same words it leaves the same;
-  pub words : (memory counts : List ℕ) (count : ℕ) (words : List ℕ) → dwellLent memory s counts count words ≡ dwellLent memory s′ counts count words
+  pub words : (memory counts : List ℕ) (count : ℕ) (words : List ℕ) → runLent memory s counts count words ≡ runLent memory s′ counts count words
   -- so does every list of runs, refused ones included, from the same first table;
   pub lists : (requests : List Request) (counts words : List ℕ) → runAll requests s counts words ≡ runAll requests s′ counts words
   -- and two lists that are alike in memory, first table, room and clocks asked for in all end alike

@@ -5,7 +5,7 @@ ghost use Prim.Native.Nat.{_≤_};
 ghost use Rattle.chip.specs.Range.{inRange};
 ghost use Rattle.arith.specs.Over.{over};
 ghost use Rattle.run_answer.specs.Run.{flat};
-ghost use Rattle.run_dwell.specs.Dwell.{dwellBy, dwellAnswered, dwellAnswer, dwellLent};
+ghost use Rattle.run_dwell.specs.Dwell.{dwellBy, runAnswered, runAnswer, runLent};
 use chip::State;
 use run_answer::Ran;
 use run_dwell::Counted;
@@ -14,7 +14,7 @@ use run_dwell::Counted;
 fn work(s: State, memory: &[u8], counts: [u32; 128], count: u32, words: &mut [u32]) -> Counted
     requires { ⌜ inRange s ≡ true ⌝ }
     requires { ⌜ count ≤ 1000000 ⌝ }
-    ensures { λ r. ⌜ r ≡ dwellAnswered 0 s counts (dwellBy (now (memory .entry)) s counts count (now (words .entry))) ⌝ }
+    ensures { λ r. ⌜ r ≡ runAnswered 0 s counts (dwellBy (now (memory .entry)) s counts count (now (words .entry))) ⌝ }
     ensures { λ r. ⌜ now (words .exit) ≡ over (flat (dwellBy (now (memory .entry)) s counts count (now (words .entry)) .marks)) (now (words .entry)) ⌝ }
 {
     let room = words.len() / 2;
@@ -86,8 +86,8 @@ pub fn run_plain(
     count: u64,
     words: &mut [u32],
 ) -> Counted
-    ensures { λ r. ⌜ r ≡ dwellAnswer (now (memory .entry)) s counts count (now (words .entry)) ⌝ }
-    ensures { λ r. ⌜ now (words .exit) ≡ dwellLent (now (memory .entry)) s counts count (now (words .entry)) ⌝ }
+    ensures { λ r. ⌜ r ≡ runAnswer (now (memory .entry)) s counts count (now (words .entry)) ⌝ }
+    ensures { λ r. ⌜ now (words .exit) ≡ runLent (now (memory .entry)) s counts count (now (words .entry)) ⌝ }
 {
     let number = run_dwell::number_of(s, memory, counts, count);
     if number != 0 {

@@ -34,7 +34,7 @@ use Rattle.reading.proofs.ReadingLaws.{reading-done}
 use Rattle.arith.specs.Over.{over}
 use Rattle.run_answer.specs.Run.{chipClockwork, roomOf, flat, readBy, answered}
 use Rattle.run_answer.specs.declared.Ran.{Ran}
-use Rattle.run_dwell.specs.Dwell.{dwellLimit, dwellBy, dwellAnswered}
+use Rattle.run_dwell.specs.Dwell.{dwellLimit, dwellBy, runAnswered}
 use Rattle.run_dwell.proofs.DwellLaws.{Given, Owed, owed-free, owed-full}
 use Rattle.run_dwell.specs.Kept.{dwellPlaces}
 use Rattle.run_walk.specs.Walk.{lastAt, dmcAfter, Walking, Open, Walked}
@@ -296,7 +296,7 @@ ran-most memory s k words ran e = rw e (let h = reading-done (chipClockwork memo
 pub opened : (memory : List ℕ) (s : State) (counts : List ℕ) (count : ℕ) (words : List ℕ) (k : ℕ) → Open memory s counts count k
     → (ran : Ran) (after : List ℕ) → ran ≡ answered 0 s (readBy memory s k words) → after ≡ over (flat (readBy memory s k words .marks)) words
     → (r : Dwell) → Walked memory s counts (ran .done) r
-    → (record { ran = ran; counts = r .counts } ≡ dwellAnswered 0 s counts (dwellBy memory s counts count words))
+    → (record { ran = ran; counts = r .counts } ≡ runAnswered 0 s counts (dwellBy memory s counts count words))
     × (after ≡ over (flat (dwellBy memory s counts count words .marks)) words)
 unfolding Given Owed
 opened memory s counts count words k o ran after a l r w =
