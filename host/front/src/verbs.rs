@@ -1,0 +1,76 @@
+//! What the front has to know of the verbs: where a log may stand behind their words, and how their texts end. A verb that isn't here
+//! is run with all of its words as they are, the log on standard input.
+
+use crate::status::Last;
+use std::ffi::OsString;
+
+struct Verb {
+    /// One word or more.
+    name: &'static [&'static str],
+    /// How many words it has behind its name.
+    words: usize,
+    /// Whether it reads a log, or a VGM file.
+    log: bool,
+    /// How its text ends.
+    last: Last,
+}
+
+const fn verb(name: &'static [&'static str], words: usize, log: bool, last: Last) -> Verb {
+    Verb { name, words, log, last }
+}
+
+/// Of two that begin alike the longer stands first.
+const VERBS: [Verb; 10] = [
+    verb(&["check"], 0, true, Last::Any),
+    verb(&["fold"], 0, true, Last::Stop),
+    verb(&["import"], 0, true, Last::Stop),
+    verb(&["salvage"], 0, true, Last::Stop),
+    verb(&["why"], 1, true, Last::Any),
+    verb(&["meter", "waits"], 0, true, Last::Any),
+    verb(&["meter"], 0, true, Last::Any),
+    verb(&["interrupts"], 0, true, Last::Stop),
+    verb(&["dwell"], 0, true, Last::Stop),
+    verb(&["sheet"], 3, false, Last::Any),
+];
+
+fn known(words: &[OsString]) -> Option<&'static Verb> {
+    VERBS.iter().find(|v| words.len() >= v.name.len() && v.name.iter().zip(words).all(|(a, b)| b == a))
+}
+
+/// How many of the words are the program's: all, or all but a log behind them.
+pub fn own(words: &[OsString]) -> usize {
+    match known(words) {
+        Some(v) if v.log && words.len() == v.name.len() + v.words + 1 => words.len() - 1,
+        _ => words.len(),
+    }
+}
+
+/// How the text ends.
+pub fn last(words: &[OsString]) -> Last {
+    known(words).map_or(Last::Any, |v| v.last)
+}
+
+#[cfg(test)]
+mod tests {
+    use super::*;
+
+    fn own_of(words: &str) -> usize {
+        own(&words.split_whitespace().map(OsString::from).collect::<Vec<_>>())
+    }
+
+    #[test]
+    fn a_log_behind_the_words() {
+        assert_eq!(own_of("check"), 1);
+        assert_eq!(own_of("check a.log"), 1);
+        assert_eq!(own_of("check a.log b.log"), 3);
+        assert_eq!(own_of("why 5"), 2);
+        assert_eq!(own_of("why 5 a.log"), 2);
+        assert_eq!(own_of("meter a.log"), 1);
+        assert_eq!(own_of("meter waits"), 2);
+        assert_eq!(own_of("meter waits a.log"), 2);
+        assert_eq!(own_of("sheet 64 c000 20"), 4);
+        assert_eq!(own_of("sheet 64 c000 20 a.log"), 5);
+        assert_eq!(own_of("other a.log"), 2);
+        assert_eq!(own_of(""), 0);
+    }
+}
