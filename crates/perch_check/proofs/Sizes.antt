@@ -14,8 +14,9 @@ use Rattle.text_lines.proofs.Pieces.{puts, front}
 use Rattle.text_lines.proofs.Sizes.{UpTo, decimal-ten, keyed-size, pair-size}
 use Rattle.log_rules.specs.declared.Checked.{Checked}
 use Rattle.log_rules.specs.Whole.{checkOf}
+use Rattle.log_mend.specs.Mending.{totalsOf}
 use Rattle.text_place.specs.Place.{lineNumber, column}
-use Rattle.perch_check.specs.Report.{machineLine, passedText, reasonLine, refusedText, outcomeText, checkText}
+use Rattle.perch_check.specs.Report.{machineLine, passedText, reasonLine, refusedText, openLine, totalsText, moreText, outcomeText, checkText}
 use Rattle.perch_reasons.proofs.Sizes.{reason-size}
 use Rattle.text_place.proofs.Sizes.{line-size, mark-size}
 
@@ -34,10 +35,20 @@ refused-size log number place =
     simp length-append
     (omega (arith, pair-size (bytes "refused=") number place, decimal-ten (lineNumber log place), decimal-ten (column log place), reason-size number, line-size log place, mark-size log place))
 
-outcome-size : (log : List ℕ) (c : Checked) → UpTo 640 (outcomeText log c)
+more-size : (log : List ℕ) (c : Checked) → UpTo 35 (moreText log c)
+unfolding moreText totalsText
+more-size log c =
+    let clocks = keyed-size (bytes "clocks=") (totalsOf log .clocks) in
+    let turns = keyed-size (bytes "turns=") (totalsOf log .turns) in
+    let loop = keyed-size (bytes "open=") (openLine log (c .place)) in
+    pick-both (UpTo 35) (eqb (c .number) 10) (omega arith)
+    (pick-both (UpTo 35) (eqb (c .number) 9) (rw length-append (omega arith)) (pick-both (UpTo 35) (eqb (c .number) 8) (omega arith) (omega arith)))
+
+outcome-size : (log : List ℕ) (c : Checked) → UpTo 675 (outcomeText log c)
 unfolding outcomeText
 outcome-size log c =
-    pick-both (UpTo 640) (eqb (c .number) 0) (omega (arith, passed-size (c .pal) (c .clocks) (c .turns) (c .items))) (refused-size log (c .number) (c .place))
+    pick-both (UpTo 675) (eqb (c .number) 0) (omega (arith, passed-size (c .pal) (c .clocks) (c .turns) (c .items)))
+    (rw length-append (omega (arith, refused-size log (c .number) (c .place), more-size log c)))
 
 -- 700 bytes hold the text about any bytes
 pub check-size : (log : List ℕ) → length (checkText log) ≤ 700
@@ -50,7 +61,7 @@ module _ (log : List ℕ) (c : Checked) where
   unfolding checkText outcomeText
   text-passed e h = rw (e, eq-eqb _ _ h)
 
-  pub text-refused : checkOf log ≡ c → (c .number ≡ 0 → ⊥) → checkText log ≡ bytes "check=1\n" ++ refusedText log (c .number) (c .place)
+  pub text-refused : checkOf log ≡ c → (c .number ≡ 0 → ⊥) → checkText log ≡ bytes "check=1\n" ++ (refusedText log (c .number) (c .place) ++ moreText log c)
   unfolding checkText outcomeText
   text-refused e h = rw (e, ne-eqb _ _ h)
 

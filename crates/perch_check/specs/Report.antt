@@ -7,7 +7,9 @@ use Rattle.arith.specs.Pick.{pick}
 use Rattle.text.specs.Ascii.{bytes}
 use Rattle.text.specs.Decimal.{decimalText}
 use Rattle.log_rules.specs.declared.Checked.{Checked}
+use Rattle.log_rules.specs.declared.Totals.{Totals}
 use Rattle.log_rules.specs.Whole.{checkOf}
+use Rattle.log_mend.specs.Mending.{totalsOf, firstOpen, firstPlace, openAt}
 use Rattle.text_lines.specs.Lines.{keyedLine, refusedLine}
 use Rattle.text_place.specs.Place.{lineNumber, column}
 use Rattle.perch_reasons.specs.Reasons.{reasonText}
@@ -44,12 +46,29 @@ refusedText log number place =
     ++ (shownLine log place
     ++ markLine log place))
 
+-- the number of the line of the innermost loop that is open at a place; 0 where none is
+unfoldable pub openLine : List ℕ → ℕ → ℕ
+openLine log place = pick (firstOpen (openAt log place)) (lineNumber log (firstPlace (openAt log place))) 0
+
+-- clocks and turns in all
+unfoldable pub totalsText : Totals → List ℕ
+totalsText t = keyedLine (bytes "clocks=") (t .clocks) ++ keyedLine (bytes "turns=") (t .turns)
+
+-- what helps to mend a log that is refused by 10, 9 or 8: the right number of `stop`; the totals, each cut off just above what a log may have; the
+-- open loop
+unfoldable pub moreText : List ℕ → Checked → List ℕ
+moreText log c =
+    pick (eqb (c .number) 10) (keyedLine (bytes "clocks=") (totalsOf log .clocks))
+    (pick (eqb (c .number) 9) (totalsText (totalsOf log))
+    (pick (eqb (c .number) 8) (keyedLine (bytes "open=") (openLine log (c .place)))
+    []))
+
 -- what a check found: its number is 0 where the log passes
 unfoldable pub outcomeText : List ℕ → Checked → List ℕ
 outcomeText log c =
     pick (eqb (c .number) 0)
     (passedText (c .pal) (c .clocks) (c .turns) (c .items))
-    (refusedText log (c .number) (c .place))
+    (refusedText log (c .number) (c .place) ++ moreText log c)
 
 -- the whole text; each of its lines ends in one line feed
 unfoldable pub checkText : List ℕ → List ℕ

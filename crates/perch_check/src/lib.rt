@@ -2,7 +2,9 @@
 ghost use mathlib.Core.Path.{_≡_};
 ghost use Rattle.text_print.specs.Printed.{printed, placed};
 ghost use Rattle.text_lines.specs.Puts.{Puts};
-ghost use Rattle.perch_check.specs.Report.{machineLine, passedText, reasonLine, refusedText, checkText};
+ghost use Rattle.perch_check.specs.Report.{machineLine, passedText, reasonLine, refusedText, openLine, totalsText, moreText, checkText};
+use log_rules::Checked;
+use log_rules::Totals;
 use perch_reasons::reason;
 use text_lines::keyed_line;
 use text_lines::refused_line;
@@ -54,6 +56,42 @@ fn refused(out: &mut [u8], at: usize, log: &[u8], number: u8, place: usize) -> u
     mark_line(out, c, log, place)
 }
 
+// The number of the line of the innermost loop that is open at a place; 0 where none is.
+fn open_line(log: &[u8], place: usize) -> usize
+    ensures { λ r. ⌜ r ≡ openLine (now (log .entry)) place ⌝ }
+{
+    let o = log_mend::open_at(log, place);
+    if o.found {
+        return line_number(log, o.place);
+    }
+    0
+}
+
+// Clocks and turns in all.
+fn totals_text(out: &mut [u8], at: usize, t: Totals) -> usize
+    ensures { λ r. ⌜ Puts (now (out .entry)) at (totalsText t) (now (out .exit)) r ⌝ }
+{
+    let a = keyed_line(out, at, b"clocks=", t.clocks);
+    keyed_line(out, a, b"turns=", t.turns)
+}
+
+// What helps to mend a log that is refused by 10, 9 or 8.
+fn more(out: &mut [u8], at: usize, log: &[u8], c: Checked) -> usize
+    ensures { λ r. ⌜ Puts (now (out .entry)) at (moreText (now (log .entry)) c) (now (out .exit)) r ⌝ }
+{
+    if c.number == 10 {
+        let t = log_mend::totals(log);
+        return keyed_line(out, at, b"clocks=", t.clocks);
+    }
+    if c.number == 9 {
+        return totals_text(out, at, log_mend::totals(log));
+    }
+    if c.number == 8 {
+        return keyed_line(out, at, b"open=", open_line(log, c.place) as u64);
+    }
+    at
+}
+
 // The whole text.
 fn whole(out: &mut [u8], log: &[u8]) -> usize
     ensures { λ r. ⌜ Puts (now (out .entry)) 0 (checkText (now (log .entry))) (now (out .exit)) r ⌝ }
@@ -63,7 +101,8 @@ fn whole(out: &mut [u8], log: &[u8]) -> usize
     if c.number == 0 {
         return passed(out, a, c.pal, c.clocks, c.turns, c.items);
     }
-    refused(out, a, log, c.number, c.place)
+    let b = refused(out, a, log, c.number, c.place);
+    more(out, b, log, c)
 }
 
 // The text about a log where it fits, and its length; else nothing, and 0.

@@ -1,6 +1,6 @@
 //! What the verbs of `perch` write about the examples (`host/verbs`), by the reading.
 
-use reading::log::{Item, items, machine};
+use reading::log::{Item, items, machine, open_at, summed};
 use reading::salvage::Done;
 use reading::why::why;
 use reading::{Chip, Machine, dwell, flags, meter, play, sheet};
@@ -70,6 +70,20 @@ fn reasons_of_the_examples() {
     });
 }
 
+/// What `perch check` writes behind a refusal: clocks in all (10), totals cut off just above what a log may have (9), the open loop's line (8).
+fn mending(log: &[u8], number: u8, place: usize) -> String {
+    let totals = || summed(log).expect("its lines are right");
+    match number {
+        10 => format!("clocks={}\n", totals().clocks),
+        9 => format!("clocks={}\nturns={}\n", totals().clocks.min(2_000_000_001), totals().turns.min(1_000_001)),
+        8 => {
+            let line = |at: usize| 1 + log[..at].iter().filter(|byte| **byte == b'\n').count();
+            format!("open={}\n", open_at(log, place).map_or(0, line))
+        }
+        _ => String::new(),
+    }
+}
+
 /// The text of `perch check` for a log.
 fn checked(log: &[u8]) -> String {
     match reading::log::check(log) {
@@ -89,7 +103,7 @@ fn checked(log: &[u8]) -> String {
                 fault.place,
                 before + 1
             );
-            format!("{first}{line}\n{}^\n", " ".repeat(before))
+            format!("{first}{line}\n{}^\n{}", " ".repeat(before), mending(log, fault.number, fault.place))
         }
     }
 }

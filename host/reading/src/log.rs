@@ -307,6 +307,25 @@ pub fn passed(log: &[u8]) -> Result<(Vec<Placed>, Totals), Fault> {
     Ok((lines, totals))
 }
 
+/// The totals of a log whose lines are right, over the limits or not; or its first fault.
+pub fn summed(log: &[u8]) -> Result<Totals, Fault> {
+    lines(log).map(|lines| totals(&lines))
+}
+
+/// Where the line of the innermost loop begins that is open at a place.
+pub fn open_at(log: &[u8], place: usize) -> Option<usize> {
+    let (mut at, mut open) = (0, Vec::new());
+    for text in log[..place].split_inclusive(|byte| *byte == b'\n') {
+        match said(text) {
+            Some(Line::Loop(_)) => open.push(at),
+            Some(Line::Done) => drop(open.pop()),
+            _ => {}
+        }
+        at += text.len();
+    }
+    open.pop()
+}
+
 /// What a log comes to, or its fault.
 pub fn check(log: &[u8]) -> Result<Totals, Fault> {
     passed(log).map(|(_, totals)| totals)
