@@ -25,7 +25,7 @@
  *   salvage              8..31 PERCH_PLACE, 32..47 PERCH_REPAIRED_LENGTH, 48..63 PERCH_REPAIRED_ENTRIES
  *   begin                8..31 PERCH_PLACE
  *   play_on              8 PERCH_OVER, 32..63 PERCH_WRITTEN; refused 8..31 PERCH_PLACE
- *   refusal_text         32..63 PERCH_WRITTEN
+ *   refusal_text, reason 32..63 PERCH_WRITTEN
  *   any other            8..63 PERCH_VALUE
  *
  * A call takes 6.5 KB of stack at most, measured, and no heap.
