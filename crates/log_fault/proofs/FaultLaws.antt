@@ -28,7 +28,7 @@ use Rattle.log_fault.specs.declared.Spotted.the-variants.{Right, Wrong}
 use Rattle.log_form.specs.Forms.{along, reach}
 use Rattle.log_begins.specs.Begins.{anyTrue, begins}
 use Rattle.log_fault.specs.Allowed.{keysOf}
-use Rattle.log_fault.specs.Places.{FirstByte, FirstFault, FeedMissing}
+use Rattle.log_fault.specs.Places.{FirstByte, FirstFault, FeedMissing, FeedFault}
 use Rattle.log_begins.specs.Counts.{keyed, counts}
 use Rattle.log_fault.specs.Fault.{wholeOf, faultAt, spotted, spotOf}
 use Rattle.log_begins.specs.Fronts.{allowed, Fronts}
@@ -305,6 +305,9 @@ module _ (st : Stand) (s : List ℕ) where
   missing-feed f h =
       let r = reach-all (begins (keysOf st)) s (begins-closed (keysOf st)) (begins-complete (keysOf st) s f) in
       rw (line-other s h, r, eq-eqb (length s) (length s) refl)
+
+pub feed-fault : FeedFault
+feed-fault st s i = (feed-missing st s i, λ f. missing-feed st s (f .begun) (f .unfed) ∙ ap (Wrong 17) (sym (f .place)))
 
 -- 4, 7 AND 8: at the start, of a whole line of right form
 

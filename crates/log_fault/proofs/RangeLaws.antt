@@ -36,7 +36,7 @@ use Rattle.log_begins.proofs.Beginnings.{begins-complete}
 use Rattle.log_begins.proofs.Furthest.{begins-closed}
 use Rattle.log_form.proofs.ReachLaws.{reach-all}
 use Rattle.log_begins.proofs.WholeLaws.{feed-split}
-use Rattle.log_fault.proofs.FaultLaws.{zero-one, Came, fine, start, feed, key, range, shape, came, starts-small, first-byte}
+use Rattle.log_fault.proofs.FaultLaws.{zero-one, Came, fine, start, feed, key, range, shape, came, starts-small, first-byte, missing-feed}
 
 -- THE `=` OF A KEY STANDS BEHIND ALL OF ITS LETTERS
 
@@ -218,7 +218,14 @@ module _ (st : Stand) (s : List ℕ) where
       go (range h a c r) =
           let q : i ≡ 5 = cc in
           is-said (decimal (unfed (drop 5 s))) (both-right (takes s) (said (decimal (unfed (drop 5 s)))) c) (OutOfRange (keysOf st) s i)
-          (λ n d. record { place = q; value = n; says = d; outside = outside h a (both-left (takes s) (said (decimal (unfed (drop 5 s)))) c) n d })
+          (λ n d.
+          record {
+            place = q;
+            value = n;
+            says = d;
+            outside = outside h a (both-left (takes s) (said (decimal (unfed (drop 5 s)))) c) n d;
+            stuck = λ f. let g = missing-feed st s (f .begun) (f .unfed) in absurd (let z : _≡_ {A = ℕ} 17 16 = cc in omega arith);
+          })
       go (shape h r) = absurd (let z : _≡_ {A = ℕ} 15 16 = cc in omega arith)
 
 -- behind a key that takes a decimal there is a place

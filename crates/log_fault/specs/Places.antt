@@ -1,5 +1,5 @@
 -- Where a fault is said to be. Request 2: "The place becomes the first byte that can't belong to any right line allowed there with that beginning; for a range
--- fault (a decimal of right shape, too small or too large) it is the value's first digit." Proved in proofs/FaultLaws and proofs/RangeLaws.
+-- fault (a decimal of right shape, too small or too large) it is the value's first digit." Proved in proofs/FaultLaws, RangeLaws and RangeBack.
 use Prim.Native.Nat.{ℕ, suc, _-_, _≤_, _<_}
 use mathlib.Core.Path.{_≡_}
 use mathlib.Core.Bool.{true}
@@ -34,6 +34,12 @@ pub record FeedMissing (k : Keys) (s : List ℕ) (i : ℕ) : Type 0 where
   pub begun : Fronts k s
   pub unfed : getD s (length s - 1) 0 ≡ 10 → ⊥
 
+-- exactly then
+abbrev pub FeedFault : Type 0
+FeedFault =
+    (st : Stand) (s : List ℕ) (i : ℕ)
+    → (spotOf st s ≡ Wrong 17 i → FeedMissing (keysOf st) s i) × (FeedMissing (keysOf st) s i → spotOf st s ≡ Wrong 17 i)
+
 -- 16, A NUMBER OUTSIDE ITS RANGE
 
 -- which number, and which range it is outside of
@@ -43,10 +49,16 @@ pub data Outside (k : Keys) (s : List ℕ) (n : ℕ) : Type 0 where
   stops : startsWith (bytes "stop=") s ≡ true → k .stop ≡ true → (n ≤ 2000000000 → ⊥) → Outside k s n
 
 pub record OutOfRange (k : Keys) (s : List ℕ) (i : ℕ) : Type 0 where
+  -- "the value's first digit": each key that takes a decimal has five bytes
   pub place : i ≡ 5
   pub value : ℕ
   pub says : decimal (unfed (drop 5 s)) ≡ Is value
   pub outside : Outside k s value
+  -- "If the log ends where what stands could still begin such a line, the line feed is missing": `loop=1` at the log's end has 17
+  pub stuck : FeedMissing k s (length s) → ⊥
 
+-- exactly then
 abbrev pub RangeFault : Type 0
-RangeFault = (st : Stand) (s : List ℕ) (i : ℕ) → spotOf st s ≡ Wrong 16 i → OutOfRange (keysOf st) s i
+RangeFault =
+    (st : Stand) (s : List ℕ) (i : ℕ)
+    → (spotOf st s ≡ Wrong 16 i → OutOfRange (keysOf st) s i) × (OutOfRange (keysOf st) s i → spotOf st s ≡ Wrong 16 i)
