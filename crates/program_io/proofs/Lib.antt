@@ -1,1 +1,2 @@
 pub mod ReadsLaws
+pub mod Joined

@@ -26,7 +26,7 @@ then [] a = a ∷ []
 then (x ∷ xs) a = x ∷ then xs a
 
 -- whether every answer brought bytes
-pub allSome : List ℤ → Bool
+unfoldable pub allSome : List ℤ → Bool
 allSome [] = true
 allSome (x ∷ xs) = both (isSome x) (allSome xs)
 
@@ -60,7 +60,7 @@ unfolding then allSome
 then-all [] a h s = both-true (isSome a) true s refl
 then-all (x ∷ xs) a h s = both-true (isSome x) (allSome (then xs a)) (both-left (isSome x) (allSome xs) h) (then-all xs a (both-right (isSome x) (allSome xs) h) s)
 
-all-others : (xs : List ℤ) → allSome xs ≡ true → othersSome xs ≡ true
+pub all-others : (xs : List ℤ) → allSome xs ≡ true → othersSome xs ≡ true
 unfolding allSome
 all-others [] h = refl
 all-others (x ∷ []) h = refl

@@ -1,55 +1,62 @@
--- The loop's invariant: the buffer keeps its length; its turns are counted. Assumes nothing.
-use mathlib.Core.Path.{_≡_}
+-- The loop's invariant: the buffer keeps its length; its turns are counted; each piece so far was taken whole. Assumes nothing.
+use mathlib.Core.Path.{_≡_, refl, sym, _∙_}
 use Prim.Native.Nat.{_-_}
 use lib.ListN.{length}
 use borrow.Author.Needs.{needs}
+use borrow.Author.Tests.{not-true, not-false}
+use Rattle.play_stdout.proofs.PourLaws.{Pouring, pouring-start, poured-out, poured-cut, poured-all, poured-on}
 use Rattle.play_stdout.proofs.pour.Statement.{statement}
 use Rattle.play_stdout.proofs.pour.Tie as tie
 
 abbrev Inv-loop : tie.InvT-loop
-Inv-loop log memory out₀ q₀ n₀ out q n = length out ≡ length out₀
+Inv-loop log memory out₀ q₀ n₀ out q n = (length out ≡ length out₀) × Pouring log memory q n out
 
 abbrev μ-loop : tie.MeasureT-loop
 μ-loop log memory out₀ q₀ n₀ out q n = 1000000000000 - n
 
 loop-holds : tie.Need-loop-holds Inv-loop μ-loop
-loop-holds c = search needs
+loop-holds c =
+    let a = c .before .before .before .args in
+    let p = c .before .before .before .pre in
+    (refl, pouring-start (a .log .now) (a .memory .now) (a .p) (a .out .now) (p .0) (p .1 .0) (p .1 .1))
 
-play-on-requires : tie.Need-play-on-requires Inv-loop μ-loop
-play-on-requires c κs = search needs
-
-write-front-requires : tie.Need-write-front-requires Inv-loop μ-loop
-write-front-requires c κs = search needs
-
-same-length : tie.Need-same-length Inv-loop μ-loop
-same-length c = search needs
+-- a piece is as long as the buffer
+same : (c : tie.After-write-front Inv-loop μ-loop) → length (c .before .before .before .before .play-on .last .1 .1 .1 .0) ≡ length (c .before .before .before .before .before .before .before .loop .out)
+same c = search needs
 
 returns : tie.Need-returns Inv-loop μ-loop
-returns c = search needs
-
-either-of-requires : tie.Need-either-of-requires Inv-loop μ-loop
-either-of-requires c κs = search needs
-
-same-length-2 : tie.Need-same-length-2 Inv-loop μ-loop
-same-length-2 c = search needs
+returns c =
+    let a = c .before .before .before .before .before .before .before .before .before .before .before .before .args in
+    let l = c .before .before .before .before .before .before .before .before .loop in
+    let s = c .before .before .before .before .before .play-on in
+    poured-cut (a .log .now) (a .memory .now) (l .q) (l .n) (l .out) (l .inv .1) (s .last .1 .1 .1 .0) (s .result) (s .ensures) (same (c .before))
+    (c .before .write-front .result) (not-true _ (c .if1 .taken)) (c .before .write-front .ensures)
 
 returns-2 : tie.Need-returns-2 Inv-loop μ-loop
-returns-2 c = search needs
-
-add-n : tie.Need-add-n Inv-loop μ-loop
-add-n c = search needs
-
-loop-less : tie.Need-loop-less Inv-loop μ-loop
-loop-less c = search needs
+returns-2 c =
+    let w = c .before .before .before .before .before in
+    let a = c .before .before .before .before .before .before .before .before .before .before .before .before .before .before .before .before .args in
+    let l = c .before .before .before .before .before .before .before .before .before .before .before .before .loop in
+    let s = c .before .before .before .before .before .before .before .before .before .play-on in
+    poured-all (a .log .now) (a .memory .now) (l .q) (l .n) (l .out) (l .inv .1) (s .last .1 .1 .1 .0) (s .result) (s .ensures) (same w)
+    (w .write-front .result) (not-false _ (c .before .before .before .before .if1 .left)) (w .write-front .ensures) (sym (c .before .before .either-of .ensures) ∙ c .before .if2 .taken)
 
 loop-again : tie.Need-loop-again Inv-loop μ-loop
-loop-again c = search needs
-
-same-length-3 : tie.Need-same-length-3 Inv-loop μ-loop
-same-length-3 c = search needs
+loop-again c =
+    let w = c .before .before .before .before .before in
+    let a = c .before .before .before .before .before .before .before .before .before .before .before .before .before .before .before .before .args in
+    let l = c .before .before .before .before .before .before .before .before .before .before .before .before .loop in
+    let s = c .before .before .before .before .before .before .before .before .before .play-on in (
+      same w ∙ l .inv .0,
+      poured-on (a .log .now) (a .memory .now) (l .q) (l .n) (l .out) (l .inv .1) (s .last .1 .1 .1 .0) (s .result) (s .ensures) (same w)
+          (w .write-front .result) (not-false _ (c .before .before .before .before .if1 .left)) (w .write-front .ensures) (sym (c .before .before .either-of .ensures) ∙ c .before .if2 .left),
+    )
 
 returns-3 : tie.Need-returns-3 Inv-loop μ-loop
-returns-3 c = search needs
+returns-3 c =
+    let a = c .before .before .before .before .before .args in
+    let l = c .before .loop in
+    absurd (poured-out (a .log .now) (a .memory .now) (l .q) (l .n) (l .out) (l .inv .1) (c .loop-test .left))
 
 pub pour-spec : {M : Type 1} → statement M
 pour-spec =
@@ -58,15 +65,15 @@ pour-spec =
     Inv-loop
     μ-loop
     loop-holds
-    play-on-requires
-    write-front-requires
-    same-length
+    (λ c κs. search needs)
+    (λ c κs. search needs)
+    (λ c. search needs)
     returns
-    either-of-requires
-    same-length-2
+    (λ c κs. search needs)
+    (λ c. search needs)
     returns-2
-    add-n
-    loop-less
+    (λ c. search needs)
+    (λ c. search needs)
     loop-again
-    same-length-3
+    (λ c. search needs)
     returns-3)
