@@ -1,16 +1,16 @@
--- A portion of a wait by a run: its words as lines. Assumes nothing.
+-- A portion of a wait by a run: its number, and its words as lines. Assumes nothing.
 use Prim.Native.Nat.{ℕ, suc, _+_, _-_, _*_, _/_, _%_, _≤_, _<_}
 use mathlib.Core.Path.{_≡_, refl, sym, ap, ap₂, _∙_}
 use mathlib.Core.Bool.{Bool, true, false}
 use mathlib.Core.List.{List, [], _∷_, _++_, map, append-assoc}
-use native.Mathlib.Nat.{add-zero}
+use native.Mathlib.Nat.{add-zero, sub-zero}
 use native.Mathlib.Omega.{arith}
 use lib.Dec.{eqb, leb, ltb}
 use lib.ListN.{length, getD, take, drop, length-append, take-append-drop}
 use lib.Seq.{sets, length-take-le}
-use borrow.Author.Tests.{ne-eqb, eqb-true, lt-leb, leb-true, leb-false, ltb-true, ltb-false}
+use borrow.Author.Tests.{ne-eqb, eqb-true, le-leb, lt-leb, leb-true, leb-false, ltb-true, ltb-false}
 use Rattle.arith.specs.Pick.{pick}
-use Rattle.reading.specs.Reading.{Mark, Progress, start, plain}
+use Rattle.reading.specs.Reading.{Mark, Progress, start}
 use Rattle.run_answer.specs.declared.Ran.{Ran}
 use Rattle.arith.specs.Over.{over}
 use Rattle.run_answer.specs.Run.{chipClockwork, roomOf, flat, number, readBy, refusal, answered, uncountedAnswer, uncountedLent}
@@ -29,7 +29,37 @@ use Rattle.play_rules.specs.Portion.{entryAt, lastOf}
 use Rattle.play_rules.specs.Turns.{playerOf}
 use Rattle.play_rules.proofs.RoomLaws.{Below, plain-most, plain-room, plain-below}
 use Rattle.play_step.specs.declared.Taken.{Taken}
-use Rattle.play_step.specs.Steps.{roomFor, lastIn, portionOf, portionText, portionTaken}
+use Rattle.play_step.specs.Steps.{roomFor, lastIn, portionOf, portionText, portionTaken, waitNumber, halted, waitTaken, waitText}
+
+-- THE NUMBER OF A WAIT
+module _ (memory : List ℕ) (p : Player) where
+  -- its run's own, where the clocks in all are not too many
+  pub number-run : p .time + p .wait ≤ 2000000000 → waitNumber memory p ≡ number memory (p .state) (p .wait)
+  unfolding waitNumber
+  number-run h = rw (le-leb (p .time + p .wait) 2000000000 h) (by (eqb (number memory (p .state) (p .wait)) 0) refl)
+    where
+      by : (t : Bool) → eqb (number memory (p .state) (p .wait)) 0 ≡ t → pick t 0 (number memory (p .state) (p .wait)) ≡ number memory (p .state) (p .wait)
+      by true e = sym (eqb-true (number memory (p .state) (p .wait)) 0 e)
+      by false e = refl
+
+  -- where they are, its run's own, else 9
+  pub number-late : 2000000000 < p .time + p .wait
+      → waitNumber memory p ≡ pick (eqb (number memory (p .state) (p .wait)) 0) 9 (number memory (p .state) (p .wait))
+  unfolding waitNumber
+  number-late h = rw (lt-leb (p .time + p .wait) 2000000000 h)
+
+  -- one that refuses the run refuses the wait
+  pub number-own : (n : ℕ) → number memory (p .state) (p .wait) ≡ suc n → waitNumber memory p ≡ suc n
+  unfolding waitNumber
+  number-own n e = rw (e, ne-eqb (suc n) 0 (λ z. omega arith))
+
+  -- refused in either case
+  pub late-refused : 2000000000 < p .time + p .wait → eqb (waitNumber memory p) 0 ≡ false
+  late-refused h = rw (number-late h) (by (eqb (number memory (p .state) (p .wait)) 0) refl)
+    where
+      by : (t : Bool) → eqb (number memory (p .state) (p .wait)) 0 ≡ t → eqb (pick t 9 (number memory (p .state) (p .wait))) 0 ≡ false
+      by true e = refl
+      by false e = e
 
 -- THE ROOM
 
@@ -99,40 +129,44 @@ marks-size t (m ∷ ms) h =
     let rest = marks-size t ms (h .1) in
     rw length-append (omega arith)
 
--- A STRETCH, REFUSED OR NOT
+-- what the run of a portion comes to: where it is refused, nothing
+unfoldable ranOf : List ℕ → ℕ → Player → Progress State
+ranOf memory room p = pick (eqb (number memory (p .state) (p .wait)) 0) (portionOf memory room p) (start room (p .state))
+
+-- A PORTION, REFUSED OR NOT
 module _ (memory : List ℕ) (room : ℕ) (p : Player) where
   abbrev R : Progress State
-  R = portionOf memory room p
+  R = ranOf memory room p
 
   portion-few : length (R .marks) ≤ room
-  unfolding portionOf
+  unfolding ranOf
   portion-few = by (eqb (number memory (p .state) (p .wait)) 0)
     where
-      by : (t : Bool) → length (pick t (plain (chipClockwork memory) room (p .wait) (p .state)) (start room (p .state)) .marks) ≤ room
+      by : (t : Bool) → length (pick t (portionOf memory room p) (start room (p .state)) .marks) ≤ room
       by true = let q = plain-room (chipClockwork memory) room (p .wait) (p .state) in omega arith
       by false = omega arith
 
   portion-below : Below 32767 (R .marks)
-  unfolding portionOf
+  unfolding ranOf
   portion-below = by (eqb (number memory (p .state) (p .wait)) 0)
     where
-      by : (t : Bool) → Below 32767 (pick t (plain (chipClockwork memory) room (p .wait) (p .state)) (start room (p .state)) .marks)
+      by : (t : Bool) → Below 32767 (pick t (portionOf memory room p) (start room (p .state)) .marks)
       by true = plain-below (chipClockwork memory) room (p .wait) (p .state) 32767 level-most
       by false = tt
 
   portion-most : R .done ≤ p .wait
-  unfolding portionOf
+  unfolding ranOf
   portion-most = by (eqb (number memory (p .state) (p .wait)) 0)
     where
-      by : (t : Bool) → pick t (plain (chipClockwork memory) room (p .wait) (p .state)) (start room (p .state)) .done ≤ p .wait
+      by : (t : Bool) → pick t (portionOf memory room p) (start room (p .state)) .done ≤ p .wait
       by true = plain-most (chipClockwork memory) room (p .wait) (p .state)
       by false = omega arith
 
 -- a portion that isn't refused fits
 pub portion-size : (memory : List ℕ) (p : Player) (room size at : ℕ) → at + 23 * room ≤ size
-    → at + length (portionText p (plain (chipClockwork memory) room (p .wait) (p .state))) ≤ size
+    → at + length (portionText p (portionOf memory room p)) ≤ size
 portion-size memory p room size at h =
-    let a = marks-size (p .time) (plain (chipClockwork memory) room (p .wait) (p .state) .marks) (plain-below (chipClockwork memory) room (p .wait) (p .state) 32767 level-most) in
+    let a = marks-size (p .time) (portionOf memory room p .marks) (plain-below (chipClockwork memory) room (p .wait) (p .state) 32767 level-most) in
     let q = plain-room (chipClockwork memory) room (p .wait) (p .state) in
     omega arith
 
@@ -141,28 +175,34 @@ module _ (memory : List ℕ) (p : Player) (at : ℕ) (out words : List ℕ) (lon
     (ran : Ran) (e : ran ≡ uncountedAnswer memory (p .state) (p .wait) (take (2 * room) words)) (after : List ℕ)
     (l : after ≡ uncountedLent memory (p .state) (p .wait) (take (2 * room) words) ++ drop (2 * room) words) where
   abbrev S : Progress State
-  S = portionOf memory room p
+  S = ranOf memory room p
+
+  abbrev P : Progress State
+  P = portionOf memory room p
+
+  abbrev N : ℕ
+  N = number memory (p .state) (p .wait)
+
+  abbrev test : Bool
+  test = eqb N 0
 
   room-is : roomOf (take (2 * room) words) ≡ room
   room-is = let n = length-take-le (2 * room) words (let h = room-low (length out) at room is in omega arith) in omega arith
 
-  ran-is : ran ≡ record { number = number memory (p .state) (p .wait); state = S .state; done = S .done; records = length (S .marks) }
-  unfolding uncountedAnswer answered readBy portionOf
-  ran-is = e ∙ rw room-is (by (eqb (number memory (p .state) (p .wait)) 0) refl)
+  ran-is : ran ≡ record { number = N; state = S .state; done = S .done; records = length (S .marks) }
+  unfolding uncountedAnswer answered readBy ranOf
+  ran-is = e ∙ rw room-is (by test refl)
     where
-      by : (t : Bool) → eqb (number memory (p .state) (p .wait)) 0 ≡ t
-          → pick t (record { number = 0; state = plain (chipClockwork memory) room (p .wait) (p .state) .state; done = plain (chipClockwork memory) room (p .wait) (p .state) .done; records = length (plain (chipClockwork memory) room (p .wait) (p .state) .marks) }) (refusal (number memory (p .state) (p .wait)) (p .state))
-          ≡ record { number = number memory (p .state) (p .wait); state = pick t (plain (chipClockwork memory) room (p .wait) (p .state)) (start room (p .state)) .state; done = pick t (plain (chipClockwork memory) room (p .wait) (p .state)) (start room (p .state)) .done; records = length (pick t (plain (chipClockwork memory) room (p .wait) (p .state)) (start room (p .state)) .marks) }
-      by true h = rw (eqb-true (number memory (p .state) (p .wait)) 0 h)
+      by : (t : Bool) → test ≡ t
+          → pick t (record { number = 0; state = P .state; done = P .done; records = length (P .marks) }) (refusal N (p .state))
+          ≡ record { number = N; state = pick t P (start room (p .state)) .state; done = pick t P (start room (p .state)) .done; records = length (pick t P (start room (p .state)) .marks) }
+      by true h = rw (eqb-true N 0 h)
       by false h = refl
 
   records-are : ran .records ≡ length (S .marks)
   records-are = ap (λ (r : Ran). r .records) ran-is
 
   -- the records, and words behind them
-  abbrev P : Progress State
-  P = plain (chipClockwork memory) room (p .wait) (p .state)
-
   split : (t : Bool) → (x : List ℕ)
       × (pick t (flat (P .marks) ++ drop (length (flat (P .marks))) (take (2 * room) words)) (take (2 * room) words) ++ drop (2 * room) words
       ≡ flat (pick t P (start room (p .state)) .marks) ++ x)
@@ -173,11 +213,8 @@ module _ (memory : List ℕ) (p : Player) (at : ℕ) (out words : List ℕ) (lon
   )
   split false = (words, take-append-drop (2 * room) words)
 
-  abbrev test : Bool
-  test = eqb (number memory (p .state) (p .wait)) 0
-
   after-is : after ≡ flat (S .marks) ++ split test .0
-  unfolding uncountedLent readBy over portionOf
+  unfolding uncountedLent readBy over ranOf
   after-is = l ∙ rw room-is (split test .1)
 
   entries-are : levelEntries (p .time) (ran .records) after ≡ map (entryAt (p .time)) (S .marks)
@@ -230,11 +267,32 @@ module _ (memory : List ℕ) (p : Player) (at : ℕ) (out words : List ℕ) (lon
           let c : leb (at + 23 * ran .records) (length out) ≡ false = lt-leb (at + 23 * ran .records) (length out) (omega arith) in
           rw none (lines-out out at (ran .records) [] c, lines-stay out at (ran .records) [] c ∙ sym (add-zero at))
 
-  pub portion-all : (r : Taken)
-      → r ≡ record { kind = 0; number = 0; place = 0; player = playerOf (p .phase) (p .wait - ran .done) (p .time + ran .done) (lastIn (p .last) (ran .records) after) (ran .state) (p .cursor); at = linesEnd out at (ran .records) (entriesText (levelEntries (p .time) (ran .records) after)) }
+  -- what is taken by the run's number
+  taken-is : p .time + p .wait ≤ 2000000000
+      → _≡_ {A = Taken} (record { kind = pick test 0 2; number = N; place = 0; player = playerOf (p .phase) (p .wait - S .done) (p .time + S .done) (lastOf (p .last) (S .marks)) (S .state) (p .cursor); at = at + length (portionText p S) })
+      (waitTaken memory room p at)
+  unfolding waitTaken ranOf lastOf
+  taken-is h = rw (number-run memory p h) (by test refl)
+    where
+      by : (t : Bool) → test ≡ t
+          → _≡_ {A = Taken} (record { kind = pick t 0 2; number = N; place = 0; player = playerOf (p .phase) (p .wait - pick t P (start room (p .state)) .done) (p .time + pick t P (start room (p .state)) .done) (lastOf (p .last) (pick t P (start room (p .state)) .marks)) (pick t P (start room (p .state)) .state) (p .cursor); at = at + length (portionText p (pick t P (start room (p .state)))) })
+          (pick t (portionTaken p at P) (halted N p at))
+      by true e = rw (eqb-true N 0 e)
+      by false e = rw (entries-none, add-zero (p .time), add-zero at, sub-zero (p .wait)) refl
+
+  text-is : p .time + p .wait ≤ 2000000000 → portionText p S ≡ waitText memory room p
+  unfolding waitText ranOf
+  text-is h = rw (number-run memory p h) (by test)
+    where
+      by : (t : Bool) → portionText p (pick t P (start room (p .state))) ≡ pick t (portionText p P) []
+      by true = refl
+      by false = entries-none
+
+  pub portion-all : p .time + p .wait ≤ 2000000000 → (r : Taken)
+      → r ≡ record { kind = pick (eqb (ran .number) 0) 0 2; number = ran .number; place = 0; player = playerOf (p .phase) (p .wait - ran .done) (p .time + ran .done) (lastIn (p .last) (ran .records) after) (ran .state) (p .cursor); at = linesEnd out at (ran .records) (entriesText (levelEntries (p .time) (ran .records) after)) }
       → (out′ : List ℕ) → out′ ≡ linesIn out at (ran .records) (entriesText (levelEntries (p .time) (ran .records) after))
-      → (r ≡ portionTaken p at S) × (out′ ≡ sets out at (portionText p S))
-  portion-all r q out′ b =
+      → (r ≡ waitTaken memory room p at) × (out′ ≡ sets out at (waitText memory room p))
+  portion-all h r q out′ b =
       let q′ = rw (entries-are, last-is (p .last), lines-are .1) at q in
       let b′ = rw (entries-are, lines-are .0) at b in
-      (q′ ∙ rw ran-is refl, b′)
+      (q′ ∙ rw ran-is (taken-is h), rw (← text-is h) b′)

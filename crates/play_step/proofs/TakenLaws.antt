@@ -8,12 +8,11 @@ use native.Mathlib.Omega.{arith}
 use lib.Dec.{eqb, leb}
 use lib.ListN.{length}
 use lib.Seq.{sets}
-use borrow.Author.Tests.{eq-eqb, eqb-true, eqb-false, leb-true, leb-false}
+use borrow.Author.Tests.{eqb-true, eqb-false, leb-true, leb-false}
 use Rattle.arith.specs.Pick.{pick}
 use Rattle.reading.specs.Saying.{Said, over, on, says, refused}
-use Rattle.reading.specs.Reading.{Progress, plain}
-use Rattle.run_answer.specs.Run.{chipClockwork, number}
-use Rattle.run_answer.proofs.AnswerLaws.{number-none}
+use Rattle.reading.specs.Reading.{Progress}
+use Rattle.run_answer.proofs.AnswerLaws.{number-none, number-three}
 use Rattle.chip.specs.Range.{inRange, Bytes}
 use Rattle.chip.specs.declared.State.{State}
 use Rattle.play_text.specs.declared.Entry.{Entry}
@@ -30,8 +29,8 @@ use Rattle.play_turn.specs.declared.Told.the-variants.{Over, On, Says, Refused}
 use Rattle.play_turn.specs.declared.Went.{Went}
 use Rattle.play_turn.specs.Turned.{toldAs, went}
 use Rattle.play_step.specs.declared.Taken.{Taken}
-use Rattle.play_step.specs.Steps.{takenOf, takenBytes, roomFor, portionOf, portionText, portionTaken, halted, waitTaken, waitText, stepTaken, stepBytes}
-use Rattle.play_step.proofs.PortionLaws.{room-fits, room-some, portion-size}
+use Rattle.play_step.specs.Steps.{takenOf, takenBytes, roomFor, portionOf, portionText, portionTaken, waitNumber, halted, waitTaken, waitText, stepTaken, stepBytes}
+use Rattle.play_step.proofs.PortionLaws.{number-run, number-late, number-own, room-fits, room-some, portion-size}
 
 -- WHAT A STEP COMES TO
 
@@ -136,18 +135,14 @@ module _ (turn : Player → Go) (p : Player) (at : ℕ) (before after : List ℕ
       }
 
 module _ (log memory : List ℕ) (p : Player) (before : List ℕ) (at : ℕ) where
-  -- A STRETCH OF A WAIT
+  -- A PORTION OF A WAIT
   module _ (size : length memory ≡ 32768) (f : inRange (p .state) ≡ true) (space : at + 23 ≤ length before) (phase : p .phase ≡ 2) (some : 0 < p .wait) (after : List ℕ) (r : Taken)
       (k : inRange (r .player .state) ≡ true) where
     abbrev room : ℕ
     room = roomFor (length before) at
 
     abbrev R : Progress State
-    R = plain (chipClockwork memory) room (p .wait) (p .state)
-
-    is-plain : p .wait ≤ 1000000 → portionOf memory room p ≡ R
-    unfolding portionOf
-    is-plain h = rw (eq-eqb _ 0 (number-none memory (p .state) (p .wait) size f h))
+    R = portionOf memory room p
 
     came-to : r ≡ portionTaken p at R → playerOf 2 (p .wait - R .done) (p .time + R .done) (portionTaken p at R .player .last) (R .state) (p .cursor) ≡ r .player
     came-to e =
@@ -181,18 +176,23 @@ module _ (log memory : List ℕ) (p : Player) (before : List ℕ) (at : ℕ) whe
 
     took-wait : r ≡ waitTaken memory room p at → after ≡ sets before at (waitText memory room p) → Took (turnOf log memory) p at before after r
     unfolding waitTaken waitText
-    took-wait = by (leb (p .wait) 1000000) refl (leb (p .time + p .wait) 2000000000) refl
+    took-wait e b = by (leb (p .wait) 1000000) refl (leb (p .time + p .wait) 2000000000) refl
       where
-        by : (t : Bool) → leb (p .wait) 1000000 ≡ t → (u : Bool) → leb (p .time + p .wait) 2000000000 ≡ u
-            → r ≡ pick t (pick u (portionTaken p at (portionOf memory room p)) (halted 9 p at)) (halted 3 p at)
-            → after ≡ sets before at (pick t (pick u (portionText p (portionOf memory room p)) []) []) → Took (turnOf log memory) p at before after r
-        by true a true c e b =
-            let s = leb-true (p .wait) 1000000 a in
-            took-portion s (leb-true (p .time + p .wait) 2000000000 c) (rw (is-plain s) at e) (rw (is-plain s) at b)
-        by true a false c e b =
-            took-refusal (turnOf log memory) p at before after r 9
-            (turn-nine log memory p phase some (leb-true (p .wait) 1000000 a) (leb-false (p .time + p .wait) 2000000000 c)) e b
-        by false a u c e b = took-refusal (turnOf log memory) p at before after r 3 (turn-three log memory p phase some (leb-false (p .wait) 1000000 a)) e b
+        by : (t : Bool) → leb (p .wait) 1000000 ≡ t → (u : Bool) → leb (p .time + p .wait) 2000000000 ≡ u → Took (turnOf log memory) p at before after r
+        by true a true c =
+            let short = leb-true (p .wait) 1000000 a in
+            let total = leb-true (p .time + p .wait) 2000000000 c in
+            let n : waitNumber memory p ≡ 0 = number-run memory p total ∙ number-none memory (p .state) (p .wait) size f short in
+            took-portion short total (rw n at e) (rw n at b)
+        by true a false c =
+            let short = leb-true (p .wait) 1000000 a in
+            let late = leb-false (p .time + p .wait) 2000000000 c in
+            let n : waitNumber memory p ≡ 9 = number-late memory p late ∙ rw (number-none memory (p .state) (p .wait) size f short) refl in
+            took-refusal (turnOf log memory) p at before after r 9 (turn-nine log memory p phase some short late) (rw n at e) (rw n at b)
+        by false a u c =
+            let long = leb-false (p .wait) 1000000 a in
+            let n : waitNumber memory p ≡ 3 = number-own memory p 2 (number-three memory (p .state) (p .wait) size f long) in
+            took-refusal (turnOf log memory) p at before after r 3 (turn-three log memory p phase some long) (rw n at e) (rw n at b)
 
   -- A STEP IS ONE TURN OR SEVERAL
   pub step-took : length memory ≡ 32768 → inRange (p .state) ≡ true → at + 23 ≤ length before → (after : List ℕ) (r : Taken) → r ≡ stepTaken log memory p before at
@@ -243,11 +243,9 @@ taken-player out at (Refused k q) p = refl
 
 -- a wait keeps the state in range
 pub wait-kept : (memory : List ℕ) → Bytes memory → (room : ℕ) (p : Player) (at : ℕ) → inRange (p .state) ≡ true → inRange (waitTaken memory room p at .player .state) ≡ true
-unfolding waitTaken portionOf
-wait-kept memory bytes room p at f = by (leb (p .wait) 1000000) (leb (p .time + p .wait) 2000000000) (eqb (number memory (p .state) (p .wait)) 0)
+unfolding waitTaken
+wait-kept memory bytes room p at f = by (eqb (waitNumber memory p) 0)
   where
-    by : (t u v : Bool) → inRange (pick t (pick u (portionTaken p at (pick v (plain (chipClockwork memory) room (p .wait) (p .state)) (record { state = p .state; done = 0; room = room; marks = [] }))) (halted 9 p at)) (halted 3 p at) .player .state) ≡ true
-    by true true true = plain-ranged memory bytes room (p .wait) (p .state) f
-    by true true false = f
-    by true false v = f
-    by false u v = f
+    by : (t : Bool) → inRange (pick t (portionTaken p at (portionOf memory room p)) (halted (waitNumber memory p) p at) .player .state) ≡ true
+    by true = plain-ranged memory bytes room (p .wait) (p .state) f
+    by false = f

@@ -6,7 +6,7 @@ use lib.ListN.{length, getD}
 use lib.Dec.{eqb, leb, ltb}
 use lib.Seq.{sets}
 use Rattle.arith.specs.Pick.{pick}
-use Rattle.reading.specs.Reading.{Progress, start, plain}
+use Rattle.reading.specs.Reading.{Progress, plain}
 use Rattle.run_answer.specs.Run.{chipClockwork, number}
 use Rattle.chip.specs.declared.State.{State}
 use Rattle.play_text.specs.Entries.{entryText, entriesText}
@@ -41,10 +41,9 @@ roomFor size at = pick (ltb ((size - at) / 23) 256) ((size - at) / 23) 256
 abbrev pub lastIn : ℕ → ℕ → List ℕ → ℕ
 lastIn last n words = pick (eqb n 0) last (getD words (2 * n - 1) 0)
 
--- a portion of a wait is the plain reading with so much room; with a memory or a state that a run refuses, nothing
-unfoldable pub portionOf : List ℕ → ℕ → Player → Progress State
-portionOf memory room p =
-    pick (eqb (number memory (p .state) (p .wait)) 0) (plain (chipClockwork memory) room (p .wait) (p .state)) (start room (p .state))
+-- a portion of a wait is the plain reading with so much room
+abbrev pub portionOf : List ℕ → ℕ → Player → Progress State
+portionOf memory room p = plain (chipClockwork memory) room (p .wait) (p .state)
 
 -- its records as lines
 abbrev pub portionText : Player → Progress State → List ℕ
@@ -61,19 +60,23 @@ portionTaken p at r =
       at = at + length (portionText p r);
     }
 
+-- a wait's number: its run's own, 1, 2 or 3, "Lowest number first"; then 9, "over 2,000,000,000 clocks"
+unfoldable pub waitNumber : List ℕ → Player → ℕ
+waitNumber memory p =
+    pick (eqb (number memory (p .state) (p .wait)) 0) (pick (leb (p .time + p .wait) 2000000000) 0 9) (number memory (p .state) (p .wait))
+
+-- "A refusal returns its number and place, the state .. as given"
 abbrev pub halted : ℕ → Player → ℕ → Taken
 halted number p at = record { kind = 2; number = number; place = 0; player = p; at = at }
 
--- a wait. 3: "a run of more than 1,000,000 clocks"; 9: "over 2,000,000,000 clocks"
+-- a wait: a portion of it, or its refusal
 unfoldable pub waitTaken : List ℕ → ℕ → Player → ℕ → Taken
 waitTaken memory room p at =
-    pick (leb (p .wait) 1000000)
-    (pick (leb (p .time + p .wait) 2000000000) (portionTaken p at (portionOf memory room p)) (halted 9 p at))
-    (halted 3 p at)
+    pick (eqb (waitNumber memory p) 0) (portionTaken p at (portionOf memory room p)) (halted (waitNumber memory p) p at)
 
+-- its lines; refused, "lent memory untouched"
 unfoldable pub waitText : List ℕ → ℕ → Player → List ℕ
-waitText memory room p =
-    pick (leb (p .wait) 1000000) (pick (leb (p .time + p .wait) 2000000000) (portionText p (portionOf memory room p)) []) []
+waitText memory room p = pick (eqb (waitNumber memory p) 0) (portionText p (portionOf memory room p)) []
 
 -- WHAT A STEP COMES TO: a portion of a wait, or a turn
 unfoldable pub stepTaken : List ℕ → List ℕ → Player → List ℕ → ℕ → Taken

@@ -6,7 +6,7 @@ ghost use lib.ListN.{length, getD};
 ghost use lib.Seq.{sets};
 ghost use Rattle.chip.specs.Range.{inRange};
 ghost use Rattle.play_rules.specs.Turns.{playerOf};
-ghost use Rattle.play_step.specs.Steps.{takenOf, takenBytes, roomFor, lastIn, portionOf, portionText, portionTaken, waitTaken, waitText, stepTaken, stepBytes};
+ghost use Rattle.play_step.specs.Steps.{takenOf, takenBytes, roomFor, lastIn, waitNumber, waitTaken, waitText, stepTaken, stepBytes};
 use chip::State;
 use play_rules::Player;
 use play_turn::Told;
@@ -96,11 +96,11 @@ fn room(size: usize, at: usize) -> usize
     if n < 256 { n } else { 256 }
 }
 
-// A portion of a wait, as many records as surely fit.
+// A portion of a wait, as many records as surely fit, or the refusal of its run, which leaves the player as it was.
 fn waited(p: Player, memory: &[u8], out: &mut [u8], at: usize, words: &mut [u32]) -> Taken
     requires { ⌜ (p .time + p .wait ≤ 2000000000) × (length (now words) ≡ 512) ⌝ }
-    ensures { λ r. ⌜ r ≡ portionTaken p at (portionOf (now (memory .entry)) (roomFor (length (now (out .entry))) at) p) ⌝ }
-    ensures { λ r. ⌜ now (out .exit) ≡ sets (now (out .entry)) at (portionText p (portionOf (now (memory .entry)) (roomFor (length (now (out .entry))) at) p)) ⌝ }
+    ensures { λ r. ⌜ r ≡ waitTaken (now (memory .entry)) (roomFor (length (now (out .entry))) at) p at ⌝ }
+    ensures { λ r. ⌜ now (out .exit) ≡ sets (now (out .entry)) at (waitText (now (memory .entry)) (roomFor (length (now (out .entry))) at) p) ⌝ }
 {
     let end = 2 * room(out.len(), at);
     let s = p.state;
@@ -109,25 +109,33 @@ fn waited(p: Player, memory: &[u8], out: &mut [u8], at: usize, words: &mut [u32]
     let next = play_levels::level_lines(out, at, p.time, words, n);
     let last = last_level(p.last, words, n);
     let after = ran.state;
-    outcome(ON, 0, 0, behind(p, ran.done, last, after), next)
+    let kind = arith::pick_u8(ran.number == 0, ON, REFUSED);
+    outcome(kind, ran.number, 0, behind(p, ran.done, last, after), next)
 }
 
-// A wait. 3: more than 1,000,000 clocks; 9: over 2,000,000,000 clocks in all.
+// The number of a wait that leads past 2,000,000,000 clocks: its run's own, else 9.
+fn late_number(p: Player, memory: &[u8]) -> u8
+    requires { ⌜ 2000000000 < p .time + p .wait ⌝ }
+    ensures { λ r. ⌜ r ≡ waitNumber (now (memory .entry)) p ⌝ }
+{
+    let s = p.state;
+    let number = run_answer::number_of(s, memory, arith::wide_u32(p.wait));
+    arith::pick_u8(number == 0, 9, number)
+}
+
+// A wait. Refused: as its run; 9: over 2,000,000,000 clocks in all.
 fn wait_step(p: Player, memory: &[u8], out: &mut [u8], at: usize) -> Taken
     ensures { λ r. ⌜ r ≡ waitTaken (now (memory .entry)) (roomFor (length (now (out .entry))) at) p at ⌝ }
     ensures { λ r. ⌜ now (out .exit) ≡ sets (now (out .entry)) at (waitText (now (memory .entry)) (roomFor (length (now (out .entry))) at) p) ⌝ }
 {
-    if 1000000 < p.wait {
-        return outcome(REFUSED, 3, 0, p, at);
-    }
     if 2000000000 < arith::wide_u32(p.time) + arith::wide_u32(p.wait) {
-        return outcome(REFUSED, 9, 0, p, at);
+        return outcome(REFUSED, late_number(p, memory), 0, p, at);
     }
     let mut words = [0u32; 512];
     waited(p, memory, out, at, &mut words)
 }
 
-// A turn of the player, or as many as a portion of a wait has.
+// A turn of the player, or as many as a portion of a wait has. Refused: a wait as its run is, then 9; a line of the log with its own number and place.
 pub fn step(p: Player, log: &[u8], memory: &[u8], out: &mut [u8], at: usize) -> Taken
     ensures { λ r. ⌜ r ≡ stepTaken (now (log .entry)) (now (memory .entry)) p (now (out .entry)) at ⌝ }
     ensures { λ r. ⌜ now (out .exit) ≡ stepBytes (now (log .entry)) (now (memory .entry)) p (now (out .entry)) at ⌝ }

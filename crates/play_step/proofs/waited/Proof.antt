@@ -29,31 +29,31 @@ last-level-requires c κs =
 
 behind-requires : tie.Need-behind-requires
 behind-requires c κs =
-    let a = c .before .before .before .before .before .before .before .before .before .before .before .before .before .before .before .before .before .before .before .args in
-    let k = c .before .before .before .before .before .before .before .before .before .before .before .before .before .before .before .room in
-    let r = c .before .before .before .before .before .before .before .before .before .before .before .uncounted in
-    let e = rw (c .before .before .before .before .before .before .before .before .before .before .before .before .before .wide-u32 .ensures .0) at (r .ensures .0) in
-    let l = ap (λ (x : List ℕ). x ++ drop (2 * k .result) (a .words .now)) (rw (c .before .before .before .before .before .before .before .before .before .before .before .before .before .wide-u32 .ensures .0) at (r .ensures .1)) in
-    let d = portion-done (a .memory .now) (a .p) (a .at) (a .out .now) (a .words .now) (c .before .before .before .before .before .before .before .before .before .before .before .before .before .before .before .before .before .before .before .pre .1) (k .result) (k .ensures) (r .result) e (r .last .1 .1 .1 .0 ++ drop (2 * k .result) (a .words .now)) l in
-    (d, omega (arith, d, c .before .before .before .before .before .before .before .before .before .before .before .before .before .before .before .before .before .before .before .pre .0))
-
-same-length : tie.Need-same-length
-same-length c = search needs
-
-same-length-2 : tie.Need-same-length-2
-same-length-2 c = omega (arith, c .before .before .before .before .before .before .before .before .before .before .before .before .words .given)
-
-returns : tie.Need-returns
-returns c =
     let a = c .before .before .before .before .before .before .before .before .before .before .before .before .before .before .before .before .before .before .before .before .before .args in
     let k = c .before .before .before .before .before .before .before .before .before .before .before .before .before .before .before .before .before .room in
     let r = c .before .before .before .before .before .before .before .before .before .before .before .before .before .uncounted in
     let e = rw (c .before .before .before .before .before .before .before .before .before .before .before .before .before .before .before .wide-u32 .ensures .0) at (r .ensures .0) in
     let l = ap (λ (x : List ℕ). x ++ drop (2 * k .result) (a .words .now)) (rw (c .before .before .before .before .before .before .before .before .before .before .before .before .before .before .before .wide-u32 .ensures .0) at (r .ensures .1)) in
-    let v = c .before .before .before .before .before .before .before .level-lines in
+    let d = portion-done (a .memory .now) (a .p) (a .at) (a .out .now) (a .words .now) (c .before .before .before .before .before .before .before .before .before .before .before .before .before .before .before .before .before .before .before .before .before .pre .1) (k .result) (k .ensures) (r .result) e (r .last .1 .1 .1 .0 ++ drop (2 * k .result) (a .words .now)) l in
+    (d, omega (arith, d, c .before .before .before .before .before .before .before .before .before .before .before .before .before .before .before .before .before .before .before .before .before .pre .0))
+
+same-length : tie.Need-same-length
+same-length c = omega (arith, c .before .before .before .before .before .before .before .before .out .given)
+
+same-length-2 : tie.Need-same-length-2
+same-length-2 c = omega (arith, c .before .before .before .before .before .before .before .before .before .before .before .before .before .before .words .given)
+
+returns : tie.Need-returns
+returns c =
+    let a = c .before .before .before .before .before .before .before .before .before .before .before .before .before .before .before .before .before .before .before .before .before .before .before .args in
+    let k = c .before .before .before .before .before .before .before .before .before .before .before .before .before .before .before .before .before .before .before .room in
+    let r = c .before .before .before .before .before .before .before .before .before .before .before .before .before .before .before .uncounted in
+    let e = rw (c .before .before .before .before .before .before .before .before .before .before .before .before .before .before .before .before .before .wide-u32 .ensures .0) at (r .ensures .0) in
+    let l = ap (λ (x : List ℕ). x ++ drop (2 * k .result) (a .words .now)) (rw (c .before .before .before .before .before .before .before .before .before .before .before .before .before .before .before .before .before .wide-u32 .ensures .0) at (r .ensures .1)) in
+    let v = c .before .before .before .before .before .before .before .before .before .level-lines in
     rw (← k .ensures)
-    (portion-all (a .memory .now) (a .p) (a .at) (a .out .now) (a .words .now) (c .before .before .before .before .before .before .before .before .before .before .before .before .before .before .before .before .before .before .before .before .before .pre .1) (k .result) (k .ensures) (r .result) e (r .last .1 .1 .1 .0 ++ drop (2 * k .result) (a .words .now)) l (c .outcome .result)
-    (c .outcome .ensures ∙ rw (c .before .behind .ensures, c .before .before .before .last-level .ensures, v .ensures .0) refl) (v .last .0) (v .ensures .1))
+    (portion-all (a .memory .now) (a .p) (a .at) (a .out .now) (a .words .now) (c .before .before .before .before .before .before .before .before .before .before .before .before .before .before .before .before .before .before .before .before .before .before .before .pre .1) (k .result) (k .ensures) (r .result) e (r .last .1 .1 .1 .0 ++ drop (2 * k .result) (a .words .now)) l (c .before .before .before .before .before .before .before .before .before .before .before .before .before .before .before .before .before .before .before .before .before .before .before .pre .0) (c .outcome .result)
+    (c .outcome .ensures ∙ rw (c .before .behind .ensures, c .before .before .pick-u8 .ensures, c .before .before .before .before .before .last-level .ensures, v .ensures .0) refl) (v .last .0) (v .ensures .1))
 
 pub waited-spec : {M : Type 1} → statement M
-waited-spec = tie.close (tie.spec (λ c κs. tt) mul-end (λ c κs. tt) slice-relend-prefix-uncounted slice-aggregate-uncounted (λ c κs. tt) (λ c. search needs) (λ c κs. tt) last-level-requires behind-requires (λ c κs. tt) same-length same-length-2 returns)
+waited-spec = tie.close (tie.spec (λ c κs. tt) mul-end (λ c κs. tt) slice-relend-prefix-uncounted slice-aggregate-uncounted (λ c κs. tt) (λ c. search needs) (λ c κs. tt) last-level-requires (λ c κs. tt) behind-requires (λ c κs. tt) same-length same-length-2 returns)
