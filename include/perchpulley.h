@@ -17,6 +17,8 @@
  *   access               8..15 PERCH_BYTE, 16..31 PERCH_LEVEL_AFTER, 32 PERCH_DIFFERS
  *   next_interrupt       8 PERCH_RISES, 32..63 PERCH_RISE_CLOCKS
  *   run, run_plain       8..31 PERCH_CLOCKS, 32..63 PERCH_RECORDS
+ *   outputs              8..11 PERCH_SQUARE1, 12..15 PERCH_SQUARE2, 16..19 PERCH_TRIANGLE, 20..23 PERCH_NOISE,
+ *                        24..30 PERCH_DMC
  *   meter, meter_records 8..15 PERCH_CASE, 16..31 PERCH_LOWEST, 32..47 PERCH_HIGHEST
  *   check                8..31 PERCH_PLACE, 32..62 PERCH_LOG_CLOCKS, 63 PERCH_LOG_MACHINE
  *   turns, items, fold   8..31 PERCH_PLACE, 32..63 PERCH_LOG_VALUE
@@ -57,7 +59,7 @@
 extern "C" {
 #endif
 
-#define PERCH_VERSION 10           /* of this header; perch_version() is the library's */
+#define PERCH_VERSION 11           /* of this header; perch_version() is the library's */
 #define PERCH_STATE_SIZE 91        /* bytes of a state; perch_state_size() at run time */
 #define PERCH_MEMORY_SIZE 32768    /* bytes of sample memory, $8000 to $FFFF */
 #define PERCH_MOST_CLOCKS 1000000  /* clocks that one run may be asked for */
@@ -139,6 +141,18 @@ uint64_t perch_interrupt_line(const uint8_t *state, size_t n);
 
 /* The mixed level, 0..32767. Refused: 2. */
 uint64_t perch_level(const uint8_t *state, size_t n);
+
+/* What the five channels give the mixer, the DMC 0..127 and each other 0..15. The value is square 1 + 2^4 x square 2 +
+ * 2^8 x triangle + 2^12 x noise + 2^16 x DMC. Refused: 2. */
+uint64_t perch_outputs(const uint8_t *state, size_t n);
+#define PERCH_SQUARE1(answer) ((unsigned)((answer) >> 8 & 0xf))
+#define PERCH_SQUARE2(answer) ((unsigned)((answer) >> 12 & 0xf))
+#define PERCH_TRIANGLE(answer) ((unsigned)((answer) >> 16 & 0xf))
+#define PERCH_NOISE(answer) ((unsigned)((answer) >> 20 & 0xf))
+#define PERCH_DMC(answer) ((unsigned)((answer) >> 24 & 0x7f))
+
+/* The byte that a read of $4015 would give; nothing is cleared, where perch_access would clear the frame flag. Refused: 2. */
+uint64_t perch_status(const uint8_t *state, size_t n);
 
 /* Works one clock with the m bytes of sample memory. Refused: 1, 2. */
 uint64_t perch_clock(uint8_t *state, size_t n, const uint8_t *memory, size_t m);
@@ -245,6 +259,13 @@ uint64_t perch_item(const uint8_t *log, size_t n, uint64_t k);
 uint64_t perch_body(const uint8_t *log, size_t n, uint64_t offset);
 #define PERCH_START(answer) ((uint32_t)((uint64_t)(answer) >> 32 & 0xffff))
 #define PERCH_LENGTH(answer) ((uint32_t)((uint64_t)(answer) >> 48))
+
+/* Makes the n bytes, whatever they held, the state at a clock of the log of ln bytes: after exactly so many clocks from
+ * power-on on the log's machine, accesses stamped with that clock done; at the log's end where that comes before. So a
+ * program stops at any clock, looks at the state, and goes on from it. The value is the clock reached. Refused, and the
+ * bytes stay: 1; n isn't the size of a state (2); as the log. */
+uint64_t perch_state_at(uint8_t *state, size_t n, const uint8_t *log, size_t ln, const uint8_t *memory, size_t m,
+                        uint64_t clock);
 
 /* CURSORS. A cursor goes through a log's items one behind the other, where perch_item would begin anew for each. It is
  * PERCH_CURSOR_SIZE bytes that the caller keeps between two calls, every number low byte first; a copy of them is a bookmark.

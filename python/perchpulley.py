@@ -18,7 +18,7 @@ from array import array
 from collections import namedtuple
 from ctypes import c_float, c_size_t, c_uint8, c_uint16, c_uint32, c_uint64, c_void_p
 
-VERSION = 10  # of the library that this file is for
+VERSION = 11  # of the library that this file is for
 MEMORY = 32768  # bytes of sample memory
 NTSC, PAL = 0, 1  # the machines
 MOST_CLOCKS = 1000000  # clocks that one run of the library may be asked for
@@ -31,6 +31,7 @@ Read = namedtuple("Read", "")
 Accessed = namedtuple("Accessed", "byte level differs")
 Ran = namedtuple("Ran", "done clocks levels")
 At = namedtuple("At", "chip clock")
+Outputs = namedtuple("Outputs", "square1 square2 triangle noise dmc")
 Levels = namedtuple("Levels", "clocks levels")
 Meter = namedtuple("Meter", "case lowest highest")
 
@@ -56,6 +57,8 @@ _FUNCTIONS = {
     "access": (c_uint64, _SLICE + [c_uint8, c_uint16, c_uint8]),
     "interrupt_line": (c_uint64, _SLICE),
     "level": (c_uint64, _SLICE),
+    "outputs": (c_uint64, _SLICE),
+    "status": (c_uint64, _SLICE),
     "run": (c_uint64, _SLICE + _SLICE + [c_uint64] + _SLICE + _SLICE),
     "why": (c_uint64, _SLICE + [c_uint64]),
     "next_interrupt": (c_uint64, _SLICE + _SLICE + [c_uint64, c_uint8]),
@@ -65,6 +68,7 @@ _FUNCTIONS = {
     "turns": (c_uint64, _SLICE),
     "items": (c_uint64, _SLICE),
     "item": (c_uint64, _SLICE + [c_uint64]),
+    "state_at": (c_uint64, _SLICE + _SLICE + _SLICE + [c_uint64]),
     "cursor_size": (c_size_t, []),
     "cursor_start": (c_uint64, _SLICE),
     "cursor_next": (c_uint64, _SLICE + _SLICE),
@@ -197,6 +201,17 @@ class Chip:
         return _value(_library.perch_level(self._state, len(self._state)))
 
     @property
+    def outputs(self):
+        """What the five channels give the mixer: 0 to 15 each, the DMC 0 to 127."""
+        value = _value(_library.perch_outputs(self._state, len(self._state)))
+        return Outputs(*(value >> place & 0xF for place in (0, 4, 8, 12)), value >> 16)
+
+    @property
+    def status(self):
+        """The byte that a read would give; nothing is cleared."""
+        return _value(_library.perch_status(self._state, len(self._state)))
+
+    @property
     def interrupt(self):
         """Whether the interrupt line is asserted."""
         return bool(_value(_library.perch_interrupt_line(self._state, len(self._state))))
@@ -270,19 +285,10 @@ def _passed(log, memory):
 def state_at(log, clock, memory=None):
     """The chip at a clock of a log, the accesses stamped with it among them; past the log's end the chip at its end. At has the chip and
     the clock where it stands."""
-    log, memory, checked = _passed(log, memory)
-    chip, time = Chip(checked.machine), 0
-    for act in items(log):
-        if isinstance(act, Wait):
-            left = clock - time
-            time += chip.run(min(act.clocks, left), memory).done
-            if act.clocks > left:
-                break
-        elif isinstance(act, Write):
-            chip.write(act.register, act.value)
-        else:
-            chip.read()
-    return At(chip, time)
+    log, memory, chip = bytes(log), _bytes(memory), Chip()
+    state = chip._state
+    lent = (state, len(state), log, len(log), memory, len(memory))
+    return At(chip, _log_value(_library.perch_state_at(*lent, min(max(clock, 0), 2**64 - 1))))
 
 
 def levels(log, memory=None):

@@ -1,5 +1,5 @@
 /* The whole header from C, every macro and every refusal of it: what is asked of a log, its items by a cursor, the player, a
- * log folded, one repaired, a VGM stream brought in, the chip, why a channel is silent, a sample's sheet, a meter. Exit status 0 where every answer is as
+ * log folded, one repaired, a VGM stream brought in, the chip, why a channel is silent, what the channels give, the state at a clock, a sample's sheet, a meter. Exit status 0 where every answer is as
  * expected. */
 #include <stdio.h>
 #include <string.h>
@@ -249,6 +249,44 @@ static void channels(void)
     expect("the triangle", perch_why(state, sizeof state, 2), PERCH_REFUSED_CHANNEL);
 }
 
+/* What the channels give, the status with nothing cleared, and the state at a clock of a log. */
+static void moments(void)
+{
+    static uint8_t memory[PERCH_MEMORY_SIZE];
+    static const char log[] = "log=1\nwrite=4015:0b\nwrite=4000:ff\nwrite=4002:fd\nwrite=4003:08\nwrite=4004:f7\nwrite=4006:fd\n"
+                              "write=4007:08\nwrite=4011:40\nwait=29829\nwrite=4011:05\nstop=29829\n";
+    const uint8_t *bytes = (const uint8_t *)log;
+    uint8_t state[PERCH_STATE_SIZE], kept[PERCH_STATE_SIZE];
+    const size_t n = sizeof state, ln = strlen(log), m = sizeof memory;
+    uint64_t answer;
+
+    expect("at clock 0", perch_state_at(state, n, bytes, ln, memory, m, 0), 0);
+    answer = perch_outputs(state, n);
+    expect("square 1", PERCH_SQUARE1(answer), 15);
+    expect("square 2", PERCH_SQUARE2(answer), 7);
+    expect("triangle", PERCH_TRIANGLE(answer), 15);
+    expect("noise", PERCH_NOISE(answer), 0);
+    expect("DMC", PERCH_DMC(answer), 64);
+    expect("status", PERCH_VALUE(perch_status(state, n)), 0x03);
+
+    expect("a clock before the end", PERCH_LOG_VALUE(perch_state_at(state, n, bytes, ln, memory, m, 29828)), 29828);
+    expect("going on from there", perch_clock(state, n, memory, m), PERCH_DONE);
+    expect("the frame flag", PERCH_VALUE(perch_status(state, n)), 0x43);
+    expect("nothing was cleared", PERCH_VALUE(perch_status(state, n)), 0x43);
+    perch_access(state, n, 0, 0x4011, 0x05);
+    expect("the end", PERCH_LOG_VALUE(perch_state_at(kept, n, bytes, ln, memory, m, UINT64_MAX)), 29829);
+    expect("the same state", (uint64_t)memcmp(state, kept, n), 0);
+
+    expect("no memory", perch_state_at(state, n - 1, bytes, ln, memory, m - 1, 0), PERCH_REFUSED_MEMORY);
+    expect("no state", perch_state_at(state, n - 1, bytes, ln - 1, memory, m, 0), PERCH_REFUSED_STATE);
+    answer = perch_state_at(state, n, bytes, ln - 1, memory, m, 0);
+    expect("no line feed", PERCH_NUMBER(answer), PERCH_REFUSED_FEED);
+    expect("its place", PERCH_PLACE(answer), ln - 1);
+    expect("the state stays", (uint64_t)memcmp(state, kept, n), 0);
+    expect("outputs of no state", perch_outputs(state, n - 1), PERCH_REFUSED_STATE);
+    expect("status of no state", perch_status(state, n - 1), PERCH_REFUSED_STATE);
+}
+
 static void samples(void)
 {
     static uint8_t memory[PERCH_MEMORY_SIZE];
@@ -297,6 +335,7 @@ int main(void)
     chips();
     streams();
     channels();
+    moments();
     samples();
     meters();
     puts(wrong ? "log: not as expected" : "log: as expected");

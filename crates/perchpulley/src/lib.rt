@@ -5,6 +5,7 @@ ghost use mathlib.Core.Path.{_≡_};
 ghost use Rattle.chip_api.specs.Answer.{accessAnswer, lineAnswer, levelAnswer, clockAnswer};
 ghost use Rattle.c_state.specs.Bytes.{stateSize, stateIn};
 ghost use Rattle.c_chip.specs.Boundary.{powerPacked, powerBytes, inRangePacked, accessOf, accessPacked, accessBytes, linePacked, levelPacked, clockPacked, clockBytes};
+ghost use Rattle.c_probe.specs.Packed.{outputsPacked, statusPacked};
 ghost use Rattle.perchpulley.specs.Version.{version};
 
 pub mod asked;
@@ -23,7 +24,7 @@ pub mod salvages;
 pub extern "C" fn perch_version() -> u32
     ensures { λ r. ⌜ r ≡ version ⌝ }
 {
-    10
+    11
 }
 
 // How many bytes a state is.
@@ -75,6 +76,22 @@ pub extern "C" fn perch_level(state: &[u8]) -> u64
     ensures { λ r. ⌜ r ≡ levelPacked (levelAnswer (stateIn (now (state .entry)))) ⌝ }
 {
     c_chip::level(state)
+}
+
+// What the five channels give the mixer: square 1 + 2^4 x square 2 + 2^8 x triangle + 2^12 x noise + 2^16 x DMC. Refused: 2.
+#[no_mangle]
+pub extern "C" fn perch_outputs(state: &[u8]) -> u64
+    ensures { λ r. ⌜ r ≡ outputsPacked (stateIn (now (state .entry))) ⌝ }
+{
+    c_probe::outputs(state)
+}
+
+// The byte that a read of $4015 would give; nothing is cleared. Refused: 2.
+#[no_mangle]
+pub extern "C" fn perch_status(state: &[u8]) -> u64
+    ensures { λ r. ⌜ r ≡ statusPacked (stateIn (now (state .entry))) ⌝ }
+{
+    c_probe::status(state)
 }
 
 // Works one clock. Refused: 1, 2.

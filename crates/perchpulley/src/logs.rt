@@ -1,5 +1,6 @@
-// What C and Rust ask of a log: whether it passes, its totals, its items, and the bodies of its loops.
+// What C and Rust ask of a log: whether it passes, its totals, its items, the bodies of its loops, and the state at a clock.
 ghost use mathlib.Core.Path.{_≡_};
+ghost use Rattle.c_at.specs.Packed.{atAnswer, atPacked, atBytes};
 ghost use Rattle.c_log.specs.Logs.{checkPacked, turnsPacked, itemsPacked, itemPacked, bodyPacked};
 
 // Checks a log; the value is its clocks in all + 2^31 x the machine, 0 NTSC and 1 PAL. Refused: 4, 5, 7 to 10, 14 to 19.
@@ -40,4 +41,14 @@ pub extern "C" fn perch_body(log: &[u8], offset: u64) -> u64
     ensures { λ r. ⌜ r ≡ bodyPacked (now (log .entry)) offset ⌝ }
 {
     c_log::body(log, offset)
+}
+
+// Makes the bytes the state at a clock of a log, whatever they held, all accesses stamped up to that clock done; at the log's end where that comes
+// before. The value is the clock reached. Refused, and the bytes stay: 1; 2, for another length; as the log.
+#[no_mangle]
+pub extern "C" fn perch_state_at(state: &mut [u8], log: &[u8], memory: &[u8], clock: u64) -> u64
+    ensures { λ r. ⌜ r ≡ atPacked (atAnswer (now (log .entry)) (now (memory .entry)) clock (now (state .entry))) ⌝ }
+    ensures { λ r. ⌜ now (state .exit) ≡ atBytes (atAnswer (now (log .entry)) (now (memory .entry)) clock (now (state .entry))) (now (state .entry)) ⌝ }
+{
+    c_at::state_at(state, log, memory, clock)
 }

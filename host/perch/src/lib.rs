@@ -103,6 +103,18 @@
 //! ```
 //!
 //! ```
+//! # let memory = [0; perch::MEMORY];
+//! let log = b"log=1\nwrite=4011:40\nwait=29829\nread=4015\nstop=29829\n";
+//! let (chip, clock) = perch::Chip::at(log, &memory, 29828)?;
+//! assert_eq!((chip.outputs()?.triangle, chip.outputs()?.dmc, chip.status()?, clock), (15, 64, 0x00, 29828));
+//! let mut next = chip;
+//! next.clock(&memory)?;
+//! assert_eq!((next.status()?, next.status()?), (0x40, 0x40));
+//! assert_eq!(perch::Chip::at(log, &memory, 30000)?.0.status()?, 0x00);
+//! # Ok::<(), Box<dyn std::error::Error>>(())
+//! ```
+//!
+//! ```
 //! # use perch::Meter;
 //! assert_eq!(perch::meter(&[0, 16384])?, Meter::Moving { lowest: 0.0, highest: 0.5 });
 //! assert_eq!(perch::meter_records(&[7, 8192, 9, 8192], 0, 2, None)?.to_string(), "steady at 0.25");
@@ -120,6 +132,7 @@ mod access;
 mod cursor;
 mod log;
 mod meter;
+mod outputs;
 pub mod raw;
 mod sheet;
 mod why;
@@ -131,6 +144,7 @@ pub use log::{
     turns,
 };
 pub use meter::{Meter, meter, meter_records};
+pub use outputs::Outputs;
 pub use sheet::sheet;
 pub use why::{Channel, Why};
 
@@ -143,7 +157,7 @@ pub const MEMORY: usize = 32_768;
 pub const STATE: usize = 91;
 
 /// The version of the header that this wraps; the library's is `version()`.
-pub const VERSION: u32 = 10;
+pub const VERSION: u32 = 11;
 
 /// The version of the library linked. One of another version has other sizes, layouts or functions: the first call of any other
 /// function here ends the program where it isn't `VERSION`.

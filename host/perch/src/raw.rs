@@ -11,8 +11,9 @@ use std::sync::Once;
 use standin::{
     perch_access, perch_begin, perch_body, perch_check, perch_clock, perch_fold, perch_import, perch_in_range,
     perch_interrupt_line, perch_item, perch_level, perch_level_fraction, perch_meter, perch_meter_records,
-    perch_next_interrupt, perch_play_on, perch_player_size, perch_power_on, perch_reason, perch_refusal_text,
-    perch_run, perch_run_plain, perch_salvage, perch_sheet, perch_state_size, perch_why,
+    perch_next_interrupt, perch_outputs, perch_play_on, perch_player_size, perch_power_on, perch_reason,
+    perch_refusal_text, perch_run, perch_run_plain, perch_salvage, perch_sheet, perch_state_at, perch_state_size,
+    perch_status, perch_why,
 };
 #[cfg(feature = "standin")]
 use standin::{perch_cursor_next, perch_cursor_size, perch_cursor_start, perch_items, perch_turns, perch_version};
@@ -35,6 +36,8 @@ unsafe extern "C" {
     fn perch_access(state: *mut u8, n: usize, read: u8, register: u16, value: u8) -> u64;
     fn perch_interrupt_line(state: *const u8, n: usize) -> u64;
     fn perch_level(state: *const u8, n: usize) -> u64;
+    fn perch_outputs(state: *const u8, n: usize) -> u64;
+    fn perch_status(state: *const u8, n: usize) -> u64;
     fn perch_clock(state: *mut u8, n: usize, memory: *const u8, m: usize) -> u64;
     fn perch_run(
         state: *mut u8,
@@ -72,6 +75,15 @@ unsafe extern "C" {
         m: usize,
         text: *mut u8,
         t: usize,
+    ) -> u64;
+    fn perch_state_at(
+        state: *mut u8,
+        n: usize,
+        log: *const u8,
+        ln: usize,
+        memory: *const u8,
+        m: usize,
+        clock: u64,
     ) -> u64;
     fn perch_refusal_text(number: u8, place: u64, text: *mut u8, t: usize) -> u64;
     fn perch_reason(number: u8, text: *mut u8, t: usize) -> u64;
@@ -140,6 +152,18 @@ pub fn interrupt_line(state: &[u8]) -> u64 {
 pub fn level(state: &[u8]) -> u64 {
     same_version();
     unsafe { perch_level(state.as_ptr(), state.len()) }
+}
+
+/// What the channels give the mixer: square 1 + 2^4 x square 2 + 2^8 x triangle + 2^12 x noise + 2^16 x DMC.
+pub fn outputs(state: &[u8]) -> u64 {
+    same_version();
+    unsafe { perch_outputs(state.as_ptr(), state.len()) }
+}
+
+/// What a read of $4015 would give; nothing is cleared.
+pub fn status(state: &[u8]) -> u64 {
+    same_version();
+    unsafe { perch_status(state.as_ptr(), state.len()) }
 }
 
 /// Works one clock.
@@ -227,6 +251,14 @@ pub fn play_on(player: &mut [u8], log: &[u8], memory: &[u8], text: &mut [u8]) ->
             text.as_mut_ptr(),
             text.len(),
         )
+    }
+}
+
+/// Makes the bytes the state at a clock of a log; the value is the clock reached, or the place of a refusal.
+pub fn state_at(state: &mut [u8], log: &[u8], memory: &[u8], clock: u64) -> u64 {
+    same_version();
+    unsafe {
+        perch_state_at(state.as_mut_ptr(), state.len(), log.as_ptr(), log.len(), memory.as_ptr(), memory.len(), clock)
     }
 }
 

@@ -128,3 +128,25 @@ fn versions_and_sizes_agree() {
     assert_eq!(perch::raw::player_size(), perch::PLAYER);
     assert_eq!(perch::raw::cursor_size(), perch::CURSOR);
 }
+
+#[test]
+fn states_at_a_clock() {
+    let memory = vec![0; MEMORY];
+    let log = b"log=1\nmachine=pal\nwrite=4011:40\nwait=10\nwrite=4011:05\nstop=10\n";
+    let (chip, clock) = Chip::at(log, &memory, 9).unwrap();
+    assert_eq!((chip.machine(), chip.outputs().unwrap().dmc, clock), (Machine::Pal, 64, 9));
+    let (chip, clock) = Chip::at(log, &memory, u64::MAX).unwrap();
+    assert_eq!((chip.outputs().unwrap().dmc, clock), (5, 10));
+    assert_eq!(Chip::at(log, &memory[1..], 9), Err(fault(1, 0)));
+    assert_eq!(Chip::at(&log[..20], &memory, 9), Err(fault(17, 20)));
+}
+
+#[test]
+fn what_channels_give() {
+    let mut chip = Chip::power_on(Machine::Ntsc);
+    for (register, value) in [(0x4015, 0x0b), (0x4000, 0xff), (0x4002, 0xfd), (0x4003, 0x08), (0x4011, 0x7f)] {
+        chip.access(Access::Write(register, value)).unwrap();
+    }
+    let gives = perch::Outputs { square1: 15, square2: 0, triangle: 15, noise: 0, dmc: 127 };
+    assert_eq!((chip.outputs(), chip.status()), (Ok(gives), Ok(0x01)));
+}

@@ -4,7 +4,7 @@
 //! It is the library's choice and no rule of document 01; crates/c_player/specs/Player.antt defines it.
 
 /// The header's version: every change of a size, a layout or a function raises it.
-pub const VERSION: u32 = 10;
+pub const VERSION: u32 = 11;
 
 /// Where a part lies in the bytes.
 #[derive(Clone, Copy, Debug)]
