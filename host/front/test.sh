@@ -49,17 +49,17 @@ says() {
 verbs() {
   cd "$examples"
   for log in first tune sweep drum sample scale; do as 0 $log.log player; done
-  for verb in check fold salvage meter "meter waits" "why 5"; do as 0 sweep.log perch $verb; done
+  for verb in check fold salvage meter "meter waits" "why 5" "at 5" "vcd 0 5"; do as 0 sweep.log perch $verb; done
   as 0 damaged.log perch salvage
   as 0 scale.vgm perch import
   as 0 /dev/null perch sheet 64 c000 20
   for log in slip damaged; do
     as 1 $log.log player
-    for verb in check fold meter "meter waits" "why 5"; do as 1 $log.log perch $verb; done
+    for verb in check fold meter "meter waits" "why 5" "at 5" "vcd 0 5"; do as 1 $log.log perch $verb; done
   done
   as 1 scale.log perch import
   as 1 /dev/null perch sheet 128 c000 20
-  for words in nothing "nothing first.log" "check a b" why "why 05" "why first.log" "sheet 64 C000 20" "sheet 64 c000 20 1"; do
+  for words in nothing "nothing first.log" "check a b" why "why 05" "why first.log" at "at 05" "vcd 5" "vcd 0 0" "vcd 0 first.log" "sheet 64 C000 20" "sheet 64 c000 20 1"; do
     as 2 first.log perch $words
   done
   as 3 . player

@@ -10,6 +10,8 @@ mod pieces;
 mod refused;
 mod salvage;
 mod sheet;
+mod states;
+mod trace;
 mod usage;
 mod why;
 
@@ -41,6 +43,12 @@ fn run(verb: &[u8], words: usize) -> bool {
     }
     if arith::both_of(words == 3, text::exact(verb, b"why")) {
         return why::why();
+    }
+    if arith::both_of(words == 3, text::exact(verb, b"at")) {
+        return states::at();
+    }
+    if arith::both_of(words == 4, text::exact(verb, b"vcd")) {
+        return trace::vcd();
     }
     if arith::both_of(words == 2, text::exact(verb, b"meter")) {
         return meters::meter(false);

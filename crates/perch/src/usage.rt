@@ -40,38 +40,48 @@ pub(crate) fn usage(file: i32) -> bool {
     let g = line(
         file,
         f,
-        b"  meter       a log on standard input: whether it is silent, steady or moving, and between which levels\n",
+        b"  at CLOCK    a log on standard input: every field of the state there, a line each\n",
     );
     let h = line(
         file,
         g,
-        b"  meter waits the same, and that of each of its waits\n",
+        b"  vcd FROM CLOCKS\n              a log on standard input: what is seen of it in these clocks, as a VCD for GTKWave\n",
     );
     let i = line(
         file,
         h,
-        b"  interrupts  a log on standard input: when the interrupt flags and the line change\n",
+        b"  meter       a log on standard input: whether it is silent, steady or moving, and between which levels\n",
     );
     let j = line(
         file,
         i,
-        b"  dwell       a log on standard input: how many clocks the DMC stood at each of its levels\n",
+        b"  meter waits the same, and that of each of its waits\n",
     );
     let k = line(
         file,
         j,
+        b"  interrupts  a log on standard input: when the interrupt flags and the line change\n",
+    );
+    let l = line(
+        file,
+        k,
+        b"  dwell       a log on standard input: how many clocks the DMC stood at each of its levels\n",
+    );
+    let m = line(
+        file,
+        l,
         b"  sheet LEVEL ADDRESS LENGTH\n              the level after each byte of a sample in sample.bin\n",
     );
-    let l = line(file, k, b"  help        these lines\n");
-    let m = line(file, l, b"  version     the version of the library\n");
+    let n = line(file, m, b"  help        these lines\n");
+    let o = line(file, n, b"  version     the version of the library\n");
     line(
         file,
-        m,
-        b"why, meter, interrupts, dwell and sheet read the sample memory from the file sample.bin of the current folder\n",
+        o,
+        b"why, at, vcd, meter, interrupts, dwell and sheet read the sample memory from the file sample.bin of the current folder\n",
     )
 }
 
 // The number is that of `crates/perchpulley/specs/Version.antt`.
 pub(crate) fn version() -> bool {
-    program_io::write_all(STDOUT_FILENO, b"perch 10\n")
+    program_io::write_all(STDOUT_FILENO, b"perch 11\n")
 }

@@ -20,12 +20,14 @@ const fn verb(name: &'static [&'static str], words: usize, log: bool, last: Last
 }
 
 /// Of two that begin alike the longer stands first.
-const VERBS: [Verb; 10] = [
+const VERBS: [Verb; 12] = [
     verb(&["check"], 0, true, Last::Any),
     verb(&["fold"], 0, true, Last::Stop),
     verb(&["import"], 0, true, Last::Stop),
     verb(&["salvage"], 0, true, Last::Stop),
     verb(&["why"], 1, true, Last::Any),
+    verb(&["at"], 1, true, Last::Any),
+    verb(&["vcd"], 2, true, Last::Any),
     verb(&["meter", "waits"], 0, true, Last::Any),
     verb(&["meter"], 0, true, Last::Any),
     verb(&["interrupts"], 0, true, Last::Stop),
@@ -65,6 +67,9 @@ mod tests {
         assert_eq!(own_of("check a.log b.log"), 3);
         assert_eq!(own_of("why 5"), 2);
         assert_eq!(own_of("why 5 a.log"), 2);
+        assert_eq!(own_of("at 5 a.log"), 2);
+        assert_eq!(own_of("vcd 5 a.log"), 3);
+        assert_eq!(own_of("vcd 5 10 a.log"), 3);
         assert_eq!(own_of("meter a.log"), 1);
         assert_eq!(own_of("meter waits"), 2);
         assert_eq!(own_of("meter waits a.log"), 2);
