@@ -31,6 +31,13 @@ impl Memory {
     }
 }
 
+/// The sample memory that logs are played with.
+pub fn sample(seed: u64) -> Vec<u8> {
+    let mut memory = Memory { start: seed as u16, times: 25173, plus: 13849 }.bytes();
+    memory.truncate(MEMORY);
+    memory
+}
+
 /// One operation of a case.
 #[derive(Clone, Copy, Debug, PartialEq, Eq)]
 pub enum Op {

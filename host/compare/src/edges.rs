@@ -1,15 +1,13 @@
 //! `perch interrupts` on logs drawn near the edges of the frame's flag and of the DMC's: waits that end a clock before, at and
 //! behind a rise, accesses that clear there, samples of 1 and 17 bytes, looping or not.
 
-use crate::case::Memory;
+use crate::case::sample;
 use crate::counts::Counts;
+use crate::program::{Program, same_text};
 use crate::random::Random;
 use reading::interrupt::next;
 use reading::log::Item;
-use reading::{Chip, MEMORY, Machine, flags};
-use std::io::Write;
-use std::path::Path;
-use std::process::{Command, Stdio};
+use reading::{Chip, Machine, flags};
 
 /// The clocks that a log has at least, before its last lines.
 const FEWEST_CLOCKS: u64 = 100_000;
@@ -228,49 +226,18 @@ fn log(random: &mut Random, memory: &[u8], counts: &mut Counts) -> Vec<u8> {
     draft.lines.join("\n").into_bytes()
 }
 
-/// What a program writes for a log, in a folder with its sample.bin.
-fn written(program: &Path, folder: &Path, log: &[u8]) -> std::io::Result<String> {
-    let mut command = Command::new(program);
-    command.arg("interrupts").current_dir(folder).stdin(Stdio::piped()).stdout(Stdio::piped());
-    let mut child = command.spawn()?;
-    // It reads all of a log before it writes; a program that doesn't is told by what it writes.
-    let _ = child.stdin.take().map(|mut input| input.write_all(log));
-    Ok(String::from_utf8_lossy(&child.wait_with_output()?.stdout).into_owned())
-}
-
 /// Draws logs and holds what a program `perch` writes for them to the reading's texts; a failing log is told whole.
 pub fn compare(seed: u64, logs: u64, program: &str) -> Result<String, String> {
-    let told = |error: std::io::Error| format!("{program}: {error}");
-    let program_path = std::fs::canonicalize(program).map_err(told)?;
-    let folder = std::env::temp_dir().join(format!("edges-{}", std::process::id()));
-    std::fs::create_dir(&folder).map_err(told)?;
-    let mut memory = Memory { start: seed as u16, times: 25173, plus: 13849 }.bytes();
-    memory.truncate(MEMORY);
-    let result = std::fs::write(folder.join("sample.bin"), &memory)
-        .map_err(told)
-        .and_then(|()| draw_all(seed, logs, &memory, |log| written(&program_path, &folder, log).map_err(told)));
-    std::fs::remove_dir_all(&folder).map_err(told)?;
-    result
-}
-
-fn draw_all(
-    seed: u64,
-    logs: u64,
-    memory: &[u8],
-    text: impl Fn(&[u8]) -> Result<String, String>,
-) -> Result<String, String> {
+    let memory = sample(seed);
+    let program = Program::new(program, &memory)?;
     let mut counts = Counts::new(logs, THINGS.map(|(name, fewest)| (name, fewest * 10_000 / 300)));
     let mut lines = 0;
     for number in 0..logs {
-        let log = log(&mut Random::new(seed, "edges", number), memory, &mut counts);
-        let (ours, theirs) = (flags::text(&log, memory), text(&log)?);
-        if ours != theirs {
-            let at = ours.lines().zip(theirs.lines()).take_while(|(ours, theirs)| ours == theirs).count();
-            let line = |text: &str| text.lines().nth(at).unwrap_or("nothing").to_string();
-            let log = String::from_utf8_lossy(&log);
-            let (ours, theirs) = (line(&ours), line(&theirs));
-            return Err(format!("seed {seed}, log {number}: line {at} is {theirs}, by the reading {ours}\n{log}"));
-        }
+        let log = log(&mut Random::new(seed, "edges", number), &memory, &mut counts);
+        let ours = flags::text(&log, &memory);
+        let theirs = program.writes(&["interrupts".into()], &log)?;
+        let log = String::from_utf8_lossy(&log);
+        same_text(&ours, &theirs).map_err(|what| format!("seed {seed}, log {number}: {what}\n{log}"))?;
         lines += ours.lines().count();
     }
     Ok(format!("{logs} logs, {lines} lines ({})\n", counts.told()?))

@@ -1,11 +1,11 @@
 //! The library against the plain Rust reading, on drawn cases. See README.md beside it.
 
-use compare::case::{self, Case, Outcome};
+use compare::case::{self, Case, Outcome, sample};
 use compare::judge::{self, Tally, judge};
 use compare::random::Random;
 use compare::{
-    accesses, cursors, draw, edges, every, folds, free, imports, interrupts, lines, logs, machines, meters, orders,
-    players, reasons, salvages, sheets, stored,
+    accesses, cursors, draw, edges, every, folds, free, imports, interrupts, lines, logs, machines, meters, moments,
+    orders, outputs, players, reasons, salvages, sheets, stored, traces,
 };
 use reading::{Chip, MEMORY};
 use std::process::ExitCode;
@@ -22,10 +22,16 @@ compare examples FOLDER                                 hold the library to the 
 compare text LOG SAMPLE                                 write what the player writes for a log, by the reading
 compare dwell LOG SAMPLE                                write what perch dwell writes for a log, by the reading
 compare flags LOG SAMPLE                                write what perch interrupts writes for a log, by the reading
+compare at LOG SAMPLE CLOCK                             write what perch at writes for a log, by the reading
+compare vcd LOG SAMPLE FROM CLOCKS                      write what perch vcd writes for a log, by the reading
+compare carried VCD OTHER FEWEST                        hold each lane of another VCD to the lane of its name, so many at least
 compare edges N PERCH [--seed N]                        hold what a built perch interrupts writes for N logs drawn near edges to the reading
+compare lanes VCD LOG SAMPLE FROM CLOCKS                hold each lane of a VCD at each clock and each access to the reading
+compare moments N PERCH [--seed N]                      hold what a built perch at writes for N drawn logs and clocks to the reading
+compare traces N PERCH [--seed N]                       hold what a built perch vcd writes for N drawn windows to the reading
 compare judged FOLDER                                   write what test_logs prints about the logs of a folder
 compare played FOLDER                                   write what test_plays prints about them, with sample.bin
---each N: so many accesses, orders, reasons, meters, sheets and texts, half as many whole logs, cursors, players and imports
+--each N: so many accesses, orders, reasons, outputs, meters, sheets and texts, half as many whole logs, cursors, players and imports
 --archive: an error where the library's archive isn't linked; --brief: no more parts after one that differs";
 
 /// What the command line asks for.
@@ -126,13 +132,6 @@ fn singles_are_a_run(seed: u64, lists: u64) -> Result<String, String> {
     Ok(format!("{lists} lists of single clocks, each against one run"))
 }
 
-/// The sample memory that logs are played with.
-fn sample(seed: u64) -> Vec<u8> {
-    let mut memory = case::Memory { start: seed as u16, times: 25173, plus: 13849 }.bytes();
-    memory.truncate(MEMORY);
-    memory
-}
-
 fn compare(asked: &Asked) -> bool {
     let seed = asked.seed;
     println!("seed {seed}, against {}", perch::LINKED);
@@ -168,11 +167,13 @@ fn compare(asked: &Asked) -> bool {
     });
     part("accesses", &mut || accesses::compare(seed, asked.each));
     part("reasons", &mut || reasons::compare(seed, asked.each));
+    part("outputs", &mut || outputs::compare(seed, asked.each));
     part("meters", &mut || meters::compare(seed, asked.each));
     part("sheets", &mut || sheets::compare(seed, asked.each));
     let memory = sample(seed);
     part("orders", &mut || orders::compare(seed, asked.each, &memory));
     part("interrupts", &mut || interrupts::compare(seed, asked.each, &memory));
+    part("states", &mut || moments::states(seed, asked.logs / 4, &memory));
     part("lines", &mut || lines::compare(seed, asked.logs * 50, &memory));
     part("cuts", &mut || lines::cuts(seed, asked.logs / 20));
     part("machines", &mut || machines::compare(seed, asked.logs / 4, &memory));
@@ -212,9 +213,12 @@ fn write_logs(asked: &Asked, count: &str, folder: &str) -> Result<(), String> {
     write("texts".into(), texts.as_bytes())
 }
 
-fn write_edges(asked: &Asked, count: &str, program: &str) -> Result<(), String> {
+/// A comparison of so many drawn logs with what a program writes for them.
+type Drawn = fn(u64, u64, &str) -> Result<String, String>;
+
+fn run_program(asked: &Asked, drawn: Drawn, count: &str, program: &str) -> Result<(), String> {
     let count: u64 = count.parse().map_err(|_| USAGE)?;
-    edges::compare(asked.seed, count, program).map(|told| print!("{told}"))
+    drawn(asked.seed, count, program).map(|told| print!("{told}"))
 }
 
 fn read_cases(path: &str) -> Result<Vec<(Case, Outcome)>, String> {
@@ -261,7 +265,15 @@ fn main() -> ExitCode {
         ["text", log, sample] => stored::text(log, sample).map(|text| print!("{text}")),
         ["dwell", log, sample] => stored::dwell(log, sample).map(|text| print!("{text}")),
         ["flags", log, sample] => stored::flags(log, sample).map(|text| print!("{text}")),
-        ["edges", count, program] => write_edges(&asked, count, program),
+        ["at", log, sample, clock] => stored::at(log, sample, clock).map(|text| print!("{text}")),
+        ["vcd", log, sample, from, clocks] => stored::vcd(log, sample, from, clocks).map(|text| print!("{text}")),
+        ["lanes", vcd, log, sample, from, clocks] => {
+            stored::lanes(vcd, log, sample, from, clocks).map(|told| print!("{told}"))
+        }
+        ["carried", vcd, other, fewest] => stored::carried(vcd, other, fewest).map(|told| print!("{told}")),
+        ["edges", count, program] => run_program(&asked, edges::compare, count, program),
+        ["moments", count, program] => run_program(&asked, moments::compare, count, program),
+        ["traces", count, program] => run_program(&asked, traces::compare, count, program),
         ["judged", folder] => stored::judged(folder).map(|text| print!("{text}")),
         ["played", folder] => stored::played(folder).map(|text| print!("{text}")),
         _ => Err(USAGE.into()),

@@ -75,7 +75,7 @@ fn noise(random: &mut Random, noise: &mut Noise, reason: u64) {
 }
 
 /// A state in which each channel has a reason that was drawn, or any.
-fn state(random: &mut Random) -> Chip {
+pub fn state(random: &mut Random) -> Chip {
     let mut chip = draw::state(random);
     for each in &mut chip.squares {
         let reason = random.within(1..=8);

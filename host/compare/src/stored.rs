@@ -1,8 +1,10 @@
 //! What the programs of the crates `test_logs` and `test_plays` print about their stored logs, by the reading.
 
+use crate::lanes::{self, Held};
+use crate::vcd;
 use perch::raw;
 use reading::log::{self, Fault, Item, Line};
-use reading::{MEMORY, dwell, flags, fold, number, play, salvage};
+use reading::{MEMORY, dwell, flags, fold, moment, number, play, salvage, trace};
 use std::path::{Path, PathBuf};
 
 /// The most steps that a cursor takes in a log that is refused.
@@ -94,6 +96,45 @@ pub fn dwell(log: &str, sample: &str) -> Result<String, String> {
 /// What `perch interrupts` writes for a log, by the reading.
 pub fn flags(log: &str, sample: &str) -> Result<String, String> {
     Ok(flags::text(&read(log)?, &read(sample)?))
+}
+
+/// A number on the command line.
+fn decimal(word: &str) -> Result<u64, String> {
+    word.parse().map_err(|_| format!("{word} is no number"))
+}
+
+/// What `perch at` writes for a log, by the reading.
+pub fn at(log: &str, sample: &str, clock: &str) -> Result<String, String> {
+    Ok(moment::text(&read(log)?, &read(sample)?, decimal(clock)?))
+}
+
+/// What `perch vcd` writes for a log, by the reading.
+pub fn vcd(log: &str, sample: &str, from: &str, clocks: &str) -> Result<String, String> {
+    Ok(trace::text(&read(log)?, &read(sample)?, decimal(from)?, decimal(clocks)?))
+}
+
+/// Holds each lane of a VCD to the reading of a window of a log.
+pub fn lanes(vcd: &str, log: &str, sample: &str, from: &str, clocks: &str) -> Result<String, String> {
+    let text = String::from_utf8_lossy(&read(vcd)?).into_owned();
+    let held = lanes::hold(&text, &read(log)?, &read(sample)?, decimal(from)?, decimal(clocks)?)?;
+    Ok(match held {
+        None => "the log is refused, and nothing else is told\n".into(),
+        Some(Held { clocks, accesses, .. }) => {
+            format!("{clocks} clocks and {accesses} accesses, each lane as the reading has it\n")
+        }
+    })
+}
+
+/// Holds a dump that another program wrote of a dump to it: each variable that it has, of which there are so many at least.
+pub fn carried(vcd: &str, other: &str, fewest: &str) -> Result<String, String> {
+    let dump = |path: &str| {
+        let text = String::from_utf8_lossy(&read(path)?).into_owned();
+        vcd::read(&text).map_err(|what| format!("{path}: {what}"))
+    };
+    match vcd::carried(&dump(vcd)?, &dump(other)?)? {
+        both if both as u64 >= decimal(fewest)? => Ok(format!("{both} lanes as they were\n")),
+        both => Err(format!("{both} lanes only")),
+    }
 }
 
 /// What `crates/test_logs/stdout` holds: of each log the check, some items, some bodies, a cursor's way, the log folded, and the

@@ -1,9 +1,10 @@
 //! What the verbs of `perch` write about the examples (`host/verbs`), by the reading.
 
+use compare::lanes;
 use reading::log::{Item, items, machine, open_at, summed};
 use reading::salvage::Done;
 use reading::why::why;
-use reading::{Chip, Machine, dwell, flags, meter, play, sheet};
+use reading::{Chip, Machine, dwell, flags, meter, moment, play, sheet, trace};
 use std::fs::read;
 
 const HOST: &str = concat!(env!("CARGO_MANIFEST_DIR"), "/..");
@@ -30,26 +31,10 @@ const REASONS: [&str; 6] = ["disabled", "length", "period", "sweep", "step", "vo
 
 /// The text of `perch why` for a log and a clock.
 fn asked(log: &[u8], memory: &[u8], clock: u64) -> String {
-    if let Err(fault) = play::check(log, memory) {
-        return play::refusal(fault).replace("play=1", "why=1");
-    }
-    let mut chip = Chip::power_on(machine(log).expect("the log passes"));
-    let mut time = 0;
-    'items: for item in items(log).expect("the log passes") {
-        match item {
-            Item::Wait(clocks) => {
-                for _ in 0..clocks {
-                    if time == clock {
-                        break 'items;
-                    }
-                    chip.clock(memory);
-                    time += 1;
-                }
-            }
-            Item::Write(register, value) => chip.write(register, value),
-            Item::Read => drop(chip.read_status()),
-        }
-    }
+    let (chip, time) = match moment::reached(log, memory, clock) {
+        Ok(reached) => reached,
+        Err(fault) => return play::refusal(fault).replace("play=1", "why=1"),
+    };
     let mut text = format!("why=1\nclock={time}\n");
     for (channel, name) in [(0, "square1"), (1, "square2"), (3, "noise")] {
         let word = match why(&chip.encode(), channel) >> 8 {
@@ -203,4 +188,24 @@ fn dwell_tables_of_the_examples() {
 #[test]
 fn interrupts_of_the_examples() {
     hold("interrupts-", |log| flags::text(&example(&format!("{log}.log")), &example("sample.bin")));
+}
+
+#[test]
+fn states_of_the_examples() {
+    hold("at-", |name| {
+        let (log, clock) = name.rsplit_once('-').unwrap();
+        moment::text(&example(&format!("{log}.log")), &example("sample.bin"), clock.parse().unwrap())
+    });
+}
+
+#[test]
+fn traces_of_the_examples() {
+    hold("vcd-", |name| {
+        let [log, from, clocks] = name.split('-').collect::<Vec<_>>()[..] else { panic!("{name}") };
+        let (from, clocks) = (from.parse().unwrap(), clocks.parse().unwrap());
+        let (log, memory) = (example(&format!("{log}.log")), example("sample.bin"));
+        let text = trace::text(&log, &memory, from, clocks);
+        lanes::hold(&text, &log, &memory, from, clocks).unwrap();
+        text
+    });
 }

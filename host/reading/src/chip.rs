@@ -303,8 +303,8 @@ impl Triangle {
         }
     }
 
-    /// 15 down to 0, then 0 up to 15.
-    fn output(&self) -> u16 {
+    /// What the channel gives to the mixer: 15 down to 0, then 0 up to 15.
+    pub fn output(&self) -> u16 {
         if self.position < 16 { 15 - self.position } else { self.position - 16 }
     }
 }
@@ -659,14 +659,17 @@ impl Chip {
         self.frame.interrupt && !self.frame.disable || self.dmc.interrupt
     }
 
-    /// What the channels give to the mixer.
+    /// What each channel gives to the mixer: square 1, square 2, triangle, noise, DMC.
+    pub fn gives(&self) -> [u16; 5] {
+        let [first, second] = &self.squares;
+        let squares = [first.output(Which::First), second.output(Which::Second)];
+        [squares[0], squares[1], self.triangle.output(), self.noise.output(), self.dmc.level]
+    }
+
+    /// What the channels give to the mixer, with the squares' sum.
     pub fn outputs(&self) -> Outputs {
-        Outputs {
-            squares: self.squares[0].output(Which::First) + self.squares[1].output(Which::Second),
-            triangle: self.triangle.output(),
-            noise: self.noise.output(),
-            dmc: self.dmc.level,
-        }
+        let [first, second, triangle, noise, dmc] = self.gives();
+        Outputs { squares: first + second, triangle, noise, dmc }
     }
 
     /// The mixed level.

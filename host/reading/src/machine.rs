@@ -56,6 +56,14 @@ impl Machine {
         }
     }
 
+    /// How many clocks a second has.
+    pub const fn clocks_a_second(self) -> u64 {
+        match self {
+            Self::Ntsc => 1_789_773,
+            Self::Pal => 1_662_607,
+        }
+    }
+
     /// The noise timer's periods by index.
     pub const fn noise_periods(self) -> &'static [u16; 16] {
         &self.tables().noise

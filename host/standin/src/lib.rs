@@ -9,8 +9,8 @@
 #![allow(clippy::missing_safety_doc, missing_docs)]
 
 use reading::{
-    access, boundary, cursor as cursors, fold, interrupt, layout, meter, mixer, player as pieces, salvage, sheet, vgm,
-    why, words,
+    access, boundary, cursor as cursors, fold, interrupt, layout, meter, mixer, moment, outputs, player as pieces,
+    salvage, sheet, vgm, why, words,
 };
 use std::slice::{from_raw_parts, from_raw_parts_mut};
 
@@ -42,6 +42,16 @@ pub unsafe extern "C" fn perch_interrupt_line(state: *const u8, n: usize) -> u64
 #[cfg_attr(feature = "export", unsafe(no_mangle))]
 pub unsafe extern "C" fn perch_level(state: *const u8, n: usize) -> u64 {
     boundary::level(unsafe { from_raw_parts(state, n) })
+}
+
+#[cfg_attr(feature = "export", unsafe(no_mangle))]
+pub unsafe extern "C" fn perch_outputs(state: *const u8, n: usize) -> u64 {
+    outputs::outputs(unsafe { from_raw_parts(state, n) })
+}
+
+#[cfg_attr(feature = "export", unsafe(no_mangle))]
+pub unsafe extern "C" fn perch_status(state: *const u8, n: usize) -> u64 {
+    outputs::status(unsafe { from_raw_parts(state, n) })
 }
 
 #[cfg_attr(feature = "export", unsafe(no_mangle))]
@@ -129,6 +139,19 @@ pub unsafe extern "C" fn perch_play_on(
         let (player, text) = (from_raw_parts_mut(player, p), from_raw_parts_mut(text, t));
         pieces::play_on(player, from_raw_parts(log, n), from_raw_parts(memory, m), text)
     }
+}
+
+#[cfg_attr(feature = "export", unsafe(no_mangle))]
+pub unsafe extern "C" fn perch_state_at(
+    state: *mut u8,
+    n: usize,
+    log: *const u8,
+    ln: usize,
+    memory: *const u8,
+    m: usize,
+    clock: u64,
+) -> u64 {
+    unsafe { moment::state_at(from_raw_parts_mut(state, n), from_raw_parts(log, ln), from_raw_parts(memory, m), clock) }
 }
 
 #[cfg_attr(feature = "export", unsafe(no_mangle))]
