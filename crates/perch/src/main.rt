@@ -10,6 +10,7 @@ mod pieces;
 mod refused;
 mod salvage;
 mod sheet;
+mod sound;
 mod states;
 mod trace;
 mod usage;
@@ -49,6 +50,12 @@ fn run(verb: &[u8], words: usize) -> bool {
     }
     if arith::both_of(words == 4, text::exact(verb, b"vcd")) {
         return trace::vcd();
+    }
+    if arith::both_of(words == 2, text::exact(verb, b"wav")) {
+        return sound::at_rate(44100);
+    }
+    if arith::both_of(words == 3, text::exact(verb, b"wav")) {
+        return sound::asked();
     }
     if arith::both_of(words == 2, text::exact(verb, b"meter")) {
         return meters::meter(false);

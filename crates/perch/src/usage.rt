@@ -50,38 +50,43 @@ pub(crate) fn usage(file: i32) -> bool {
     let i = line(
         file,
         h,
-        b"  meter       a log on standard input: whether it is silent, steady or moving, and between which levels\n",
+        b"  wav [RATE]  a log on standard input: what it sounds like as a WAV file, 44100 samples a second or RATE\n",
     );
     let j = line(
         file,
         i,
-        b"  meter waits the same, and that of each of its waits\n",
+        b"  meter       a log on standard input: whether it is silent, steady or moving, and between which levels\n",
     );
     let k = line(
         file,
         j,
-        b"  interrupts  a log on standard input: when the interrupt flags and the line change\n",
+        b"  meter waits the same, and that of each of its waits\n",
     );
     let l = line(
         file,
         k,
-        b"  dwell       a log on standard input: how many clocks the DMC stood at each of its levels\n",
+        b"  interrupts  a log on standard input: when the interrupt flags and the line change\n",
     );
     let m = line(
         file,
         l,
+        b"  dwell       a log on standard input: how many clocks the DMC stood at each of its levels\n",
+    );
+    let n = line(
+        file,
+        m,
         b"  sheet LEVEL ADDRESS LENGTH\n              the level after each byte of a sample in sample.bin\n",
     );
-    let n = line(file, m, b"  help        these lines\n");
-    let o = line(file, n, b"  version     the version of the library\n");
+    let o = line(file, n, b"  help        these lines\n");
+    let p = line(file, o, b"  version     the version of the library\n");
     line(
         file,
-        o,
-        b"why, at, vcd, meter, interrupts, dwell and sheet read the sample memory from the file sample.bin of the current folder\n",
+        p,
+        b"why, at, vcd, wav, meter, interrupts, dwell and sheet read the sample memory from the file sample.bin of the current folder\n",
     )
 }
 
 // The number is that of `crates/perchpulley/specs/Version.antt`.
 pub(crate) fn version() -> bool {
-    program_io::write_all(STDOUT_FILENO, b"perch 11\n")
+    program_io::write_all(STDOUT_FILENO, b"perch 12\n")
 }

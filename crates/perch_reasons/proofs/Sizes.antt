@@ -43,4 +43,6 @@ reason-size n =
     (pick-both Short (eqb n 30) (lit≤ tt)
     (pick-both Short (eqb n 31) (lit≤ tt)
     (pick-both Short (eqb n 32) (lit≤ tt)
-    (lit≤ tt)))))))))))))))))))))))))))))))
+    (pick-both Short (eqb n 33) (lit≤ tt)
+    (pick-both Short (eqb n 34) (lit≤ tt)
+    (lit≤ tt)))))))))))))))))))))))))))))))))

@@ -39,4 +39,6 @@ reasonText n =
     (pick (eqb n 30) (bytes "the repaired log is longer than the buffer or 60,000 bytes")
     (pick (eqb n 31) (bytes "the list has no room")
     (pick (eqb n 32) (bytes "buffer shorter than the log")
-    (bytes "refused")))))))))))))))))))))))))))))))
+    (pick (eqb n 33) (bytes "rate outside 8000..192000")
+    (pick (eqb n 34) (bytes "a sample block outside 8000..ffff")
+    (bytes "refused")))))))))))))))))))))))))))))))))

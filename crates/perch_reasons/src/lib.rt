@@ -99,6 +99,8 @@ fn last(out: &mut [u8], at: usize, number: u8) -> usize
 {
     match number {
         32 => text_print::fixed(out, at, b"buffer shorter than the log"),
+        33 => text_print::fixed(out, at, b"rate outside 8000..192000"),
+        34 => text_print::fixed(out, at, b"a sample block outside 8000..ffff"),
         _ => text_print::fixed(out, at, b"refused"),
     }
 }

@@ -18,13 +18,14 @@ pub mod meters;
 pub mod pieces;
 pub mod runs;
 pub mod salvages;
+pub mod waves;
 
 // Which boundary this is: a caller that knows another one is told so.
 #[no_mangle]
 pub extern "C" fn perch_version() -> u32
     ensures { λ r. ⌜ r ≡ version ⌝ }
 {
-    11
+    12
 }
 
 // How many bytes a state is.

@@ -11,11 +11,19 @@ unfolding reasonText
 returns c = rw (c .before .before .before .before .before .match .keys1) (c .before .before .fixed .ensures)
 
 returns-2 : tie.Need-returns-2
-returns-2 c =
+unfolding reasonText
+returns-2 c = rw (c .before .before .before .before .before .match .keys2) (c .before .before .fixed2 .ensures)
+
+returns-3 : tie.Need-returns-3
+unfolding reasonText
+returns-3 c = rw (c .before .before .before .before .before .match .keys3) (c .before .before .fixed3 .ensures)
+
+returns-4 : tie.Need-returns-4
+returns-4 c =
     let a = c .before .before .before .before .before .before .before in
     let r = c .before .before .before .before .before .match .rest in
-    let w = c .before .before .fixed2 .ensures in
-    let e = above (a .args .number) (a .pre) (r .1) in
+    let w = c .before .before .fixed4 .ensures in
+    let e = above (a .args .number) (a .pre) (r .0 .0 .1) (r .0 .1) (r .1) in
     (w .0 ∙ ap (placed (a .args .out .now) (a .args .at)) (sym e), w .1 ∙ ap (printed (a .args .out .now) (a .args .at)) (sym e))
 
 pub last-spec : {M : Type 1} → statement M
@@ -26,7 +34,15 @@ last-spec =
     (λ c κs. tt)
     (λ c. refl)
     (λ c κs. tt)
+    (λ c. refl)
+    (λ c κs. tt)
+    (λ c. refl)
+    (λ c κs. tt)
     (λ c. search needs)
     returns
     (λ c. search needs)
-    returns-2)
+    returns-2
+    (λ c. search needs)
+    returns-3
+    (λ c. search needs)
+    returns-4)

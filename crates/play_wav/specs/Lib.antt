@@ -1,0 +1,4 @@
+pub mod Pieces
+pub mod Calls
+pub mod Loop
+pub mod Head

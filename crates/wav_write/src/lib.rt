@@ -1,0 +1,1 @@
+// Samples as bytes of a file: definition and laws.
