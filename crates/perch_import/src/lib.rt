@@ -1,78 +1,44 @@
-// A whole VGM file brought in as a log: its header says where the commands begin, and from there on it is a stream. The place of a refusal is that in
-// the file.
+// A whole VGM file brought in as a log for its machine: its header says where the commands begin and how fast the chip's clock goes, and from the
+// commands on it is a stream. The place of a refusal is that in the file.
 ghost use mathlib.Core.Path.{_≡_};
 ghost use Prim.Native.Nat.{_+_, _≤_, _<_};
-ghost use lib.ListN.{length, getD, drop};
-ghost use Rattle.vgm_measure.specs.Import.{importOf, bufferOf};
-ghost use Rattle.perch_import.specs.File.{word, dataStart, commandsAt, placeFrom, broughtFrom, broughtOf, leftIn};
+ghost use lib.ListN.{length, drop};
+ghost use Rattle.vgm_measure.specs.Import.{importFor, bufferFor};
+ghost use Rattle.vgm_file.specs.Header.{isPalFile, commandsAt};
+ghost use Rattle.perch_import.specs.File.{placeFrom, broughtFrom, broughtOf, leftIn};
+ghost use Rattle.text_print.specs.Printed.{printed, placed};
+ghost use Rattle.text_lines.specs.Puts.{Puts};
+ghost use Rattle.perch_import.specs.Words.{clockText};
+use vgm_file::Part;
 use vgm_measure::Imported;
 
-// The command part of a file: from where on it stands, or why there is none: it is no VGM file, its header is cut short, or its header points out of the file.
-pub enum Part {
-    From(usize),
-    NoVgm,
-    Cut,
-    Outside,
-}
-
-// What became of a file: as above; a refusal, its number and its place in the file; or the length of the log that was written.
+// What became of a file: why it has no command part; a refusal, its number and its place in the file; or the length of the log that was written.
 pub enum Brought {
     NoVgm,
     Cut,
     Outside,
+    Dual,
     Refused(u8, usize),
     Done(usize),
 }
 
-// A byte of a file; 0 past its end.
-fn byte(file: &[u8], at: usize) -> u64
-    ensures { λ r. ⌜ (r ≡ getD (now (file .entry)) at 0) × (r ≤ 255) ⌝ }
+// What is said of a clock that no machine has.
+fn clock_words(out: &mut [u8], clock: u32) -> usize
+    ensures { λ r. ⌜ Puts (now (out .entry)) 0 (clockText clock) (now (out .exit)) r ⌝ }
 {
-    if at < file.len() {
-        return file[at] as u64;
-    }
-    0
+    let a = text_print::fixed(out, 0, b"perch: the NES clock at $84 is ");
+    let b = text_print::decimal(out, a, clock as u64);
+    text_print::fixed(out, b, b": taken as NTSC\n")
 }
 
-// Four bytes of a header, low first.
-fn word_at(file: &[u8], at: usize) -> u64
-    requires { ⌜ at ≤ 64 ⌝ }
-    ensures { λ r. ⌜ (r ≡ word (now (file .entry)) at) × (r < 4294967296) ⌝ }
+// The same where it fits, and the place behind it.
+pub fn clock_line(out: &mut [u8], at: usize, clock: u32) -> usize
+    ensures { λ r. ⌜ r ≡ placed (now (out .entry)) at (clockText clock) ⌝ }
+    ensures { λ r. ⌜ now (out .exit) ≡ printed (now (out .entry)) at (clockText clock) ⌝ }
 {
-    let a = byte(file, at);
-    let b = byte(file, at + 1);
-    let c = byte(file, at + 2);
-    let d = byte(file, at + 3);
-    a + 256 * b + 65536 * c + 16777216 * d
-}
-
-// Where the header says that the commands begin.
-fn begins_at(file: &[u8]) -> usize
-    ensures { λ r. ⌜ r ≡ dataStart (now (file .entry)) ⌝ }
-{
-    let version = word_at(file, 0x08);
-    let offset = word_at(file, 0x34);
-    if arith::either_of(version < 0x150, offset == 0) {
-        return 0x40;
-    }
-    0x34 + offset as usize
-}
-
-// Where the commands begin.
-pub fn start(file: &[u8]) -> Part
-    ensures { λ r. ⌜ r ≡ commandsAt (now (file .entry)) ⌝ }
-{
-    if word_at(file, 0) != word_at(b"Vgm ", 0) {
-        return Part::NoVgm;
-    }
-    if file.len() < 0x40 {
-        return Part::Cut;
-    }
-    let at = begins_at(file);
-    if arith::both_of(0x38 <= at, at <= file.len()) {
-        return Part::From(at);
-    }
-    Part::Outside
+    let mut text = [0u8; 64];
+    let n = clock_words(&mut text, clock);
+    text_print::fixed(out, at, &text[..n])
 }
 
 // The place in a file of a refusal of the part from a start on.
@@ -99,13 +65,14 @@ fn brought_from(start: usize, a: Imported) -> Brought
     Brought::Refused(number, place_from(start, a))
 }
 
-// The part from a start on, brought in.
+// The part from a start on, brought in for the file's machine.
 fn import_from(file: &[u8], start: usize, out: &mut [u8]) -> Brought
     requires { ⌜ start ≤ length (now file) ⌝ }
-    ensures { λ r. ⌜ r ≡ broughtFrom start (importOf (drop start (now (file .entry))) (length (now (out .entry)))) ⌝ }
-    ensures { λ r. ⌜ now (out .exit) ≡ bufferOf (drop start (now (file .entry))) (now (out .entry)) ⌝ }
+    ensures { λ r. ⌜ r ≡ broughtFrom start (importFor (isPalFile (now (file .entry))) (drop start (now (file .entry))) (length (now (out .entry)))) ⌝ }
+    ensures { λ r. ⌜ now (out .exit) ≡ bufferFor (isPalFile (now (file .entry))) (drop start (now (file .entry))) (now (out .entry)) ⌝ }
 {
-    let a = vgm_import::import(&file[start..], out);
+    let pal = vgm_file::is_pal(file);
+    let a = vgm_import::import_for(pal, &file[start..], out);
     brought_from(start, a)
 }
 
@@ -114,11 +81,12 @@ pub fn import_file(file: &[u8], out: &mut [u8]) -> Brought
     ensures { λ r. ⌜ r ≡ broughtOf (commandsAt (now (file .entry))) (now (file .entry)) (length (now (out .entry))) ⌝ }
     ensures { λ r. ⌜ now (out .exit) ≡ leftIn (commandsAt (now (file .entry))) (now (file .entry)) (now (out .entry)) ⌝ }
 {
-    let s = start(file);
+    let s = vgm_file::start(file);
     match s {
         Part::From(at) => import_from(file, at, out),
         Part::NoVgm => Brought::NoVgm,
         Part::Cut => Brought::Cut,
         Part::Outside => Brought::Outside,
+        Part::Dual => Brought::Dual,
     }
 }

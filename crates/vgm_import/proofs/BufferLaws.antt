@@ -18,9 +18,10 @@ use Rattle.text.specs.Hex.{hexText, hexByte}
 use Rattle.log_line.specs.declared.Act.the-variants.{Wait as Waited}
 use Rattle.log_line.specs.Printed.{lineText, actText, ended as fed}
 use Rattle.log_rules.specs.Tree.{Tree, act, text, logText}
+use Rattle.clock_rate.specs.Rate.{clockRate}
 use Rattle.vgm_stream.specs.declared.Said.{Said}
 use Rattle.vgm_stream.specs.Stream.{Stream, ended, more, after, streamFrom, byteStep, commandOf, registerOf, streamOf}
-use Rattle.vgm_measure.specs.Import.{stood, rest, gap, actsFrom, samplesIn, importRefusal, importWeighed, importAnswer, clocksFor, treeFor, textFor, textOf, importOf, bufferOf}
+use Rattle.vgm_measure.specs.Import.{stood, rest, gap, actsFrom, samplesIn, importRefusal, importWeighed, importAnswer, clocksFor, treeFor, textFor, textOf, importFor, importOf, bufferFor}
 use Rattle.vgm_measure.proofs.AnswerLaws.{imports}
 use Rattle.vgm_import.proofs.ReadyLaws.{ready}
 
@@ -36,47 +37,47 @@ length-weighed room c t n h = by (either (ltb 2000000000 c) (ltb 1000000 t)) (ei
     by false true h = absurd (omega arith)
     by false false h = refl
 
-length-answered : (room : ℕ) (x : Stream) (l : List Said) → x ≡ ended l → importAnswer room x .number ≡ 0 → importAnswer room x .length ≡ length (textOf x)
+length-answered : (pal : Bool) (room : ℕ) (x : Stream) (l : List Said) → x ≡ ended l → importAnswer pal room x .number ≡ 0 → importAnswer pal room x .length ≡ length (textOf pal x)
 unfolding importAnswer textOf
-length-answered room x l e h = rw e (length-weighed room _ _ (length (textFor l)) (rw e at h))
+length-answered pal room x l e h = rw e (length-weighed room _ _ (length (textFor pal l)) (rw e at h))
 
-module _ (s out : List ℕ) (done : importOf s (length out) .number ≡ 0) where
-  pub length-is : importOf s (length out) .length ≡ length (textOf (streamOf s))
-  unfolding importOf
-  length-is = length-answered (length out) (streamOf s) (imports s (length out) done .said) (imports s (length out) done .is) done
+module _ (pal : Bool) (s out : List ℕ) (done : importFor pal s (length out) .number ≡ 0) where
+  pub length-is : importFor pal s (length out) .length ≡ length (textOf pal (streamOf s))
+  unfolding importFor
+  length-is = length-answered pal (length out) (streamOf s) (imports pal s (length out) done .said) (imports pal s (length out) done .is) done
 
-  buffer-is : bufferOf s out ≡ textOf (streamOf s) ++ drop (0 + length (textOf (streamOf s))) out
-  unfolding bufferOf
-  buffer-is = rw (eq-eqb (importOf s (length out) .number) 0 done) (sets-eq (textOf (streamOf s)) out 0 (let r = ready s out done in omega (arith, r .fits)))
+  buffer-is : bufferFor pal s out ≡ textOf pal (streamOf s) ++ drop (0 + length (textOf pal (streamOf s))) out
+  unfolding bufferFor
+  buffer-is = rw (eq-eqb (importFor pal s (length out) .number) 0 done) (sets-eq (textOf pal (streamOf s)) out 0 (let r = ready pal s out done in omega (arith, r .fits)))
 
-  pub front-is : take (importOf s (length out) .length) (bufferOf s out) ≡ textOf (streamOf s)
-  front-is = rw buffer-is (take-at (textOf (streamOf s)) _ (importOf s (length out) .length) (sym length-is))
+  pub front-is : take (importFor pal s (length out) .length) (bufferFor pal s out) ≡ textOf pal (streamOf s)
+  front-is = rw buffer-is (take-at (textOf pal (streamOf s)) _ (importFor pal s (length out) .length) (sym length-is))
 
-  pub behind-stays : drop (importOf s (length out) .length) (bufferOf s out) ≡ drop (importOf s (length out) .length) out
+  pub behind-stays : drop (importFor pal s (length out) .length) (bufferFor pal s out) ≡ drop (importFor pal s (length out) .length) out
   behind-stays =
-      rw buffer-is (drop-at (textOf (streamOf s)) _ (importOf s (length out) .length) (sym length-is))
-      ∙ ap (λ (n : ℕ). drop n out) (zero-add (length (textOf (streamOf s))) ∙ sym length-is)
+      rw buffer-is (drop-at (textOf pal (streamOf s)) _ (importFor pal s (length out) .length) (sym length-is))
+      ∙ ap (λ (n : ℕ). drop n out) (zero-add (length (textOf pal (streamOf s))) ∙ sym length-is)
 
 -- `B4 14`: 26:1; `B4 00`: 27:2; `B4`: 27:1; `61 66`: 27:2; nothing: 27:0
 
 case-1 : importOf (0xb4 ∷ 0x14 ∷ []) 100 ≡ importRefusal 26 1
-unfolding importOf importAnswer streamOf streamFrom after byteStep commandOf registerOf isRegister
+unfolding importFor importAnswer streamOf streamFrom after byteStep commandOf registerOf isRegister
 case-1 = refl
 
 case-2 : importOf (0xb4 ∷ 0x00 ∷ []) 100 ≡ importRefusal 27 2
-unfolding importOf importAnswer streamOf streamFrom after byteStep commandOf registerOf isRegister
+unfolding importFor importAnswer streamOf streamFrom after byteStep commandOf registerOf isRegister
 case-2 = refl
 
 case-3 : importOf (0xb4 ∷ []) 100 ≡ importRefusal 27 1
-unfolding importOf importAnswer streamOf streamFrom after byteStep commandOf
+unfolding importFor importAnswer streamOf streamFrom after byteStep commandOf
 case-3 = refl
 
 case-4 : importOf (0x61 ∷ 0x66 ∷ []) 100 ≡ importRefusal 27 2
-unfolding importOf importAnswer streamOf streamFrom after byteStep commandOf
+unfolding importFor importAnswer streamOf streamFrom after byteStep commandOf
 case-4 = refl
 
 case-5 : importOf [] 100 ≡ importRefusal 27 0
-unfolding importOf importAnswer streamOf streamFrom
+unfolding importFor importAnswer streamOf streamFrom
 case-5 = refl
 
 -- "a gap of 1,000,000 is one line, of 2,000,000 two, of 0 none"
@@ -98,7 +99,13 @@ unfolding gap rest iterate
 gap-3 t = refl
 
 -- "three waits of 735: 29829, 29830, 29829"
-case-6 : textOf (streamOf (0x62 ∷ 0xb4 ∷ 0x00 ∷ 0x1f ∷ 0x62 ∷ 0xb4 ∷ 0x15 ∷ 0xa0 ∷ 0x62 ∷ 0x66 ∷ []))
+case-6 : textOf false (streamOf (0x62 ∷ 0xb4 ∷ 0x00 ∷ 0x1f ∷ 0x62 ∷ 0xb4 ∷ 0x15 ∷ 0xa0 ∷ 0x62 ∷ 0x66 ∷ []))
     ≡ bytes "log=1\nwait=29829\nwrite=4000:1f\nwait=29830\nwrite=4015:a0\nwait=29829\nstop=89488\n"
-unfolding textOf textFor treeFor clocksFor logText text actsFrom samplesIn stood gap rest iterate streamOf streamFrom after more byteStep commandOf registerOf isRegister lineText actText fed decimalText digitsOf hexText hexByte
+unfolding textOf textFor treeFor clocksFor logText text actsFrom samplesIn stood clockRate gap rest iterate streamOf streamFrom after more byteStep commandOf registerOf isRegister lineText actText fed decimalText digitsOf hexText hexByte
 case-6 = refl
+
+-- of a PAL file, three waits of 1: 37, 38, 38
+case-7 : textOf true (streamOf (0x70 ∷ 0xb4 ∷ 0x00 ∷ 0x1f ∷ 0x70 ∷ 0xb4 ∷ 0x15 ∷ 0xa0 ∷ 0x70 ∷ 0x66 ∷ []))
+    ≡ bytes "log=1\nmachine=pal\nwait=37\nwrite=4000:1f\nwait=38\nwrite=4015:a0\nwait=38\nstop=113\n"
+unfolding textOf textFor treeFor clocksFor logText text actsFrom samplesIn stood clockRate gap rest iterate streamOf streamFrom after more byteStep commandOf registerOf isRegister lineText actText fed decimalText digitsOf hexText hexByte
+case-7 = refl

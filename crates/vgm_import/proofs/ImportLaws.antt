@@ -1,7 +1,7 @@
 -- What an import with number 0 is, and what does not matter. Assumes nothing.
 use Prim.Native.Nat.{ℕ, _+_, _≤_}
 use mathlib.Core.Path.{_≡_, refl, sym, ap, _∙_}
-use mathlib.Core.Bool.{true, false}
+use mathlib.Core.Bool.{Bool, true}
 use mathlib.Core.List.{List, [], _∷_, _++_}
 use native.Mathlib.Nat.{zero-add}
 use native.Mathlib.Omega.{arith}
@@ -19,7 +19,7 @@ use Rattle.vgm_stream.specs.declared.Said.the-variants.{Wait, Write}
 use Rattle.vgm_stream.specs.declared.Step.{Step}
 use Rattle.vgm_stream.specs.declared.Step.the-variants.{End, Fault, Next, Says}
 use Rattle.vgm_stream.specs.Stream.{Stream, ended, refused, more, after, streamFrom, byteStep, commandOf, registerOf, streamOf}
-use Rattle.vgm_measure.specs.Import.{stood, samplesIn, actsFrom, treeFor, clocksFor, textFor, textOf, importOf, bufferOf}
+use Rattle.vgm_measure.specs.Import.{stood, samplesIn, actsFrom, treeFor, clocksFor, textFor, textOf, importFor, bufferFor}
 use Rattle.vgm_import.specs.Stamps.{stamped, writesFrom, Stands}
 use Rattle.vgm_measure.proofs.AnswerLaws.{imports}
 use Rattle.vgm_import.proofs.StandLaws.{Sound, within-from, clocks-from, stamped-from}
@@ -84,56 +84,56 @@ unfolding streamFrom
 from-sound [] w at b h = tt
 from-sound (x ∷ l) w at b h = after-sound (byteStep w x) at (λ v. streamFrom v (at + 1) l) (step-sound w x h (b .0)) (λ v a. from-sound l v (at + 1) (b .1) a)
 
-said-sound : (s : List ℕ) → Bytes s → (l : List Said) → streamOf s ≡ ended l → Sound l
+pub said-sound : (s : List ℕ) → Bytes s → (l : List Said) → streamOf s ≡ ended l → Sound l
 unfolding streamOf
 said-sound s b l e = rw e at (from-sound s Command 0 b tt)
 
 -- THE TREE OF WHAT IS SAID
-tree-clocks : (l : List Said) → clocks (treeFor l) ≡ clocksFor l
+pub tree-clocks : (pal : Bool) (l : List Said) → clocks (treeFor pal l) ≡ clocksFor pal l
 unfolding treeFor clocksFor
-tree-clocks l =
-    let e = clocks-from l 0 0 (omega arith) in
+tree-clocks pal l =
+    let e = clocks-from pal l 0 0 (omega arith) in
     let z = zero-add (samplesIn l) in
-    sym (zero-add (clocks (actsFrom 0 0 l))) ∙ (e ∙ ap stood z)
+    sym (zero-add (clocks (actsFrom pal 0 0 l))) ∙ (e ∙ ap (stood pal) z)
 
-tree-within : (l : List Said) → Sound l → Within (treeFor l) 0
+pub tree-within : (pal : Bool) (l : List Said) → Sound l → Within (treeFor pal l) 0
 unfolding treeFor
-tree-within l q = within-from l 0 0 q
+tree-within pal l q = within-from pal l 0 0 q
 
-tree-stamped : (l : List Said) → stamped 0 (acts (treeFor l)) ≡ writesFrom 0 l
+tree-stamped : (pal : Bool) (l : List Said) → stamped 0 (acts (treeFor pal l)) ≡ writesFrom pal 0 l
 unfolding treeFor
-tree-stamped l = stamped-from l 0 0 (omega arith)
+tree-stamped pal l = stamped-from pal l 0 0 (omega arith)
 
-text-is : (l : List Said) → textFor l ≡ logText false (treeFor l) (clocks (treeFor l))
+pub text-is : (pal : Bool) (l : List Said) → textFor pal l ≡ logText pal (treeFor pal l) (clocks (treeFor pal l))
 unfolding textFor
-text-is l = ap (logText false (treeFor l)) (sym (tree-clocks l))
+text-is pal l = ap (logText pal (treeFor pal l)) (sym (tree-clocks pal l))
 
-clocks-are : (l : List Said) → clocksFor l ≡ stood (samplesIn l)
+clocks-are : (pal : Bool) (l : List Said) → clocksFor pal l ≡ stood pal (samplesIn l)
 unfolding clocksFor
-clocks-are l = refl
+clocks-are pal l = refl
 
-text-ended : (l : List Said) → textOf (ended l) ≡ textFor l
+pub text-ended : (pal : Bool) (l : List Said) → textOf pal (ended l) ≡ textFor pal l
 unfolding textOf
-text-ended l = refl
+text-ended pal l = refl
 
 -- NUMBER 0 IS FOR A LOG THAT PASSES AND STANDS FOR THE STREAM
-pub imported-stands : (s : List ℕ) (room : ℕ) → Bytes s → (done : importOf s room .number ≡ 0) → Stands s (textOf (streamOf s))
-imported-stands s room b done =
-    let i = imports s room done in
+pub imported-stands : (pal : Bool) (s : List ℕ) (room : ℕ) → Bytes s → (done : importFor pal s room .number ≡ 0) → Stands pal s (textOf pal (streamOf s))
+imported-stands pal s room b done =
+    let i = imports pal s room done in
     let l = i .said in
     let w = i .weight in
-    let t = treeFor l in
-    let tc = tree-clocks l in
-    let ti = text-is l in
-    let p = printed false t (tree-within l (said-sound s b l (i .is))) (omega (arith, w .clocks)) (w .turns) (omega (arith, w .short, ap length ti)) in
-    let same : textOf (streamOf s) ≡ logText false t (clocks t) = ap textOf (i .is) ∙ (text-ended l ∙ ti) in
+    let t = treeFor pal l in
+    let tc = tree-clocks pal l in
+    let ti = text-is pal l in
+    let p = printed pal t (tree-within pal l (said-sound s b l (i .is))) (omega (arith, w .clocks)) (w .turns) (omega (arith, w .short, ap length ti)) in
+    let same : textOf pal (streamOf s) ≡ logText pal t (clocks t) = ap (textOf pal) (i .is) ∙ (text-ended pal l ∙ ti) in
     rw same (record {
       said = l;
       is = i .is;
       passes = ap (λ (c : _). c .number) (p .0);
       machine = p .2;
-      accesses = ap (λ (u : Tree). stamped 0 (acts u)) (p .1) ∙ tree-stamped l;
-      end = ap clocks (p .1) ∙ (tc ∙ clocks-are l);
+      accesses = ap (λ (u : Tree). stamped 0 (acts u)) (p .1) ∙ tree-stamped pal l;
+      end = ap clocks (p .1) ∙ (tc ∙ clocks-are pal l);
     })
 
 -- "Bytes after $66 are not read": THEY DO NOT MATTER
@@ -155,14 +155,14 @@ unfolding streamFrom
 from-ended [] b w at l e = absurd (let z : _≡_ {A = ℕ} 0 1 = cc in omega arith)
 from-ended (x ∷ a) b w at l e = after-ended (byteStep w x) at (λ v. streamFrom v (at + 1) a) (λ v. streamFrom v (at + 1) (a ++ b)) (λ v k. from-ended a b v (at + 1) k) l e
 
-pub not-read : (s behind : List ℕ) (l : List Said) → streamOf s ≡ ended l → (room : ℕ) → importOf (s ++ behind) room ≡ importOf s room
-unfolding importOf streamOf
-not-read s behind l e room = rw (from-ended s behind Command 0 l e, e) refl
+pub not-read : (pal : Bool) (s behind : List ℕ) (l : List Said) → streamOf s ≡ ended l → (room : ℕ) → importFor pal (s ++ behind) room ≡ importFor pal s room
+unfolding importFor streamOf
+not-read pal s behind l e room = rw (from-ended s behind Command 0 l e, e) refl
 
-pub not-read-text : (s behind : List ℕ) (l : List Said) → streamOf s ≡ ended l → textOf (streamOf (s ++ behind)) ≡ textOf (streamOf s)
+pub not-read-text : (pal : Bool) (s behind : List ℕ) (l : List Said) → streamOf s ≡ ended l → textOf pal (streamOf (s ++ behind)) ≡ textOf pal (streamOf s)
 unfolding streamOf
-not-read-text s behind l e = rw (from-ended s behind Command 0 l e, e) refl
+not-read-text pal s behind l e = rw (from-ended s behind Command 0 l e, e) refl
 
-pub not-read-buffer : (s behind : List ℕ) (l : List Said) → streamOf s ≡ ended l → (out : List ℕ) → bufferOf (s ++ behind) out ≡ bufferOf s out
-unfolding bufferOf
-not-read-buffer s behind l e out = rw (not-read s behind l e (length out), not-read-text s behind l e) refl
+pub not-read-buffer : (pal : Bool) (s behind : List ℕ) (l : List Said) → streamOf s ≡ ended l → (out : List ℕ) → bufferFor pal (s ++ behind) out ≡ bufferFor pal s out
+unfolding bufferFor
+not-read-buffer pal s behind l e out = rw (not-read pal s behind l e (length out), not-read-text pal s behind l e) refl

@@ -1,14 +1,17 @@
 -- Texts over a buffer, one behind the other. Assumes nothing.
 use Prim.Native.Nat.{ℕ, suc, _+_, _-_, _≤_, _<_}
 use mathlib.Core.Path.{_≡_, ap, _∙_}
+use mathlib.Core.Bool.{true, false}
 use mathlib.Core.List.{List, [], _++_}
 use native.Mathlib.Omega.{arith}
 use lib.ListN.{length, length-append}
 use lib.Seq.{sets, length-sets}
 use Rattle.log_line.specs.declared.Act.the-variants.{Wait}
-use Rattle.log_line.specs.declared.Line.the-variants.{One}
+use Rattle.log_line.specs.declared.Line.the-variants.{Header, Machine, One}
 use Rattle.log_line.specs.Printed.{lineText}
+use Rattle.log_rules.specs.Head.{headText}
 use Rattle.text_print.specs.Printed.{placed, printed, Put}
+use Rattle.text_print.proofs.PieceLaws.{put-last, put-more}
 use Rattle.text_print.proofs.StoreLaws.{sets-append, placed-in, printed-in}
 use Rattle.vgm_measure.specs.Measure.{millions}
 
@@ -52,3 +55,12 @@ millions-done m i h out₀ at out place p b =
     let p′ : place + 0 ≡ at + length (millions m) = rw e at p in
     let b′ : out ≡ sets out₀ at (millions m) = rw e at b in
     record { place = omega arith; bytes = b′ }
+
+-- a head written, line by line
+module _ (out out′ : List ℕ) (a : ℕ) (q : a ≡ placed out 0 (lineText Header)) (s : out′ ≡ printed out 0 (lineText Header)) where
+  pub head-ntsc : length (headText false) ≤ length out → Put out 0 (headText false) out′ a
+  head-ntsc room = put-last out 0 (lineText Header) out′ a (omega arith) q s
+
+  pub head-pal : length (headText true) ≤ length out → (out″ : List ℕ) (b : ℕ) → b ≡ placed out′ a (lineText Machine) → out″ ≡ printed out′ a (lineText Machine)
+      → Put out 0 (headText true) out″ b
+  head-pal room out″ b e f = put-more out 0 (lineText Header) (lineText Machine) out′ a out″ b (omega arith) q s (λ r. put-last out′ a (lineText Machine) out″ b r e f)

@@ -53,15 +53,15 @@ clocks-end : clocks end ≡ 0
 unfolding clocks
 clocks-end = refl
 
-pub clocks-from : (l : List Said) (s h : ℕ) → h ≤ stood s → h + clocks (actsFrom s h l) ≡ stood (s + samplesIn l)
+pub clocks-from : (pal : Bool) (l : List Said) (s h : ℕ) → h ≤ stood pal s → h + clocks (actsFrom pal s h l) ≡ stood pal (s + samplesIn l)
 unfolding actsFrom samplesIn
-clocks-from [] s h k = let z = add-zero s in rw z (omega (arith, clocks-gap (stood s - h) end, clocks-end))
-clocks-from (Wait n ∷ l) s h k =
+clocks-from pal [] s h k = let z = add-zero s in rw z (omega (arith, clocks-gap (stood pal s - h) end, clocks-end))
+clocks-from pal (Wait n ∷ l) s h k =
     let e : s + (n + samplesIn l) ≡ s + n + samplesIn l = omega arith in
-    rw e (clocks-from l (s + n) h (omega (arith, stood-more s n)))
-clocks-from (Write r v ∷ l) s h k =
-    let t = actsFrom s (stood s) l in
-    omega (arith, clocks-gap (stood s - h) (act (Access (Written r v)) t), clocks-write r v t, clocks-from l s (stood s) (omega arith))
+    rw e (clocks-from pal l (s + n) h (omega (arith, stood-more pal s n)))
+clocks-from pal (Write r v ∷ l) s h k =
+    let t = actsFrom pal s (stood pal s) l in
+    omega (arith, clocks-gap (stood pal s - h) (act (Access (Written r v)) t), clocks-write r v t, clocks-from pal l s (stood pal s) (omega arith))
 
 -- limits
 
@@ -92,11 +92,11 @@ Sound [] = Unit {0}
 Sound (Wait n ∷ l) = Sound l
 Sound (Write r v ∷ l) = ((isRegister r ≡ true) × (v ≤ 255)) × Sound l
 
-pub within-from : (l : List Said) (s h : ℕ) → Sound l → Within (actsFrom s h l) 0
+pub within-from : (pal : Bool) (l : List Said) (s h : ℕ) → Sound l → Within (actsFrom pal s h l) 0
 unfolding actsFrom
-within-from [] s h q = within-gap (stood s - h) end tt
-within-from (Wait n ∷ l) s h q = within-from l (s + n) h q
-within-from (Write r v ∷ l) s h q = within-gap (stood s - h) (act (Access (Written r v)) (actsFrom s (stood s) l)) (q .0, within-from l s (stood s) (q .1))
+within-from pal [] s h q = within-gap (stood pal s - h) end tt
+within-from pal (Wait n ∷ l) s h q = within-from pal l (s + n) h q
+within-from pal (Write r v ∷ l) s h q = within-gap (stood pal s - h) (act (Access (Written r v)) (actsFrom pal s (stood pal s) l)) (q .0, within-from pal l s (stood pal s) (q .1))
 
 -- accesses
 
@@ -134,13 +134,13 @@ stamped-end : (t : ℕ) → stamped t (acts end) ≡ []
 unfolding stamped acts
 stamped-end t = refl
 
-pub stamped-from : (l : List Said) (s h : ℕ) → h ≤ stood s → stamped h (acts (actsFrom s h l)) ≡ writesFrom s l
+pub stamped-from : (pal : Bool) (l : List Said) (s h : ℕ) → h ≤ stood pal s → stamped h (acts (actsFrom pal s h l)) ≡ writesFrom pal s l
 unfolding actsFrom writesFrom
-stamped-from [] s h k = stamped-gap (stood s - h) h end ∙ stamped-end (h + (stood s - h))
-stamped-from (Wait n ∷ l) s h k = stamped-from l (s + n) h (omega (arith, stood-more s n))
-stamped-from (Write r v ∷ l) s h k =
-    let u = actsFrom s (stood s) l in
-    let e : h + (stood s - h) ≡ stood s = omega arith in
-    stamped-gap (stood s - h) h (act (Access (Written r v)) u)
+stamped-from pal [] s h k = stamped-gap (stood pal s - h) h end ∙ stamped-end (h + (stood pal s - h))
+stamped-from pal (Wait n ∷ l) s h k = stamped-from pal l (s + n) h (omega (arith, stood-more pal s n))
+stamped-from pal (Write r v ∷ l) s h k =
+    let u = actsFrom pal s (stood pal s) l in
+    let e : h + (stood pal s - h) ≡ stood pal s = omega arith in
+    stamped-gap (stood pal s - h) h (act (Access (Written r v)) u)
     ∙ (ap (λ (x : ℕ). stamped x (acts (act (Access (Written r v)) u))) e
-    ∙ (stamped-write (stood s) r v u ∙ ap (λ (x : List Stamped). at (stood s) (Written r v) ∷ x) (stamped-from l s (stood s) (omega arith))))
+    ∙ (stamped-write (stood pal s) r v u ∙ ap (λ (x : List Stamped). at (stood pal s) (Written r v) ∷ x) (stamped-from pal l s (stood pal s) (omega arith))))

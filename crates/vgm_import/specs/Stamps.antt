@@ -2,7 +2,7 @@
 use Prim.Native.Nat.{ℕ, _+_}
 use mathlib.Core.Path.{_≡_}
 use mathlib.Core.List.{List, [], _∷_}
-use mathlib.Core.Bool.{false}
+use mathlib.Core.Bool.{Bool}
 use Rattle.bus.specs.declared.Access.{Access as Accessed}
 use Rattle.bus.specs.declared.Access.the-variants.{Write as Written}
 use Rattle.log_line.specs.declared.Act.{Act}
@@ -26,16 +26,16 @@ stamped t (Waited n ∷ l) = stamped (t + n) l
 stamped t (Access x ∷ l) = at t x ∷ stamped t l
 
 -- the writes of a stream, each at its clock, from s samples on: "After S samples the import stands at floor(S x 1789773 / 44100) clocks"
-unfoldable pub writesFrom : ℕ → List Said → List Stamped
-writesFrom s [] = []
-writesFrom s (Wait n ∷ l) = writesFrom (s + n) l
-writesFrom s (Write r v ∷ l) = at (stood s) (Written r v) ∷ writesFrom s l
+unfoldable pub writesFrom : Bool → ℕ → List Said → List Stamped
+writesFrom pal s [] = []
+writesFrom pal s (Wait n ∷ l) = writesFrom pal (s + n) l
+writesFrom pal s (Write r v ∷ l) = at (stood pal s) (Written r v) ∷ writesFrom pal s l
 
--- "It writes an NTSC log .. that passes our check and stands for exactly those accesses at those clocks"
-pub record Stands (stream log : List ℕ) : Type 0 where
+-- "It writes an NTSC log .. that passes our check and stands for exactly those accesses at those clocks"; of a PAL file a PAL log
+pub record Stands (pal : Bool) (stream log : List ℕ) : Type 0 where
   pub said : List Said
   pub is : streamOf stream ≡ ended said
   pub passes : checkOf log .number ≡ 0
-  pub machine : machineOf log ≡ false
-  pub accesses : stamped 0 (acts (treeOf log)) ≡ writesFrom 0 said
-  pub end : clocks (treeOf log) ≡ stood (samplesIn said)
+  pub machine : machineOf log ≡ pal
+  pub accesses : stamped 0 (acts (treeOf log)) ≡ writesFrom pal 0 said
+  pub end : clocks (treeOf log) ≡ stood pal (samplesIn said)

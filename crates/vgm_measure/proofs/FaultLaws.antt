@@ -15,11 +15,12 @@ use Rattle.log_rules.specs.Tree.{turns}
 use Rattle.vgm_stream.specs.declared.Await.{Await}
 use Rattle.vgm_stream.specs.declared.Await.the-variants.{Command, Register, Value, Low, High}
 use Rattle.vgm_measure.specs.declared.Imported.{Imported}
+use Rattle.vgm_measure.specs.declared.Tally.{Tally}
 use Rattle.vgm_stream.specs.declared.Said.{Said}
 use Rattle.vgm_stream.specs.declared.Step.{Step}
 use Rattle.vgm_stream.specs.declared.Step.the-variants.{End, Fault, Next, Says}
 use Rattle.vgm_stream.specs.Stream.{Stream, ended, refused, more, after, streamFrom, byteStep, commandOf, registerOf, streamOf}
-use Rattle.vgm_measure.specs.Import.{importRefusal, importWeighed, importAnswer, clocksFor, treeFor, textFor, importOf}
+use Rattle.vgm_measure.specs.Import.{importRefusal, importWeighed, importAnswer, clocksFor, treeFor, textFor, importFor, tallyWeighed, tallyAnswer, tallyOf}
 
 -- "Refusals, at the first byte at fault: 25 unknown command, 26 register, 27 stream ends before $66 (at its length)"
 
@@ -79,16 +80,36 @@ numbered size k p (inr (inr h, l)) = (omega arith, omega arith, omega arith)
 abbrev Answered : ℕ → Imported → Type 0
 Answered size a = (a .number ≤ 28) × (a .place ≤ size)
 
-answered : (room size : ℕ) (x : Stream) → Refused size x → Answered size (importAnswer room x)
+answered : (pal : Bool) (room size : ℕ) (x : Stream) → Refused size x → Answered size (importAnswer pal room x)
 unfolding importAnswer importWeighed
-answered room size (refused k p) h = let n = numbered size k p h in (n .1, n .2)
-answered room size (ended l) h = by (either (ltb 2000000000 (clocksFor l)) (ltb 1000000 (turns (treeFor l)))) (either (ltb room (length (textFor l))) (ltb 60000 (length (textFor l))))
+answered pal room size (refused k p) h = let n = numbered size k p h in (n .1, n .2)
+answered pal room size (ended l) h =
+    by (either (ltb 2000000000 (clocksFor pal l)) (ltb 1000000 (turns (treeFor pal l)))) (either (ltb room (length (textFor pal l))) (ltb 60000 (length (textFor pal l))))
   where
-    by : (a b : Bool) → Answered size (pick a (importRefusal 9 0) (pick b (importRefusal 28 0) (record { number = 0; place = 0; length = length (textFor l) })))
+    by : (a b : Bool) → Answered size (pick a (importRefusal 9 0) (pick b (importRefusal 28 0) (record { number = 0; place = 0; length = length (textFor pal l) })))
     by true b = (omega arith, omega arith)
     by false true = (omega arith, omega arith)
     by false false = (omega arith, omega arith)
 
-pub answer-limits : (s : List ℕ) (room : ℕ) → Answered (length s) (importOf s room)
-unfolding importOf
-answer-limits s room = answered room (length s) (streamOf s) (refused-place s)
+pub answer-limits : (pal : Bool) (s : List ℕ) (room : ℕ) → Answered (length s) (importFor pal s room)
+unfolding importFor
+answer-limits pal s room = answered pal room (length s) (streamOf s) (refused-place s)
+
+-- of a tally too
+
+abbrev Tallied : ℕ → Tally → Type 0
+Tallied size a = (a .number ≤ 27) × (a .place ≤ size)
+
+few : (size k p : ℕ) → Refused size (refused k p) → k ≤ 27
+few size k p (inl h) = omega (arith, h .0)
+few size k p (inr (inl h, l)) = omega arith
+few size k p (inr (inr h, l)) = omega arith
+
+tallied : (pal : Bool) (size : ℕ) (x : Stream) → Refused size x → Tallied size (tallyAnswer pal x)
+unfolding tallyAnswer tallyWeighed
+tallied pal size (refused k p) h = (few size k p h, numbered size k p h .2)
+tallied pal size (ended l) h = pick-both (Tallied size) (either (ltb 2000000000 (clocksFor pal l)) (ltb 1000000 (turns (treeFor pal l)))) (omega arith, omega arith) (omega arith, omega arith)
+
+pub tally-limits : (pal : Bool) (s : List ℕ) → Tallied (length s) (tallyOf pal s)
+unfolding tallyOf
+tally-limits pal s = tallied pal (length s) (streamOf s) (refused-place s)

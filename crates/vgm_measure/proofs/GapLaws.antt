@@ -16,10 +16,10 @@ use Rattle.log_line.specs.declared.Line.the-variants.{One, Stop}
 use Rattle.log_line.specs.Printed.{lineText, actText, ended}
 use Rattle.log_rules.specs.Tree.{Tree, end, act, turns, text}
 use Rattle.vgm_measure.specs.declared.Count.{Count}
-use Rattle.vgm_measure.specs.declared.Imported.{Imported}
+use Rattle.vgm_measure.specs.declared.Sum.{Sum}
 use Rattle.vgm_stream.specs.Stream as stream
-use Rattle.vgm_measure.specs.Import.{stood, gap, rest, importWeighed, actsFrom, samplesIn}
-use Rattle.vgm_measure.specs.Measure.{gapText, gapTurns, millions, restText, countWrite, Counted, Light, answerFrom}
+use Rattle.vgm_measure.specs.Import.{stood, gap, rest, actsFrom, samplesIn}
+use Rattle.vgm_measure.specs.Measure.{gapText, gapTurns, millions, restText, countWrite, Counted, Light, sumWeighed, sumFrom}
 use Rattle.vgm_measure.proofs.BoundLaws.{stood-most, turns-most}
 
 abbrev million : Tree → Tree
@@ -91,21 +91,21 @@ unfolding gapText
 gap-long g = length-append (millions (g / 1000000)) (restText (g % 1000000)) ∙ omega (arith, millions-long (g / 1000000))
 
 -- a write counted: the count, and its bounds
-pub count-write-fits : (k : Count) → Counted k → Light k → (c : ℕ) → c ≡ stood (k .samples) → (t : ℕ) → t ≡ gapTurns (c - k .clock) → (n : ℕ) → n ≡ length (gapText (c - k .clock)) → n ≤ 16 * gapTurns (c - k .clock)
-    → (_≡_ {A = Count} (record { samples = k .samples; clock = c; turns = k .turns + t + 1; length = k .length + n + 14 }) (countWrite k))
-    × Counted (record { samples = k .samples; clock = c; turns = k .turns + t + 1; length = k .length + n + 14 })
+pub count-write-fits : (pal : Bool) (k : Count) → Counted pal k → Light pal k → (c : ℕ) → c ≡ stood pal (k .samples) → (t : ℕ) → t ≡ gapTurns (c - k .clock) → (n : ℕ) → n ≡ length (gapText (c - k .clock)) → n ≤ 16 * gapTurns (c - k .clock)
+    → (_≡_ {A = Count} (record { samples = k .samples; clock = c; turns = k .turns + t + 1; length = k .length + n + 14 }) (countWrite pal k))
+    × Counted pal (record { samples = k .samples; clock = c; turns = k .turns + t + 1; length = k .length + n + 14 })
 unfolding countWrite
-count-write-fits k q l c e t f n g h =
-    let b = stood-most (k .samples) (q .samples) in
+count-write-fits pal k q l c e t f n g h =
+    let b = stood-most pal (k .samples) (q .samples) in
     let m = turns-most (c - k .clock) (omega arith) in
     (rw (f, g, e) refl, record { samples = q .samples; clock = omega arith; turns = omega arith; length = omega arith })
 
--- the answer where the stream ends
-pub closed-count : (k : Count) (room : ℕ) (c : ℕ) → c ≡ stood (k .samples) → (t : ℕ) → t ≡ gapTurns (c - k .clock) → (n : ℕ) → n ≡ length (gapText (c - k .clock))
-    → (e : ℕ) → e ≡ length (lineText (Stop c)) → (r : Imported) → r ≡ importWeighed room c (k .turns + t) (k .length + n + e) → r ≡ answerFrom room k (stream.ended [])
-unfolding answerFrom actsFrom samplesIn turns text
-closed-count k room c ec t et n en e ee r er =
+-- the sum where the stream ends
+pub closed-count : (pal : Bool) (k : Count) (c : ℕ) → c ≡ stood pal (k .samples) → (t : ℕ) → t ≡ gapTurns (c - k .clock) → (n : ℕ) → n ≡ length (gapText (c - k .clock))
+    → (e : ℕ) → e ≡ length (lineText (Stop c)) → (r : Sum) → r ≡ sumWeighed c (k .turns + t) (k .length + n + e) → r ≡ sumFrom pal k (stream.ended [])
+unfolding sumFrom actsFrom samplesIn turns text
+closed-count pal k c ec t et n en e ee r er =
     let z = add-zero (k .samples) in
-    let a : turns (gap (stood (k .samples) - k .clock) end) ≡ gapTurns (stood (k .samples) - k .clock) = turns-gap (stood (k .samples) - k .clock) end ∙ add-zero (gapTurns (stood (k .samples) - k .clock)) in
-    let b : text (gap (stood (k .samples) - k .clock) end) ≡ gapText (stood (k .samples) - k .clock) = text-gap (stood (k .samples) - k .clock) end ∙ append-nil (gapText (stood (k .samples) - k .clock)) in
+    let a : turns (gap (stood pal (k .samples) - k .clock) end) ≡ gapTurns (stood pal (k .samples) - k .clock) = turns-gap (stood pal (k .samples) - k .clock) end ∙ add-zero (gapTurns (stood pal (k .samples) - k .clock)) in
+    let b : text (gap (stood pal (k .samples) - k .clock) end) ≡ gapText (stood pal (k .samples) - k .clock) = text-gap (stood pal (k .samples) - k .clock) end ∙ append-nil (gapText (stood pal (k .samples) - k .clock)) in
     er ∙ rw (et, en, ee, ec, z, a, b) refl

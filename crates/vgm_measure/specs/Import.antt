@@ -1,23 +1,25 @@
 -- The log that a stream is brought in as, and the answer.
 use Prim.Native.Nat.{ℕ, _+_, _-_, _*_, _/_, _%_}
 use mathlib.Core.List.{List, [], _∷_}
-use mathlib.Core.Bool.{false}
+use mathlib.Core.Bool.{Bool, false}
 use lib.ListN.{length}
 use lib.Seq.{sets}
 use lib.Dec.{ltb, eqb}
 use Rattle.arith.specs.Pick.{pick, either}
 use Rattle.arith.specs.Iterate.{iterate}
+use Rattle.clock_rate.specs.Rate.{clockRate}
 use Rattle.bus.specs.declared.Access.the-variants.{Write as Written}
 use Rattle.log_line.specs.declared.Act.the-variants.{Wait as Waited, Access}
 use Rattle.log_rules.specs.Tree.{Tree, end, act, turns, logText}
 use Rattle.vgm_stream.specs.declared.Said.{Said}
 use Rattle.vgm_stream.specs.declared.Said.the-variants.{Wait, Write}
 use Rattle.vgm_measure.specs.declared.Imported.{Imported}
+use Rattle.vgm_measure.specs.declared.Tally.{Tally}
 use Rattle.vgm_stream.specs.Stream.{Stream, ended, refused, streamOf}
 
--- "After S samples the import stands at floor(S x 1789773 / 44100) clocks"
-unfoldable pub stood : ℕ → ℕ
-stood s = s * 1789773 / 44100
+-- "After S samples the import stands at floor(S x 1789773 / 44100) clocks"; of a PAL file with its machine's clocks a second
+unfoldable pub stood : Bool → ℕ → ℕ
+stood pal s = s * clockRate pal / 44100
 
 -- "then the rest, no line for a gap of 0": a wait in front of what follows
 unfoldable pub rest : ℕ → Tree → Tree
@@ -29,10 +31,10 @@ gap g t = iterate (act (Waited 1000000)) (g / 1000000) (rest (g % 1000000) t)
 
 -- the lines from s samples on, where the log has come to the clock h: "All clocks before an access since the last one or the start, or before the
 -- end, are one gap", "and no loops"
-unfoldable pub actsFrom : ℕ → ℕ → List Said → Tree
-actsFrom s h [] = gap (stood s - h) end
-actsFrom s h (Wait n ∷ l) = actsFrom (s + n) h l
-actsFrom s h (Write r v ∷ l) = gap (stood s - h) (act (Access (Written r v)) (actsFrom s (stood s) l))
+unfoldable pub actsFrom : Bool → ℕ → ℕ → List Said → Tree
+actsFrom pal s h [] = gap (stood pal s - h) end
+actsFrom pal s h (Wait n ∷ l) = actsFrom pal (s + n) h l
+actsFrom pal s h (Write r v ∷ l) = gap (stood pal s - h) (act (Access (Written r v)) (actsFrom pal s (stood pal s) l))
 
 -- the samples in all
 unfoldable pub samplesIn : List Said → ℕ
@@ -40,15 +42,15 @@ samplesIn [] = 0
 samplesIn (Wait n ∷ l) = n + samplesIn l
 samplesIn (Write r v ∷ l) = samplesIn l
 
--- the tree of a stream that ends, its clocks in all, and its log: "It writes an NTSC log"
-unfoldable pub treeFor : List Said → Tree
-treeFor l = actsFrom 0 0 l
+-- the tree of a stream that ends, its clocks in all, and its log
+unfoldable pub treeFor : Bool → List Said → Tree
+treeFor pal l = actsFrom pal 0 0 l
 
-unfoldable pub clocksFor : List Said → ℕ
-clocksFor l = stood (samplesIn l)
+unfoldable pub clocksFor : Bool → List Said → ℕ
+clocksFor pal l = stood pal (samplesIn l)
 
-unfoldable pub textFor : List Said → List ℕ
-textFor l = logText false (treeFor l) (clocksFor l)
+unfoldable pub textFor : Bool → List Said → List ℕ
+textFor pal l = logText pal (treeFor pal l) (clocksFor pal l)
 
 abbrev pub importRefusal : ℕ → ℕ → Imported
 importRefusal k p = record { number = k; place = p; length = 0 }
@@ -62,19 +64,40 @@ importWeighed room c t n =
     (record { number = 0; place = 0; length = n }))
 
 -- "Refusals, at the first byte at fault: ..; then .."
-unfoldable pub importAnswer : ℕ → Stream → Imported
-importAnswer room (refused k p) = importRefusal k p
-importAnswer room (ended l) = importWeighed room (clocksFor l) (turns (treeFor l)) (length (textFor l))
+unfoldable pub importAnswer : Bool → ℕ → Stream → Imported
+importAnswer pal room (refused k p) = importRefusal k p
+importAnswer pal room (ended l) = importWeighed room (clocksFor pal l) (turns (treeFor pal l)) (length (textFor pal l))
 
--- the answer for a stream and a buffer of so many bytes
-unfoldable pub importOf : List ℕ → ℕ → Imported
-importOf stream room = importAnswer room (streamOf stream)
+-- the answer for a machine, a stream and a buffer of so many bytes
+unfoldable pub importFor : Bool → List ℕ → ℕ → Imported
+importFor pal stream room = importAnswer pal room (streamOf stream)
+
+-- THE TOTALS of a stream's log, of any length: the first byte at fault, then 9 at 0
+abbrev pub tallyRefusal : ℕ → ℕ → Tally
+tallyRefusal k p = record { number = k; place = p; clocks = 0; turns = 0 }
+
+unfoldable pub tallyWeighed : ℕ → ℕ → Tally
+tallyWeighed c t = pick (either (ltb 2000000000 c) (ltb 1000000 t)) (tallyRefusal 9 0) (record { number = 0; place = 0; clocks = c; turns = t })
+
+unfoldable pub tallyAnswer : Bool → Stream → Tally
+tallyAnswer pal (refused k p) = tallyRefusal k p
+tallyAnswer pal (ended l) = tallyWeighed (clocksFor pal l) (turns (treeFor pal l))
+
+unfoldable pub tallyOf : Bool → List ℕ → Tally
+tallyOf pal stream = tallyAnswer pal (streamOf stream)
 
 -- the log of a stream
-unfoldable pub textOf : Stream → List ℕ
-textOf (refused k p) = []
-textOf (ended l) = textFor l
+unfoldable pub textOf : Bool → Stream → List ℕ
+textOf pal (refused k p) = []
+textOf pal (ended l) = textFor pal l
 
 -- the buffer: the log over its front, the bytes behind it as they were; refused, all of it as it was
-unfoldable pub bufferOf : List ℕ → List ℕ → List ℕ
-bufferOf stream out = pick (eqb (importOf stream (length out) .number) 0) (sets out 0 (textOf (streamOf stream))) out
+unfoldable pub bufferFor : Bool → List ℕ → List ℕ → List ℕ
+bufferFor pal stream out = pick (eqb (importFor pal stream (length out) .number) 0) (sets out 0 (textOf pal (streamOf stream))) out
+
+-- request 10: "It writes an NTSC log"
+abbrev pub importOf : List ℕ → ℕ → Imported
+importOf stream room = importFor false stream room
+
+abbrev pub bufferOf : List ℕ → List ℕ → List ℕ
+bufferOf stream out = bufferFor false stream out

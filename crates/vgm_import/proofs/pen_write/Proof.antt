@@ -10,10 +10,10 @@ unfolding stepSamples
 cast-clocks-of c = let h = c .before .before .pre .samples in record { fits = omega arith }
 
 put-gap-requires : tie.Need-put-gap-requires
-put-gap-requires c κs = write-gap (c .before .before .before .before .before .args .p) (c .before .before .before .before .before .args .register) (c .before .before .before .before .before .args .value) (c .before .before .before .before .before .args .out .now) (c .before .before .before .before .before .pre) (c .before .before .clocks-of .result) (c .before .before .clocks-of .ensures)
+put-gap-requires c κs = write-gap (c .before .before .before .before .before .args .pal) (c .before .before .before .before .before .args .p) (c .before .before .before .before .before .args .register) (c .before .before .before .before .before .args .value) (c .before .before .before .before .before .args .out .now) (c .before .before .before .before .before .pre) (c .before .before .clocks-of .result) (c .before .before .clocks-of .ensures)
 
 returns : tie.Need-returns
-returns c = write-penned (c .before .before .before .before .before .before .before .before .before .before .before .before .args .p) (c .before .before .before .before .before .before .before .before .before .before .before .before .args .register) (c .before .before .before .before .before .before .before .before .before .before .before .before .args .value) (c .before .before .before .before .before .before .before .before .before .before .before .before .args .out .now) (c .before .before .before .before .before .before .before .before .before .before .before .before .pre) (c .before .before .before .before .before .before .before .before .before .clocks-of .result) (c .before .before .before .before .before .before .before .before .before .clocks-of .ensures) (c .before .before .before .before .before .before .put-gap .last .0) (c .before .before .before .before .before .before .put-gap .result) (c .before .before .before .before .before .before .put-gap .ensures) (c .before .before .put-line .last .0) (c .before .before .put-line .result) (c .before .before .put-line .ensures .0) (c .before .before .put-line .ensures .1)
+returns c = write-penned (c .before .before .before .before .before .before .before .before .before .before .before .before .args .pal) (c .before .before .before .before .before .before .before .before .before .before .before .before .args .p) (c .before .before .before .before .before .before .before .before .before .before .before .before .args .register) (c .before .before .before .before .before .before .before .before .before .before .before .before .args .value) (c .before .before .before .before .before .before .before .before .before .before .before .before .args .out .now) (c .before .before .before .before .before .before .before .before .before .before .before .before .pre) (c .before .before .before .before .before .before .before .before .before .clocks-of .result) (c .before .before .before .before .before .before .before .before .before .clocks-of .ensures) (c .before .before .before .before .before .before .put-gap .last .0) (c .before .before .before .before .before .before .put-gap .result) (c .before .before .before .before .before .before .put-gap .ensures) (c .before .before .put-line .last .0) (c .before .before .put-line .result) (c .before .before .put-line .ensures .0) (c .before .before .put-line .ensures .1)
 
 pub pen-write-spec : {M : Type 1} → statement M
 pen-write-spec = tie.close (tie.spec cast-clocks-of (λ c κs. search needs) (λ c. search needs) put-gap-requires (λ c κs. search needs) (λ c. search needs) returns)

@@ -6,7 +6,7 @@ use Rattle.vgm_measure.proofs.count_light.Statement.{statement}
 use Rattle.vgm_measure.proofs.count_light.Tie as tie
 
 count-said-requires : tie.Need-count-said-requires
-count-said-requires c κs = (c .before .before .pre, light-of (c .before .before .args .k) (sym (c .before .heavy-at .ensures) ∙ c .if1 .left))
+count-said-requires c κs = (c .before .before .pre, light-of (c .before .before .args .pal) (c .before .before .args .k) (sym (c .before .heavy-at .ensures) ∙ c .if1 .left))
 
 returns : tie.Need-returns
 unfolding countStep

@@ -10,11 +10,12 @@ use Rattle.vgm_measure.proofs.count_said.Tie as tie
 
 returns : tie.Need-returns
 unfolding countSaid
-returns c = let k = c .before .before .before .before .args .k in
+returns c = let p = c .before .before .before .before .args .pal in
+    let k = c .before .before .before .before .args .k in
     let q = c .before .before .before .before .pre .0 in
     let l = c .before .before .before .before .pre .1 in
-    let f = stood-few (k .samples) (l .clocks) in
-    let b = stood-more (k .samples) (c .before .before .s .given .0 .0) in
+    let f = stood-few p (k .samples) (l .clocks) in
+    let b = stood-more p (k .samples) (c .before .before .s .given .0 .0) in
     rw (c .before .before .s .given .1) (refl, record { samples = omega arith; clock = omega arith; turns = q .turns; length = q .length })
 
 returns-2 : tie.Need-returns-2
