@@ -97,7 +97,7 @@ static struct build loaded(const char *name)
     return b;
 }
 
-static void wait(const struct build *b, uint8_t *state, uint64_t left, struct played *p)
+static void wait(const struct build *b, uint8_t *state, uint64_t left, struct played *p, int summed)
 {
     while (left) {
         uint64_t answer = b->run(state, b->size, memory, sizeof memory, left, words, WORDS, counts, PERCH_COUNTS);
@@ -107,7 +107,7 @@ static void wait(const struct build *b, uint8_t *state, uint64_t left, struct pl
             fprintf(stderr, "%s: a run is refused with %u\n", b->name, PERCH_NUMBER(answer));
             exit(2);
         }
-        for (k = 0; k < records; k++)
+        for (k = 0; summed && k < records; k++)
             p->sum = p->sum * 31 + ((p->clocks + words[2 * k]) << 16) + words[2 * k + 1];
         p->clocks += done;
         p->records += records;
@@ -115,7 +115,8 @@ static void wait(const struct build *b, uint8_t *state, uint64_t left, struct pl
     }
 }
 
-static struct played play(const struct build *b, const struct scene *s)
+/* A scene's clocks and records; and the sum of records and counts where it is asked for. */
+static struct played play(const struct build *b, const struct scene *s, int summed)
 {
     struct played p = {0, 0, 0};
     uint8_t state[256];
@@ -127,12 +128,14 @@ static struct played play(const struct build *b, const struct scene *s)
         uint32_t held = s->acts[i].held;
 
         if (s->acts[i].kind == PERCH_WAIT)
-            wait(b, state, held, &p);
+            wait(b, state, held, &p, summed);
         else if (s->acts[i].kind == PERCH_WRITE)
             b->access(state, b->size, 0, (uint16_t)(held >> 8), (uint8_t)held);
         else
             p.sum += PERCH_BYTE(b->access(state, b->size, 1, 0, 0));
     }
+    for (i = 0; summed && i < PERCH_COUNTS; i++)
+        p.sum = p.sum * 31 + counts[i];
     return p;
 }
 
@@ -255,31 +258,32 @@ static const struct act shortest[] = {W(0x4015, 0x0f), W(0x4000, 0xbf), W(0x4001
     W(0x4005, 8), W(0x4006, 8), W(0x4007, 0), W(0x4008, 0xff), W(0x400a, 0), W(0x400b, 0), W(0x400c, 0x3f), W(0x400e, 0), W(0x400f, 0),
     W(0x4010, 0x4f), W(0x4013, 0xff), W(0x4015, 0x1f), W(0x4017, 0x80), {PERCH_WAIT, 1000000}, {PERCH_WAIT, 1000000}};
 
-/* One scene by every build; 1 where one differs from the first. */
+/* One scene by every build; 1 where one differs from the first. What they give is summed in a first try, whose time isn't taken, of libgme
+ * neither. */
 static int beside(const struct build *builds, int n, const struct scene *s, int tries, const char *nsf)
 {
     struct played first = {0, 0, 0};
     double least[MOST_BUILDS], gme = 0, t;
     int i, j;
 
-    for (i = 0; i < tries; i++) {
+    for (i = 0; i <= tries; i++) {
         for (j = 0; j < n; j++) {
             struct played p;
 
             t = now();
-            p = play(&builds[j], s);
+            p = play(&builds[j], s, i == 0);
             t = now() - t;
-            if (i == 0 || t < least[j])
+            if (i <= 1 || t < least[j])
                 least[j] = t;
             if (i == 0 && j == 0)
                 first = p;
-            if (p.clocks != first.clocks || p.records != first.records || p.sum != first.sum) {
+            if (p.clocks != first.clocks || p.records != first.records || (i == 0 && p.sum != first.sum)) {
                 printf("%s: %s gives something else than %s\n", s->name, builds[j].name, builds[0].name);
                 return 1;
             }
         }
         t = nsf ? by_gme(nsf, (double)first.clocks / (s->machine == PERCH_PAL ? 1662607 : 1789773)) : 0;
-        if (t > 0 && (gme == 0 || t < gme))
+        if (t > 0 && (i <= 1 || t < gme))
             gme = t;
     }
     printf("| %s | %llu | %llu |", s->name, (unsigned long long)first.clocks, (unsigned long long)first.records);
@@ -309,7 +313,7 @@ static int told_beside(const struct build *builds, int n, const struct scene *s,
     for (i = 0; i < tries; i++)
         for (j = 0; j < n; j++) {
             t = now();
-            play(&builds[j], s);
+            play(&builds[j], s, 0);
             t = now() - t;
             if (i == 0 || t < ran[j])
                 ran[j] = t;
