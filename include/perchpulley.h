@@ -21,12 +21,13 @@
  *                        24..30 PERCH_DMC
  *   meter, meter_records 8..15 PERCH_CASE, 16..31 PERCH_LOWEST, 32..47 PERCH_HIGHEST
  *   check                8..31 PERCH_PLACE, 32..62 PERCH_LOG_CLOCKS, 63 PERCH_LOG_MACHINE
- *   turns, items, fold   8..31 PERCH_PLACE, 32..63 PERCH_LOG_VALUE
+ *   turns, items, fold,
+ *   state_at, wav_begin  8..31 PERCH_PLACE, 32..63 PERCH_LOG_VALUE
  *   item, cursor_next    8..31 PERCH_PLACE, 32..55 PERCH_HELD, 56..63 PERCH_KIND
  *   body                 8..31 PERCH_PLACE, 32..47 PERCH_START, 48..63 PERCH_LENGTH
  *   salvage              8..31 PERCH_PLACE, 32..47 PERCH_REPAIRED_LENGTH, 48..63 PERCH_REPAIRED_ENTRIES
  *   begin                8..31 PERCH_PLACE
- *   play_on              8 PERCH_OVER, 32..63 PERCH_WRITTEN; refused 8..31 PERCH_PLACE
+ *   play_on, wav_on      8 PERCH_OVER, 32..63 PERCH_WRITTEN; refused 8..31 PERCH_PLACE
  *   refusal_text, reason 32..63 PERCH_WRITTEN
  *   any other            8..63 PERCH_VALUE
  *
@@ -59,7 +60,7 @@
 extern "C" {
 #endif
 
-#define PERCH_VERSION 11           /* of this header; perch_version() is the library's */
+#define PERCH_VERSION 12           /* of this header; perch_version() is the library's */
 #define PERCH_STATE_SIZE 91        /* bytes of a state; perch_state_size() at run time */
 #define PERCH_MEMORY_SIZE 32768    /* bytes of sample memory, $8000 to $FFFF */
 #define PERCH_MOST_CLOCKS 1000000  /* clocks that one run may be asked for */
@@ -67,6 +68,7 @@ extern "C" {
 #define PERCH_PLAYER_SIZE 190      /* bytes of a player; perch_player_size() at run time */
 #define PERCH_PLAYER_TIME 5        /* the first of the four bytes of a player that tell its time */
 #define PERCH_CURSOR_SIZE 88       /* bytes of a cursor; perch_cursor_size() at run time */
+#define PERCH_WAV_SIZE 216         /* bytes of a WAV file under way; perch_wav_size() at run time */
 #define PERCH_LONGEST_LINE 23      /* bytes of the longest line that a player writes, with its line feed */
 #define PERCH_REFUSAL_SIZE 40      /* bytes in which the text of any refusal fits */
 
@@ -75,7 +77,7 @@ extern "C" {
 
 #define PERCH_DONE 0
 #define PERCH_REFUSED_MEMORY 1    /* sample memory isn't PERCH_MEMORY_SIZE bytes */
-#define PERCH_REFUSED_STATE 2     /* the bytes are no state in range, no player or no cursor */
+#define PERCH_REFUSED_STATE 2     /* the bytes are no state in range, no player, no cursor or no WAV file under way */
 #define PERCH_REFUSED_CLOCKS 3    /* a run of more than PERCH_MOST_CLOCKS */
 #define PERCH_REFUSED_REGISTER 4  /* register not among $4000..$4013, $4015, $4017 */
 #define PERCH_REFUSED_LONG 5      /* log longer than 60,000 bytes */
@@ -105,6 +107,7 @@ extern "C" {
 #define PERCH_REFUSED_REPAIRED 30 /* the repaired log is longer than the buffer lent for it, or than 60,000 bytes */
 #define PERCH_REFUSED_LIST 31     /* the list of what was done to repair a log has no room */
 #define PERCH_REFUSED_FOLD_ROOM 32 /* the buffer is shorter than the log to be folded */
+#define PERCH_REFUSED_RATE 33     /* of a WAV file: rate outside 8000..192000 */
 
 /* The number of an answer, and its value. */
 #define PERCH_NUMBER(answer) ((unsigned)((answer) & 0xff))
@@ -359,6 +362,49 @@ uint64_t perch_refusal_text(uint8_t number, uint64_t place, uint8_t *text, size_
  * too short for them: 60 bytes hold any. A number that has no words of its own is "refused". The answer is 2^32 x bytes
  * written. */
 uint64_t perch_reason(uint8_t number, uint8_t *text, size_t t);
+
+/* A LOG AS A WAV FILE, IN PIECES: RIFF, PCM, 16 bits, one channel; a head of 44 bytes, then two bytes a sample, low byte first.
+ * Sample n, from 0, is the mean, rounded down, of the levels after the clocks floor(n x f / rate) + 1 to
+ * floor((n + 1) x f / rate), where f is 1,789,773, or 1,662,607 on a PAL machine, and the rate is in samples a second: 0..32767,
+ * and nothing is filtered. An access changes the levels of the clocks behind it only. The samples are those whose last clock
+ * the log has.
+ *
+ * A WAV file under way is PERCH_WAV_SIZE bytes that the caller keeps between two pieces, every number low byte first; a copy of
+ * them is a bookmark, as a player's is.
+ *
+ *   byte   0  whether the head is written, 0 or 1
+ *          1  the rate (4)
+ *          5  the samples in all (4)
+ *          9  the clocks of a wait that are still to be worked (4)
+ *         13  the number of the sample under way (8)
+ *         21  its levels so far, added up (8)
+ *         29  the clocks done (8)
+ *         37  a cursor
+ *        125  a state */
+
+/* How many bytes a WAV file under way is. */
+size_t perch_wav_size(void);
+
+/* Makes the w bytes the log's WAV file at its beginning, whatever they held. The value is the size of the whole file in bytes:
+ * 44 + 2 x its samples. Refused, and the bytes stay: 1; w isn't the size of a WAV file under way (2); as the log; the rate is
+ * outside 8000..192000 (33, at 0). */
+uint64_t perch_wav_begin(uint8_t *wav, size_t w, const uint8_t *log, size_t n, const uint8_t *memory, size_t m,
+                         uint32_t rate);
+
+/* Writes the next bytes of the file to the front of `out`, and moves the file behind them: first the head alone, into 44
+ * bytes or more, and into fewer nothing; behind it whole samples, as many as fit, into less than two bytes none. The log and
+ * the memory are those that the file began with; then the pieces joined are the whole file, and no piece is refused. A piece
+ * with room for a sample gets one at least, or says over; one that says over may have written the last samples. Bytes behind
+ * those written stay; none goes behind the first 4,294,967,295. The answer is 2^8 x over + 2^32 x bytes written; refused it is
+ * an answer about a log.
+ *
+ * Refused, and nothing is written, and the file stays: 1; the bytes are no WAV file under way, or their state is out of range
+ * (2). One that its log didn't lead to may be refused, in this order, with 3 (a wait of more than PERCH_MOST_CLOCKS), 9 (a
+ * time, with the wait's clocks, above 2,000,000,000), 33, 2 (a sample under way that doesn't have the clock, or a sum above
+ * 65,535 for each of its clocks done), or as the line that it comes to before any sample of this piece, and PERCH_PLACE has
+ * that line's place. */
+uint64_t perch_wav_on(uint8_t *wav, size_t w, const uint8_t *log, size_t n, const uint8_t *memory, size_t m, uint8_t *out,
+                      size_t o);
 
 #ifdef __cplusplus
 }

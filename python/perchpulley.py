@@ -6,6 +6,7 @@
     chip = perch.state_at(log, 600000).chip     # the state at a clock
     print(chip.why("square1"), chip.level)
     clocks, levels = perch.levels(log)          # every level and the clock at which it begins
+    open("tune.wav", "wb").writelines(perch.wav(log))  # the log as a sound
 
 One file, no packages. It loads the shared object that PERCHPULLEY_LIBRARY names, else that of the folder it was installed to, else the
 one that the loader finds. Sample memory is 32,768 bytes, $8000 to $FFFF; where it isn't given it is zeros. A refusal is raised as Refused,
@@ -18,7 +19,7 @@ from array import array
 from collections import namedtuple
 from ctypes import c_float, c_size_t, c_uint8, c_uint16, c_uint32, c_uint64, c_void_p
 
-VERSION = 11  # of the library that this file is for
+VERSION = 12  # of the library that this file is for
 MEMORY = 32768  # bytes of sample memory
 NTSC, PAL = 0, 1  # the machines
 MOST_CLOCKS = 1000000  # clocks that one run of the library may be asked for
@@ -75,6 +76,9 @@ _FUNCTIONS = {
     "player_size": (c_size_t, []),
     "begin": (c_uint64, _SLICE + _SLICE + _SLICE),
     "play_on": (c_uint64, _SLICE + _SLICE + _SLICE + _SLICE),
+    "wav_size": (c_size_t, []),
+    "wav_begin": (c_uint64, _SLICE + _SLICE + _SLICE + [c_uint32]),
+    "wav_on": (c_uint64, _SLICE + _SLICE + _SLICE + _SLICE),
     "reason": (c_uint64, [c_uint8] + _SLICE),
 }
 
@@ -323,19 +327,29 @@ def fraction(level):
     return _library.perch_level_fraction(level)
 
 
+def _pieces(on, lent):
+    """What a function writes, piece by piece, until it says over."""
+    room, over = (c_uint8 * 65536)(), False
+    while not over:
+        answer = on(*lent, room, len(room))
+        written, over = _log_value(answer), bool(answer >> 8 & 1)
+        yield bytes(room[:written])
+
+
 def play(log, memory=None):
     """The text that the player writes for a log, in pieces of whole lines."""
     log, memory = bytes(log), _bytes(memory)
     player = (c_uint8 * _library.perch_player_size())()
-    text = (c_uint8 * 65536)()
     lent = (player, len(player), log, len(log), memory, len(memory))
     _log_value(_library.perch_begin(*lent))
+    return _pieces(_library.perch_play_on, lent)
 
-    def pieces():
-        over = False
-        while not over:
-            answer = _library.perch_play_on(*lent, text, len(text))
-            written, over = _log_value(answer), bool(answer >> 8 & 1)
-            yield bytes(text[:written])
 
-    return pieces()
+def wav(log, memory=None, rate=44100):
+    """The WAV file of a log, 16 bits and one channel, at a rate from 8,000 to 192,000 samples a second, in pieces: joined they are the file.
+    A sample is the mean of the levels after its clocks, exact to the clock, 0 to 32767."""
+    log, memory = bytes(log), _bytes(memory)
+    file = (c_uint8 * _library.perch_wav_size())()
+    lent = (file, len(file), log, len(log), memory, len(memory))
+    _log_value(_library.perch_wav_begin(*lent, min(max(rate, 0), 2**32 - 1)))
+    return _pieces(_library.perch_wav_on, lent)

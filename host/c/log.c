@@ -1,5 +1,5 @@
 /* The whole header from C, every macro and every refusal of it: what is asked of a log, its items by a cursor, the player, a
- * log folded, one repaired, a VGM stream brought in, the chip, why a channel is silent, what the channels give, the state at a clock, a sample's sheet, a meter. Exit status 0 where every answer is as
+ * log folded, one repaired, a VGM stream brought in, a WAV file, the chip, why a channel is silent, what the channels give, the state at a clock, a sample's sheet, a meter. Exit status 0 where every answer is as
  * expected. */
 #include <stdio.h>
 #include <string.h>
@@ -29,6 +29,7 @@ static void sizes(void)
     expect("a state", perch_state_size(), PERCH_STATE_SIZE);
     expect("a player", perch_player_size(), PERCH_PLAYER_SIZE);
     expect("a cursor", perch_cursor_size(), PERCH_CURSOR_SIZE);
+    expect("a WAV file under way", perch_wav_size(), PERCH_WAV_SIZE);
 }
 
 static void logs(void)
@@ -153,6 +154,47 @@ static void players(void)
     expect("a refusal in words", PERCH_WRITTEN(answer), strlen("value outside its range"));
     expect("its words", (uint64_t)memcmp(words, "value outside its range", PERCH_WRITTEN(answer)), 0);
     expect("no room for them", perch_reason(PERCH_REFUSED_RANGE, words, 22), 0);
+}
+
+/* A WAV file's head and its samples, from a bookmark too. At 192,000 samples a second the first ends at clock 9, the second at 18. */
+static void wavs(void)
+{
+    static uint8_t memory[PERCH_MEMORY_SIZE];
+    static const char text[] = "log=1\nwait=4\nwrite=4011:40\nwait=16\nstop=20\n";
+    const uint8_t *log = (const uint8_t *)text;
+    uint8_t wav[PERCH_WAV_SIZE], mark[PERCH_WAV_SIZE], out[100];
+    const size_t n = strlen(text), m = sizeof memory, w = sizeof wav;
+    uint64_t answer;
+
+    memset(wav, 0xff, w);
+    memcpy(mark, wav, w);
+    expect("no memory", perch_wav_begin(wav, w - 1, log, n - 1, memory, m - 1, 0), PERCH_REFUSED_MEMORY);
+    expect("less than a file", perch_wav_begin(wav, w - 1, log, n - 1, memory, m, 0), PERCH_REFUSED_STATE);
+    answer = perch_wav_begin(wav, w, log, n - 1, memory, m, 0);
+    expect("no line feed", PERCH_NUMBER(answer), PERCH_REFUSED_FEED);
+    expect("its place", PERCH_PLACE(answer), n - 1);
+    expect("a rate too low", perch_wav_begin(wav, w, log, n, memory, m, 7999), PERCH_REFUSED_RATE);
+    expect("a rate too high", perch_wav_begin(wav, w, log, n, memory, m, 192001), PERCH_REFUSED_RATE);
+    expect("no file under way", perch_wav_on(wav, w, log, n, memory, m, out, sizeof out), PERCH_REFUSED_STATE);
+    expect("the bytes stay", (uint64_t)memcmp(wav, mark, w), 0);
+
+    answer = perch_wav_begin(wav, w, log, n, memory, m, 192000);
+    expect("a beginning", PERCH_NUMBER(answer), PERCH_DONE);
+    expect("the file's size", PERCH_LOG_VALUE(answer), 44 + 2 * 2);
+    expect("no room for the head", perch_wav_on(wav, w, log, n, memory, m, out, 43), 0);
+    expect("the head", PERCH_WRITTEN(perch_wav_on(wav, w, log, n, memory, m, out, sizeof out)), 44);
+    expect("of a RIFF file", (uint64_t)memcmp(out, "RIFF\x28\0\0\0WAVEfmt ", 16), 0);
+    memcpy(mark, wav, w);
+    answer = perch_wav_on(wav, w, log, n, memory, m, out, 3);
+    expect("one sample", PERCH_WRITTEN(answer), 2);
+    expect("four clocks of 8074 and five of 16620", out[0] | out[1] << 8, 12821);
+    expect("it isn't over", PERCH_OVER(answer), 0);
+    answer = perch_wav_on(wav, w, log, n, memory, m, out, sizeof out);
+    expect("the other", PERCH_WRITTEN(answer), 2);
+    expect("nine of 16620", out[0] | out[1] << 8, 16620);
+    expect("and over", PERCH_OVER(perch_wav_on(wav, w, log, n, memory, m, out, 2)), 1);
+    answer = perch_wav_on(mark, w, log, n, memory, m, out, sizeof out);
+    expect("from the bookmark", PERCH_WRITTEN(answer), 4);
 }
 
 static void chips(void)
@@ -332,6 +374,7 @@ int main(void)
     salvages();
     cursors();
     players();
+    wavs();
     chips();
     streams();
     channels();

@@ -49,17 +49,17 @@ says() {
 verbs() {
   cd "$examples"
   for log in first tune sweep drum sample scale; do as 0 $log.log player; done
-  for verb in check fold salvage meter "meter waits" "why 5" "at 5" "vcd 0 5"; do as 0 sweep.log perch $verb; done
+  for verb in check fold salvage meter "meter waits" "why 5" "at 5" "vcd 0 5" wav "wav 8000"; do as 0 sweep.log perch $verb; done
   as 0 damaged.log perch salvage
   as 0 scale.vgm perch import
   as 0 /dev/null perch sheet 64 c000 20
   for log in slip damaged; do
     as 1 $log.log player
-    for verb in check fold meter "meter waits" "why 5" "at 5" "vcd 0 5"; do as 1 $log.log perch $verb; done
+    for verb in check fold meter "meter waits" "why 5" "at 5" "vcd 0 5" wav "wav 8000"; do as 1 $log.log perch $verb; done
   done
   as 1 scale.log perch import
   as 1 /dev/null perch sheet 128 c000 20
-  for words in nothing "nothing first.log" "check a b" why "why 05" "why first.log" at "at 05" "vcd 5" "vcd 0 0" "vcd 0 first.log" "sheet 64 C000 20" "sheet 64 c000 20 1"; do
+  for words in nothing "nothing first.log" "check a b" why "why 05" "why first.log" at "at 05" "vcd 5" "vcd 0 0" "vcd 0 first.log" "wav 08000" "wav 8000 1" "sheet 64 C000 20" "sheet 64 c000 20 1"; do
     as 2 first.log perch $words
   done
   as 3 . player
@@ -77,6 +77,10 @@ by_name() {
   (cd "$examples"; "$PERCH_LIBEXEC/perch" why 600000 <sweep.log) >text
   perch why 600000 "$examples/sweep.log" -s "$examples/sample.bin" | cmp - text
   perch why -s "$examples/sample.bin" 600000 <"$examples/sweep.log" | cmp - text
+  (cd "$examples"; "$PERCH_LIBEXEC/perch" wav 8000 <sweep.log) >text
+  ends 0 perch wav 8000 "$examples/sweep.log" -s "$examples/sample.bin" | cmp - text
+  (cd "$examples"; "$PERCH_LIBEXEC/perch" wav <sweep.log) >text
+  ends 0 perch wav -s "$examples/sample.bin" "$examples/sweep.log" | cmp - text
   (cd "$examples"; ends 0 perch meter waits drum.log) | cmp - "$here/../verbs/meter-waits-drum"
   head -c 32767 "$examples/sample.bin" >short.bin
   ends 1 player -s short.bin "$examples/first.log" | cmp - <(printf 'play=1\nrefused=1:0\n')

@@ -144,19 +144,18 @@ fn worst(memory: &[u8], states: u64, clocks: u64) -> Result<Scene, Refusal> {
     Ok(found.expect("one state at least").1)
 }
 
-/// Plays a log to its end, to a buffer: the least time over some tries, the bytes of its text, and its clocks.
-fn heard(log: &[u8], memory: &[u8]) -> Result<(f64, u64, u64), Box<dyn std::error::Error>> {
-    let clocks = perch::check(log)?.clocks;
-    let mut text = vec![0; 1 << 16];
-    let mut player = vec![0; raw::player_size()];
+/// Begins something that is written in pieces and writes it to its end, to a buffer of 64 KiB: the least time over some tries, and the
+/// bytes written.
+fn pieces<T>(begin: impl Fn() -> T, on: impl Fn(&mut T, &mut [u8]) -> u64) -> (f64, u64) {
+    let mut out = vec![0; 1 << 16];
     let (mut best, mut bytes) = (f64::INFINITY, 0);
     let first = now();
     for _ in 0..10 {
         let begun = now();
-        raw::begin(&mut player, log, memory);
+        let mut under_way = begin();
         bytes = 0;
         loop {
-            let answer = raw::play_on(&mut player, log, memory, &mut text);
+            let answer = on(&mut under_way, &mut out);
             bytes += answer >> 32;
             if answer as u16 != 0 {
                 break;
@@ -167,7 +166,43 @@ fn heard(log: &[u8], memory: &[u8]) -> Result<(f64, u64, u64), Box<dyn std::erro
             break;
         }
     }
-    Ok((best, bytes, clocks))
+    (best, bytes)
+}
+
+/// Plays a log to its end: the least time over some tries, the bytes of its text, and its clocks.
+fn heard(log: &[u8], memory: &[u8]) -> Result<(f64, u64, u64), Box<dyn std::error::Error>> {
+    let clocks = perch::check(log)?.clocks;
+    let begin = || {
+        let mut player = vec![0; raw::player_size()];
+        raw::begin(&mut player, log, memory);
+        player
+    };
+    let (seconds, bytes) = pieces(begin, |player, text| raw::play_on(player, log, memory, text));
+    Ok((seconds, bytes, clocks))
+}
+
+/// Writes the WAV file of a log at a rate and prints its row, beside the time of its run.
+fn wav(name: &str, log: &[u8], memory: &[u8], rate: u32, run: f64) {
+    let begin = || {
+        let mut file = vec![0; raw::wav_size()];
+        let answer = raw::wav_begin(&mut file, log, memory, rate);
+        (file, answer >> 32)
+    };
+    let (seconds, bytes) = pieces(begin, |(file, _), out| raw::wav_on(file, log, memory, out));
+    assert_eq!(begin().1, bytes, "{name}: the file isn't as long as its beginning says");
+    let samples = (bytes - 44) / 2;
+    println!(
+        "\n| {:<34} | {:>11} | {:>10} | {:>8} | {:>9} | {:>14} |",
+        format!("a WAV file, {rate} samples a second"),
+        "samples",
+        "bytes",
+        "seconds",
+        "ns/sample",
+        "times its run"
+    );
+    println!("|{}|{}", "-".repeat(36), "-:|".repeat(5));
+    let each = seconds * 1e9 / samples as f64;
+    println!("| {name:<34} | {samples:>11} | {bytes:>10} | {seconds:>8.4} | {each:>9.1} | {:>14.2} |", seconds / run);
 }
 
 /// Brings a stream in whose log is 60,000 bytes long, and prints the row.
@@ -395,6 +430,7 @@ fn table(log: Option<String>, gme: Option<String>, quick: bool) -> Result<(), Bo
             println!("| {name:<34} | {clocks:>11} | {bytes:>10} | {seconds:>8.4} | {:>14} |", "");
         }
     }
+    wav(name, &tune, &memory, 44_100, leap);
     import(quick);
     fold(quick);
     salvage(quick);

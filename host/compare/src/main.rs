@@ -5,7 +5,7 @@ use compare::judge::{self, Tally, judge};
 use compare::random::Random;
 use compare::{
     accesses, cursors, draw, edges, every, folds, free, imports, interrupts, lines, logs, machines, meters, moments,
-    orders, outputs, players, reasons, salvages, sheets, stored, traces,
+    orders, outputs, players, reasons, salvages, sheets, stored, traces, under_way, waves, wavs,
 };
 use reading::{Chip, MEMORY};
 use std::process::ExitCode;
@@ -25,13 +25,16 @@ compare flags LOG SAMPLE                                write what perch interru
 compare at LOG SAMPLE CLOCK                             write what perch at writes for a log, by the reading
 compare vcd LOG SAMPLE FROM CLOCKS                      write what perch vcd writes for a log, by the reading
 compare carried VCD OTHER FEWEST                        hold each lane of another VCD to the lane of its name, so many at least
+compare wav LOG SAMPLE [RATE]                           write what perch wav writes for a log, by the reading
 compare edges N PERCH [--seed N]                        hold what a built perch interrupts writes for N logs drawn near edges to the reading
 compare lanes VCD LOG SAMPLE FROM CLOCKS                hold each lane of a VCD at each clock and each access to the reading
 compare moments N PERCH [--seed N]                      hold what a built perch at writes for N drawn logs and clocks to the reading
 compare traces N PERCH [--seed N]                       hold what a built perch vcd writes for N drawn windows to the reading
+compare waves N PERCH [--seed N]                        hold what a built perch wav writes for N drawn logs and rates to the reading
 compare judged FOLDER                                   write what test_logs prints about the logs of a folder
 compare played FOLDER                                   write what test_plays prints about them, with sample.bin
---each N: so many accesses, orders, reasons, outputs, meters, sheets and texts, half as many whole logs, cursors, players and imports
+--each N: so many accesses, orders, reasons, outputs, meters, sheets and texts, half as many whole logs, cursors, players,
+         WAV files, WAV files under way and imports
 --archive: an error where the library's archive isn't linked; --brief: no more parts after one that differs";
 
 /// What the command line asks for.
@@ -182,6 +185,8 @@ fn compare(asked: &Asked) -> bool {
     part("texts", &mut || free::texts(seed, asked.each));
     part("cursors", &mut || cursors::compare(seed, asked.each / 2));
     part("players", &mut || players::compare(seed, asked.each / 2, &memory));
+    part("wavs", &mut || wavs::compare(seed, asked.each / 2, &memory));
+    part("under way", &mut || under_way::compare(seed, asked.each / 2, &memory));
     part("folds", &mut || folds::compare(seed, asked.logs, &memory));
     part("salvages", &mut || salvages::compare(seed, asked.logs));
     part("imports", &mut || imports::compare(seed, asked.each / 2));
@@ -267,12 +272,15 @@ fn main() -> ExitCode {
         ["flags", log, sample] => stored::flags(log, sample).map(|text| print!("{text}")),
         ["at", log, sample, clock] => stored::at(log, sample, clock).map(|text| print!("{text}")),
         ["vcd", log, sample, from, clocks] => stored::vcd(log, sample, from, clocks).map(|text| print!("{text}")),
+        ["wav", log, sample] => stored::wav(log, sample, "44100"),
+        ["wav", log, sample, rate] => stored::wav(log, sample, rate),
         ["lanes", vcd, log, sample, from, clocks] => {
             stored::lanes(vcd, log, sample, from, clocks).map(|told| print!("{told}"))
         }
         ["carried", vcd, other, fewest] => stored::carried(vcd, other, fewest).map(|told| print!("{told}")),
         ["edges", count, program] => run_program(&asked, edges::compare, count, program),
         ["moments", count, program] => run_program(&asked, moments::compare, count, program),
+        ["waves", count, program] => run_program(&asked, waves::compare, count, program),
         ["traces", count, program] => run_program(&asked, traces::compare, count, program),
         ["judged", folder] => stored::judged(folder).map(|text| print!("{text}")),
         ["played", folder] => stored::played(folder).map(|text| print!("{text}")),

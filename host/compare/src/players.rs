@@ -83,42 +83,65 @@ fn line_start(random: &mut Random, log: &[u8]) -> u64 {
     feed.map_or(0, |feed| (from + feed + 1) as u64)
 }
 
-/// Damages one thing in a player's bytes or in its log; tells what.
-fn damaged(random: &mut Random, bytes: &mut [u8], log: &mut Vec<u8>) -> &'static str {
-    let cursor = layout::CURSOR.of_mut(bytes);
-    match random.within(0..=41) {
-        0 => return "nothing",
-        1..=8 => {
+/// Damages one thing in a cursor's bytes; tells what.
+pub(crate) fn damage_cursor(random: &mut Random, cursor: &mut [u8], log: &[u8]) -> &'static str {
+    match random.within(0..=25) {
+        0..=7 => {
             let at = place(random, log);
             cursor::PLACE.put(cursor, at);
             let before = usize::try_from(at).ok().and_then(|at| at.checked_sub(1)).and_then(|at| log.get(at));
-            return if before.is_some_and(|&byte| byte != b'\n') { "a place in mid-line" } else { "the place" };
+            if before.is_some_and(|&byte| byte != b'\n') { "a place in mid-line" } else { "the place" }
         }
-        9..=15 => {
+        8..=14 => {
             let eight = MOST_DEPTH as u64;
             let (few, any) = (random.within(0..=eight), random.bits());
             let high = random.pick(&[eight + 1, 255, 256, 1 << 32, (1 << 32) + 1, u64::MAX, any]);
             let open = random.pick(&[few, few, few, few, few, eight, eight, high]);
             cursor::OPEN.put(cursor, open);
-            return if open > eight { "more than eight loops open" } else { "the loops open" };
+            if open > eight { "more than eight loops open" } else { "the loops open" }
         }
-        16..=21 => {
+        15..=20 => {
             for i in 0..MOST_DEPTH {
                 if random.one_in(2) {
                     cursor::STARTS.nth(i, 8).put(cursor, place(random, log));
                 }
             }
-            return "a loop's start";
+            "a loop's start"
         }
-        22..=26 => {
+        _ => {
             for i in 0..MOST_DEPTH {
                 if random.one_in(2) {
                     let (few, any) = (random.within(0..=3), random.byte());
                     cursor::LEFT.nth(i, 1).put(cursor, random.pick(&[few, few, 255, any.into()]));
                 }
             }
-            return "the turns left";
+            "the turns left"
         }
+    }
+}
+
+/// Another log than this one: drawn anew, this one damaged, or one of many loops or of too many bytes.
+pub(crate) fn another(random: &mut Random, log: &[u8]) -> Vec<u8> {
+    let mut log = log.to_vec();
+    match random.within(0..=9) {
+        0 => log = sounding(random),
+        1 => log = vec![b'x'; random.within(59_999..=60_002) as usize],
+        2 => {
+            let turns = random.pick(&[2, 3, 255]);
+            let loops = format!("loop={turns}\n").repeat(random.within(1..=9) as usize);
+            log = [&b"log=1\n"[..], loops.as_bytes()].concat();
+        }
+        4 => cut_short(random, &mut log),
+        _ => damage(random, &mut log),
+    }
+    log
+}
+
+/// Damages one thing in a player's bytes or in its log; tells what.
+fn damaged(random: &mut Random, bytes: &mut [u8], log: &mut Vec<u8>) -> &'static str {
+    match random.within(0..=41) {
+        0 => "nothing",
+        1..=26 => damage_cursor(random, layout::CURSOR.of_mut(bytes), log),
         27..=29 => {
             let any = random.bits();
             let wait = layout::WAIT.get(bytes).clamp(1, MOST_CLOCKS);
@@ -131,7 +154,7 @@ fn damaged(random: &mut Random, bytes: &mut [u8], log: &mut Vec<u8>) -> &'static
             let near = 2_000_000_000 + random.within(0..=2000) - 1000;
             let times = [any, any % 1_000_000_000, near, 2_000_000_000, 2_000_000_001, 0, u64::MAX];
             layout::TIME.put(bytes, random.pick(&times));
-            return "the time";
+            "the time"
         }
         30..=32 => {
             if random.one_in(20) {
@@ -140,44 +163,28 @@ fn damaged(random: &mut Random, bytes: &mut [u8], log: &mut Vec<u8>) -> &'static
             }
             let (few, any) = (random.within(0..=2000), random.bits());
             layout::WAIT.put(bytes, random.pick(&[0, 1, few, few, few, MOST_CLOCKS + 1, u64::MAX, any]));
-            return "the wait";
+            "the wait"
         }
         33..=35 => {
             let any = random.byte();
             layout::PHASE.put(bytes, random.pick(&[0, 1, 2, 3, 4, 255, any.into()]));
-            return "the phase";
+            "the phase"
         }
         36..=37 => {
             let any = random.bits();
             layout::LAST.put(bytes, random.pick(&[0, 32767, 65535, any]));
-            return "the last level";
+            "the last level"
         }
         38 => {
             let at = random.within(0..=layout::STATE.size as u64 - 1) as usize;
             layout::STATE.of_mut(bytes)[at] = random.byte();
-            return "the state";
-        }
-        _ => {}
-    }
-    *log = match random.within(0..=9) {
-        0 => sounding(random),
-        1 => vec![b'x'; random.within(59_999..=60_002) as usize],
-        2 => {
-            let turns = random.pick(&[2, 3, 255]);
-            [b"log=1\n".to_vec(), format!("loop={turns}\n").repeat(random.within(1..=9) as usize).into_bytes()].concat()
-        }
-        4 => {
-            let mut log = log.clone();
-            cut_short(random, &mut log);
-            log
+            "the state"
         }
         _ => {
-            let mut log = log.clone();
-            damage(random, &mut log);
-            log
+            *log = another(random, log);
+            "the log"
         }
-    };
-    "the log"
+    }
 }
 
 /// A log with more turns than any that passes, which say nothing.

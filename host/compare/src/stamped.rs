@@ -10,7 +10,7 @@ use reading::log::{self, Item};
 const MANY: [u64; 16] = [0, 1, 1, 2, 2, 3, 3, 5, 8, 30, 200, 499, 500, 500, 501, 700];
 
 /// Writes behind which every channel sounds: $4017 takes the triangle's counter along.
-const SOUND: [&str; 13] = [
+pub const SOUND: [&str; 13] = [
     "write=4015:1f",
     "write=4000:bf",
     "write=4002:1d",

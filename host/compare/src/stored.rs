@@ -4,7 +4,8 @@ use crate::lanes::{self, Held};
 use crate::vcd;
 use perch::raw;
 use reading::log::{self, Fault, Item, Line};
-use reading::{MEMORY, dwell, flags, fold, moment, number, play, salvage, trace};
+use reading::{MEMORY, dwell, flags, fold, moment, number, play, salvage, trace, wave};
+use std::io::Write;
 use std::path::{Path, PathBuf};
 
 /// The most steps that a cursor takes in a log that is refused.
@@ -111,6 +112,12 @@ pub fn at(log: &str, sample: &str, clock: &str) -> Result<String, String> {
 /// What `perch vcd` writes for a log, by the reading.
 pub fn vcd(log: &str, sample: &str, from: &str, clocks: &str) -> Result<String, String> {
     Ok(trace::text(&read(log)?, &read(sample)?, decimal(from)?, decimal(clocks)?))
+}
+
+/// Writes what `perch wav` writes for a log, by the reading.
+pub fn wav(log: &str, sample: &str, rate: &str) -> Result<(), String> {
+    let file = wave::file(&read(log)?, &read(sample)?, decimal(rate)?);
+    std::io::stdout().write_all(&file).map_err(|error| error.to_string())
 }
 
 /// Holds each lane of a VCD to the reading of a window of a log.

@@ -3,11 +3,12 @@
 /// How many bytes are kept of either end.
 const KEPT: usize = 1024;
 
-/// A text's first bytes and its last.
+/// A text's first bytes and its last, and how many it has.
 #[derive(Default)]
 pub struct Ends {
     head: Vec<u8>,
     tail: Vec<u8>,
+    length: u64,
 }
 
 impl Ends {
@@ -21,6 +22,7 @@ impl Ends {
 
     /// More bytes of the text.
     pub fn add(&mut self, bytes: &[u8]) {
+        self.length += bytes.len() as u64;
         let room = KEPT - self.head.len();
         self.head.extend(&bytes[..bytes.len().min(room)]);
         self.tail.extend(&bytes[bytes.len().saturating_sub(KEPT)..]);
@@ -30,6 +32,12 @@ impl Ends {
     /// Whether there was no byte.
     pub fn is_empty(&self) -> bool {
         self.head.is_empty()
+    }
+
+    /// The bytes that the head of a RIFF file says it has in all, and those that there were; none of anything else.
+    pub fn sound(&self) -> Option<(u64, u64)> {
+        let size: [u8; 4] = self.head.strip_prefix(b"RIFF")?.get(..4)?.try_into().ok()?;
+        Some((8 + u64::from(u32::from_le_bytes(size)), self.length))
     }
 
     /// The lines at the beginning; the last of them may be cut.
@@ -58,6 +66,13 @@ mod tests {
             assert_eq!(ends.first_lines().next(), Some(&b"level=0:8074"[..]));
             assert_eq!(ends.last_line(), Some(&b"level=899:8074"[..]));
         }
+    }
+
+    #[test]
+    fn sizes_of_sounds() {
+        assert_eq!(Ends::of(b"RIFF\x04\x01\0\0WAVE").sound(), Some((268, 12)));
+        assert_eq!(Ends::of(b"RIFF\x04\0\0").sound(), None);
+        assert_eq!(Ends::of(b"refused=1:0\n").sound(), None);
     }
 
     #[test]

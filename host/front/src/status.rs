@@ -39,12 +39,14 @@ pub enum Last {
     Stop,
     /// With any line.
     Any,
+    /// It is a RIFF file, which says its size.
+    Sound,
 }
 
 /// Whether the text begins with a line `refused=`, behind its first line or not, or ends with one.
 fn refused(text: &Ends) -> bool {
     let is = |line: &[u8]| line.starts_with(b"refused=");
-    text.first_lines().take(2).any(is) || text.last_line().is_some_and(is)
+    text.sound().is_none() && (text.first_lines().take(2).any(is) || text.last_line().is_some_and(is))
 }
 
 /// Whether a file was refused in words, as `perch import` does with one that is no VGM file.
@@ -68,7 +70,11 @@ pub fn is_stop(line: &[u8]) -> bool {
 }
 
 fn is_whole(text: &Ends, last: Last) -> bool {
-    text.last_line().is_some_and(|line| last == Last::Any || is_stop(line))
+    match last {
+        Last::Stop => text.last_line().is_some_and(is_stop),
+        Last::Any => text.last_line().is_some(),
+        Last::Sound => text.sound().is_some_and(|(says, has)| says == has),
+    }
 }
 
 /// The status of a program that ended so.
@@ -118,6 +124,21 @@ mod tests {
         assert_eq!(stop("", "refused=5:0\nlog longer than 60,000 bytes\n"), Status::Refused);
         assert_eq!(stop("", "perch: no VGM file: it doesn't begin with `Vgm `\n"), Status::Refused);
         assert_eq!(stop("dwell=1\nlevel=3\nrefused=13\n", ""), Status::Refused);
+    }
+
+    #[test]
+    fn sounds() {
+        let sound = |out: &[u8], err: &str| {
+            let ends = [out, err.as_bytes()].map(Ends::of);
+            let [out, err] = ends;
+            status(&Ended { out, err, whole: true }, Last::Sound)
+        };
+        let file = [&b"RIFF\x0d\0\0\0WAVE\n"[..], b"refused="].concat();
+        assert_eq!(sound(&file, ""), Status::Done);
+        assert_eq!(sound(&file[..20], ""), Status::NotWhole);
+        assert_eq!(sound(b"refused=16:67\n", "value outside its range\n"), Status::Refused);
+        assert_eq!(sound(&file, "perch: standard output can't be written\n"), Status::NotWhole);
+        assert_eq!(sound(b"", "perch: wav [RATE]\n"), Status::Words);
     }
 
     #[test]

@@ -3,11 +3,12 @@
 
 use crate::status::Last;
 use std::ffi::OsString;
+use std::os::unix::ffi::OsStrExt;
 
 struct Verb {
     /// One word or more.
     name: &'static [&'static str],
-    /// How many words it has behind its name.
+    /// How many words it has behind its name; those of `wav` are one more where a number stands first.
     words: usize,
     /// Whether it reads a log, or a VGM file.
     log: bool,
@@ -20,7 +21,7 @@ const fn verb(name: &'static [&'static str], words: usize, log: bool, last: Last
 }
 
 /// Of two that begin alike the longer stands first.
-const VERBS: [Verb; 12] = [
+const VERBS: [Verb; 13] = [
     verb(&["check"], 0, true, Last::Any),
     verb(&["fold"], 0, true, Last::Stop),
     verb(&["import"], 0, true, Last::Stop),
@@ -28,6 +29,7 @@ const VERBS: [Verb; 12] = [
     verb(&["why"], 1, true, Last::Any),
     verb(&["at"], 1, true, Last::Any),
     verb(&["vcd"], 2, true, Last::Any),
+    verb(&["wav"], 0, true, Last::Sound),
     verb(&["meter", "waits"], 0, true, Last::Any),
     verb(&["meter"], 0, true, Last::Any),
     verb(&["interrupts"], 0, true, Last::Stop),
@@ -39,10 +41,17 @@ fn known(words: &[OsString]) -> Option<&'static Verb> {
     VERBS.iter().find(|v| words.len() >= v.name.len() && v.name.iter().zip(words).all(|(a, b)| b == a))
 }
 
+/// Whether a rate stands behind `wav`: a word of digits alone.
+fn has_rate(words: &[OsString]) -> bool {
+    let is = |word: &OsString| !word.is_empty() && word.as_bytes().iter().all(u8::is_ascii_digit);
+    words.first().is_some_and(|word| word == "wav") && words.get(1).is_some_and(is)
+}
+
 /// How many of the words are the program's: all, or all but a log behind them.
 pub fn own(words: &[OsString]) -> usize {
+    let due = |v: &Verb| v.name.len() + v.words + usize::from(has_rate(words));
     match known(words) {
-        Some(v) if v.log && words.len() == v.name.len() + v.words + 1 => words.len() - 1,
+        Some(v) if v.log && words.len() == due(v) + 1 => words.len() - 1,
         _ => words.len(),
     }
 }
@@ -70,6 +79,11 @@ mod tests {
         assert_eq!(own_of("at 5 a.log"), 2);
         assert_eq!(own_of("vcd 5 a.log"), 3);
         assert_eq!(own_of("vcd 5 10 a.log"), 3);
+        assert_eq!(own_of("wav"), 1);
+        assert_eq!(own_of("wav 8000"), 2);
+        assert_eq!(own_of("wav a.log"), 1);
+        assert_eq!(own_of("wav 8000 a.log"), 2);
+        assert_eq!(own_of("wav 8000 a.log b.log"), 4);
         assert_eq!(own_of("meter a.log"), 1);
         assert_eq!(own_of("meter waits"), 2);
         assert_eq!(own_of("meter waits a.log"), 2);

@@ -48,6 +48,22 @@
 //! ```
 //!
 //! ```
+//! # let memory = [0; perch::MEMORY];
+//! let log = b"log=1\nwrite=4011:40\nwait=1000\nstop=1000\n";
+//! let (mut wav, size) = perch::Wav::begin(log, &memory, 44_100)?;
+//! let (mut file, mut out) = (Vec::new(), [0; 64]);
+//! loop {
+//!     let piece = wav.on(&mut out)?;
+//!     file.extend(&out[..piece.written]);
+//!     if piece.over {
+//!         break;
+//!     }
+//! }
+//! assert_eq!((&file[..4], file.len() as u64, size), (&b"RIFF"[..], 92, 92));
+//! # Ok::<(), perch::Fault>(())
+//! ```
+//!
+//! ```
 //! # use perch::{Found, Item};
 //! let log = b"log=1\nloop=3\nwait=10\nread=4015\ndone=loop\nstop=30\n";
 //! assert_eq!((perch::check(log)?.clocks, perch::turns(log)?, perch::items(log)?), (30, 9, 6));
@@ -135,6 +151,7 @@ mod meter;
 mod outputs;
 pub mod raw;
 mod sheet;
+mod wav;
 mod why;
 
 pub use access::{Access, Accessed};
@@ -146,6 +163,7 @@ pub use log::{
 pub use meter::{Meter, meter, meter_records};
 pub use outputs::Outputs;
 pub use sheet::sheet;
+pub use wav::{Piece, WAV, Wav};
 pub use why::{Channel, Why};
 
 use std::fmt;
@@ -157,7 +175,7 @@ pub const MEMORY: usize = 32_768;
 pub const STATE: usize = 91;
 
 /// The version of the header that this wraps; the library's is `version()`.
-pub const VERSION: u32 = 11;
+pub const VERSION: u32 = 12;
 
 /// The version of the library linked. One of another version has other sizes, layouts or functions: the first call of any other
 /// function here ends the program where it isn't `VERSION`.

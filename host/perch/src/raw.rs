@@ -13,7 +13,7 @@ use standin::{
     perch_interrupt_line, perch_item, perch_level, perch_level_fraction, perch_meter, perch_meter_records,
     perch_next_interrupt, perch_outputs, perch_play_on, perch_player_size, perch_power_on, perch_reason,
     perch_refusal_text, perch_run, perch_run_plain, perch_salvage, perch_sheet, perch_state_at, perch_state_size,
-    perch_status, perch_why,
+    perch_status, perch_wav_begin, perch_wav_on, perch_wav_size, perch_why,
 };
 #[cfg(feature = "standin")]
 use standin::{perch_cursor_next, perch_cursor_size, perch_cursor_start, perch_items, perch_turns, perch_version};
@@ -84,6 +84,19 @@ unsafe extern "C" {
         memory: *const u8,
         m: usize,
         clock: u64,
+    ) -> u64;
+    safe fn perch_wav_size() -> usize;
+    fn perch_wav_begin(wav: *mut u8, w: usize, log: *const u8, n: usize, memory: *const u8, m: usize, rate: u32)
+    -> u64;
+    fn perch_wav_on(
+        wav: *mut u8,
+        w: usize,
+        log: *const u8,
+        n: usize,
+        memory: *const u8,
+        m: usize,
+        out: *mut u8,
+        o: usize,
     ) -> u64;
     fn perch_refusal_text(number: u8, place: u64, text: *mut u8, t: usize) -> u64;
     fn perch_reason(number: u8, text: *mut u8, t: usize) -> u64;
@@ -259,6 +272,36 @@ pub fn state_at(state: &mut [u8], log: &[u8], memory: &[u8], clock: u64) -> u64 
     same_version();
     unsafe {
         perch_state_at(state.as_mut_ptr(), state.len(), log.as_ptr(), log.len(), memory.as_ptr(), memory.len(), clock)
+    }
+}
+
+/// How many bytes a WAV file under way is.
+pub fn wav_size() -> usize {
+    perch_wav_size()
+}
+
+/// Makes the bytes a WAV file at its beginning; the value is its size in bytes, or the place of a refusal.
+pub fn wav_begin(wav: &mut [u8], log: &[u8], memory: &[u8], rate: u32) -> u64 {
+    same_version();
+    unsafe {
+        perch_wav_begin(wav.as_mut_ptr(), wav.len(), log.as_ptr(), log.len(), memory.as_ptr(), memory.len(), rate)
+    }
+}
+
+/// Writes the next bytes of a WAV file.
+pub fn wav_on(wav: &mut [u8], log: &[u8], memory: &[u8], out: &mut [u8]) -> u64 {
+    same_version();
+    unsafe {
+        perch_wav_on(
+            wav.as_mut_ptr(),
+            wav.len(),
+            log.as_ptr(),
+            log.len(),
+            memory.as_ptr(),
+            memory.len(),
+            out.as_mut_ptr(),
+            out.len(),
+        )
     }
 }
 

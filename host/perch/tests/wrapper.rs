@@ -1,6 +1,6 @@
 //! What the wrapper makes of the library's answers.
 
-use perch::{Access, Chip, Cursor, Fault, Found, Item, MEMORY, Machine, Player, Refusal};
+use perch::{Access, Chip, Cursor, Fault, Found, Item, MEMORY, Machine, Piece, Player, Refusal, Wav};
 
 const LOG: &[u8] = b"log=1\nloop=3\nwait=10\nwrite=4011:40\ndone=loop\nread=4015\nstop=30\n";
 
@@ -97,6 +97,67 @@ fn players_end() {
     assert_eq!(other.fault(), Some(fault(14, 6)));
 }
 
+/// The pieces of a file joined, each in a buffer of so many bytes.
+fn joined(mut wav: Wav, size: usize) -> Vec<u8> {
+    let (mut file, mut out) = (Vec::new(), vec![0; size]);
+    loop {
+        let piece = wav.on(&mut out).unwrap();
+        file.extend(&out[..piece.written]);
+        if piece.over {
+            return file;
+        }
+    }
+}
+
+#[test]
+fn wavs_in_pieces() {
+    let memory = vec![0; MEMORY];
+    // At 8000 a second the samples end at clocks 223, 447, 671; the write at clock 223 is heard from the second on.
+    let log = b"log=1\nwait=223\nwrite=4011:40\nwait=447\nstop=670\n";
+    let (begun, size) = Wav::begin(log, &memory, 8000).unwrap();
+    let whole = joined(begun.clone(), 44);
+    assert_eq!((whole.len() as u64, size), (48, 48));
+    assert_eq!((&whole[..4], &whole[8..16], &whole[36..40]), (&b"RIFF"[..], &b"WAVEfmt "[..], &b"data"[..]));
+    let number = |at: usize| u32::from_le_bytes(std::array::from_fn(|place| whole[at + place]));
+    assert_eq!([4, 24, 28, 40].map(number), [40, 8000, 16000, 4]);
+    assert_eq!(whole[44..], [8074u16, 16620].map(u16::to_le_bytes).concat());
+    for size in [44, 45, 46, 48, 100] {
+        assert_eq!(joined(begun.clone(), size), whole);
+    }
+    // The head in one piece alone, samples in whole ones; the file that is stored goes on.
+    let mut wav = begun;
+    let nothing = Piece { written: 0, over: false };
+    let mut out = [b'?'; 60];
+    assert_eq!(wav.on(&mut out[..43]), Ok(nothing));
+    assert_eq!(wav.on(&mut out), Ok(Piece { written: 44, over: false }));
+    assert_eq!(wav.on(&mut out[..1]), Ok(nothing));
+    assert_eq!(wav.on(&mut out[..3]), Ok(Piece { written: 2, over: false }));
+    let stored = Wav::from_bytes(*wav.bytes(), log, &memory).unwrap();
+    assert_eq!(joined(stored, 4), whole[46..]);
+    assert_eq!(joined(wav, 2), whole[46..]);
+}
+
+#[test]
+fn wavs_refused() {
+    let memory = vec![0; MEMORY];
+    let refused = |log, memory, rate| Wav::begin(log, memory, rate).map(|_| ()).expect_err("it is refused");
+    assert_eq!(refused(LOG, &memory[1..], 0), fault(1, 0));
+    assert_eq!(refused(&LOG[..20], &memory, 0), fault(17, 20));
+    for rate in [0, 7_999, 192_001, u32::MAX] {
+        assert_eq!(refused(LOG, &memory, rate), fault(33, 0));
+    }
+    let (mut wav, size) = Wav::begin(LOG, &memory, 192_000).unwrap();
+    assert_eq!(size, 44 + 2 * 3);
+    wav.on(&mut [0; 44]).unwrap();
+    assert_eq!(Wav::from_bytes([0xff; perch::WAV], LOG, &memory).err(), Some(fault(2, 0)));
+    assert_eq!(Wav::from_bytes(*wav.bytes(), LOG, &memory[1..]).err(), Some(fault(1, 0)));
+    // A file that this log didn't lead to: refused by the line that it comes to, and it stays.
+    let mut other = Wav::from_bytes(*wav.bytes(), b"log=1\nnothing\n", &memory).unwrap();
+    let mut out = [b'?'; 60];
+    assert_eq!(other.on(&mut out), Err(fault(14, 6)));
+    assert_eq!((out, other.bytes()), ([b'?'; 60], wav.bytes()));
+}
+
 /// The words of `perch` for a refusal, out of the table that it is built from.
 fn words(table: &str, number: u8) -> Option<&str> {
     let line = table.split_once(&format!("(eqb n {number}) (bytes \""))?.1;
@@ -127,6 +188,7 @@ fn versions_and_sizes_agree() {
     assert_eq!(perch::raw::state_size(), perch::STATE);
     assert_eq!(perch::raw::player_size(), perch::PLAYER);
     assert_eq!(perch::raw::cursor_size(), perch::CURSOR);
+    assert_eq!(perch::raw::wav_size(), perch::WAV);
 }
 
 #[test]

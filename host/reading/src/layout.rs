@@ -1,10 +1,10 @@
-//! THE LAYOUT of the bytes that a caller keeps: a cursor's and a player's. It stands here and nowhere else in Rust; where the
-//! library's changes, change the order of these lines. Every number is low byte first.
+//! THE LAYOUT of the bytes that a caller keeps: a cursor's, a player's and those of a WAV file under way. It stands here and nowhere
+//! else in Rust; where the library's changes, change the order of these lines. Every number is low byte first.
 //!
-//! It is the library's choice and no rule of document 01; crates/c_player/specs/Player.antt defines it.
+//! It is the library's choice and no rule of document 01; crates/c_player/specs/Player.antt and crates/c_wav/specs/Wavs.antt define it.
 
 /// The header's version: every change of a size, a layout or a function raises it.
-pub const VERSION: u32 = 11;
+pub const VERSION: u32 = 12;
 
 /// Where a part lies in the bytes.
 #[derive(Clone, Copy, Debug)]
@@ -90,6 +90,33 @@ pub mod player {
     /// The cursor.
     pub const CURSOR: Part = LAST.then(cursor::SIZE);
     /// The chip's state, last, so that a state of another size moves nothing else.
+    pub const STATE: Part = CURSOR.then(bytes::SIZE);
+    /// How many they are.
+    pub const SIZE: usize = STATE.end();
+}
+
+/// The bytes of a WAV file under way.
+pub mod wav {
+    use super::{Part, cursor};
+    use crate::bytes;
+
+    /// 1 where its head is written, else 0.
+    pub const BEGUN: Part = Part::first(1);
+    /// Samples a second.
+    pub const RATE: Part = BEGUN.then(4);
+    /// The samples in all.
+    pub const COUNT: Part = RATE.then(4);
+    /// Clocks left of a wait under way.
+    pub const LEFT: Part = COUNT.then(4);
+    /// The number of the sample under way.
+    pub const SAMPLE: Part = LEFT.then(8);
+    /// Its levels so far, added up.
+    pub const SUM: Part = SAMPLE.then(8);
+    /// The clocks done.
+    pub const TIME: Part = SUM.then(8);
+    /// The cursor.
+    pub const CURSOR: Part = TIME.then(cursor::SIZE);
+    /// The chip's state, last, as in a player.
     pub const STATE: Part = CURSOR.then(bytes::SIZE);
     /// How many they are.
     pub const SIZE: usize = STATE.end();

@@ -1,6 +1,6 @@
 //! Document 01, with the change requests that have landed, read in plain Rust, clock by clock, from the papers and from
-//! nothing else; but the bytes of a cursor and of a player, which the papers leave free, are the library's (`layout`), and so is
-//! what becomes of those that no log led to (`cursor`, `player`).
+//! nothing else; but the bytes of a cursor, of a player and of a WAV file under way, which the papers leave free, are the library's
+//! (`layout`), and so is what becomes of those that no log led to (`cursor`, `player`, `wav`).
 //!
 //! The library that this is compared with leaps; this reading never does. It is written to be held against the paper
 //! line by line, so each rule stands in it once and in the paper's words.
@@ -28,6 +28,8 @@ pub mod salvage;
 pub mod sheet;
 pub mod trace;
 pub mod vgm;
+pub mod wav;
+pub mod wave;
 pub mod why;
 pub mod words;
 
@@ -107,4 +109,6 @@ pub mod number {
     pub const LIST: u8 = 31;
     /// A buffer shorter than the log to be folded.
     pub const FOLD_ROOM: u8 = 32;
+    /// A rate outside 8,000..192,000 samples a second.
+    pub const RATE: u8 = 33;
 }

@@ -87,7 +87,7 @@ pub enum Said {
 }
 
 /// The latest time to which a wait may lead.
-const LATEST: u64 = 2_000_000_000;
+pub(crate) const LATEST: u64 = 2_000_000_000;
 
 impl Player {
     fn first(machine: Machine) -> Self {

@@ -34,6 +34,7 @@ pub fn words(number: u8) -> &'static str {
         30 => "the repaired log is longer than the buffer or 60,000 bytes",
         31 => "the list has no room",
         32 => "buffer shorter than the log",
+        33 => "rate outside 8000..192000",
         _ => "refused",
     }
 }

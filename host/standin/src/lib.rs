@@ -10,7 +10,7 @@
 
 use reading::{
     access, boundary, cursor as cursors, fold, interrupt, layout, meter, mixer, moment, outputs, player as pieces,
-    salvage, sheet, vgm, why, words,
+    salvage, sheet, vgm, wav as wavs, why, words,
 };
 use std::slice::{from_raw_parts, from_raw_parts_mut};
 
@@ -152,6 +152,41 @@ pub unsafe extern "C" fn perch_state_at(
     clock: u64,
 ) -> u64 {
     unsafe { moment::state_at(from_raw_parts_mut(state, n), from_raw_parts(log, ln), from_raw_parts(memory, m), clock) }
+}
+
+#[cfg_attr(feature = "export", unsafe(no_mangle))]
+pub extern "C" fn perch_wav_size() -> usize {
+    wavs::SIZE
+}
+
+#[cfg_attr(feature = "export", unsafe(no_mangle))]
+pub unsafe extern "C" fn perch_wav_begin(
+    wav: *mut u8,
+    w: usize,
+    log: *const u8,
+    n: usize,
+    memory: *const u8,
+    m: usize,
+    rate: u32,
+) -> u64 {
+    unsafe { wavs::begin(from_raw_parts_mut(wav, w), from_raw_parts(log, n), from_raw_parts(memory, m), rate) }
+}
+
+#[cfg_attr(feature = "export", unsafe(no_mangle))]
+pub unsafe extern "C" fn perch_wav_on(
+    wav: *mut u8,
+    w: usize,
+    log: *const u8,
+    n: usize,
+    memory: *const u8,
+    m: usize,
+    out: *mut u8,
+    o: usize,
+) -> u64 {
+    unsafe {
+        let (wav, out) = (from_raw_parts_mut(wav, w), from_raw_parts_mut(out, o));
+        wavs::wav_on(wav, from_raw_parts(log, n), from_raw_parts(memory, m), out)
+    }
 }
 
 #[cfg_attr(feature = "export", unsafe(no_mangle))]
