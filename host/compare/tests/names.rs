@@ -1,4 +1,5 @@
-//! What the documents name is there: each `crate/specs/File` with the definitions named behind it, and each `crate::function`.
+//! What the documents name is there: each `crate/specs/File` with the definitions named behind it, each `crate::function`, each `crate/must-fail/edit`,
+//! and each page and heading that a link leads to. The notes of the changes have one form.
 
 use std::collections::BTreeMap;
 use std::fs;
@@ -8,6 +9,7 @@ fn top() -> PathBuf {
     Path::new(env!("CARGO_MANIFEST_DIR")).join("../..")
 }
 
+/// The pages about the crates: README, those of docs and its notes.
 fn documents() -> Vec<PathBuf> {
     let mut all = vec![top().join("README.md")];
     for folder in ["docs", "docs/changes"] {
@@ -102,6 +104,12 @@ fn documents_name_what_exists() {
                     }
                     continue;
                 }
+                if let [name, "must-fail", edit] = part.split('/').collect::<Vec<_>>()[..] {
+                    if !top().join(format!("crates/{name}/must-fail/{edit}.edit")).is_file() {
+                        wrong.push(complaint("is no edit"));
+                    }
+                    continue;
+                }
                 if let Some((name, function)) = part.split_once("::") {
                     let folder = top().join("crates").join(renamed(name)).join("src");
                     let function = function.rsplit("::").next().unwrap_or_default();
@@ -132,4 +140,48 @@ fn documents_name_what_exists() {
         }
     }
     assert!(wrong.is_empty(), "{} names that are not there\n{}", wrong.len(), wrong.join("\n"));
+}
+
+/// A heading as a link names it: letters, digits, hyphens and underscores, small, with hyphens for spaces.
+fn anchor(heading: &str) -> String {
+    let kept = heading.trim().to_lowercase();
+    kept.chars().filter(|&c| c.is_alphanumeric() || " -_".contains(c)).collect::<String>().replace(' ', "-")
+}
+
+/// The headings of a page.
+fn headings(text: &str) -> Vec<&str> {
+    text.lines()
+        .filter_map(|line| line.trim_start_matches('#').strip_prefix(' ').filter(|_| line.starts_with('#')))
+        .collect()
+}
+
+#[test]
+fn links_lead_somewhere() {
+    let mut wrong = Vec::new();
+    let others = ["examples", "host", "host/compare"].map(|folder| top().join(folder).join("README.md"));
+    for document in documents().into_iter().chain(others) {
+        let text = fs::read_to_string(&document).unwrap();
+        for link in text.split("](").skip(1).filter_map(|rest| rest.split(')').next()) {
+            let (page, heading) = link.split_once('#').unwrap_or((link, ""));
+            let target = if page.is_empty() { document.clone() } else { document.parent().unwrap().join(page) };
+            let there = match fs::read_to_string(&target) {
+                Ok(text) => heading.is_empty() || headings(&text).iter().any(|each| anchor(each) == heading),
+                Err(_) => heading.is_empty() && target.exists(),
+            };
+            if !there && !link.contains("://") {
+                wrong.push(format!("{}: {link}", document.strip_prefix(top()).unwrap().display()));
+            }
+        }
+    }
+    assert!(wrong.is_empty(), "{} links that lead nowhere\n{}", wrong.len(), wrong.join("\n"));
+}
+
+#[test]
+fn notes_have_one_form() {
+    const PARTS: [&str; 5] = ["## What moved", "## What stayed", "## Promises", "## Times", "## Tested"];
+    for note in documents().iter().filter(|path| path.parent().unwrap().ends_with("changes")) {
+        let text = fs::read_to_string(note).unwrap();
+        let parts: Vec<&str> = text.lines().filter(|line| line.starts_with("## ")).collect();
+        assert_eq!(parts, PARTS, "{}", note.display());
+    }
 }
