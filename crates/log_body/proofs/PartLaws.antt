@@ -1,4 +1,9 @@
 -- A loop's body is the part of the log between its line and its `done`. Assumes nothing.
+--
+-- Main definitions: `Here`, a loop line begins at the offset and the log passes; `Body`, the lines behind it up to its `done`, as they are read; `Between`,
+-- the log is what stands before, the loop line, the body, its `done` and a rest.
+-- Main statements: `here`, the check of a body answers 0 only at such a loop line; `body-part`, what the code finds there is the body; `body-none`,
+-- refused, the body is empty; `body-between`, the body stands in the log between its loop line and its `done`, and is the text of a tree.
 use mathlib.Core.Path.{_≡_, refl, ap, sym, _∙_}
 use mathlib.Core.List.{List, [], _∷_, _++_}
 use mathlib.Core.Bool.{Bool, true, false}

@@ -1,4 +1,11 @@
 -- What each answer says of the line. Assumes nothing.
+--
+-- Main definitions: `Came`, the six ways in which an answer about a line comes about; `Starts`, what refuses a whole line at its start; `RightLine`,
+-- `Four`, `Seven`, `Eight`, what the answers right, 4, 7 and 8 say of the line.
+-- Main statements: `came`, an answer comes about in one of the six ways; `right-line` and `line-right`, a line is right exactly where it is the text of a
+-- line that is allowed there and within document 01's limits; `first-fault`, 14 and 15 are at the first byte with which no allowed right line begins;
+-- `feed-fault`, 17 is answered exactly where such a line was begun and its line feed is missing; `four-line`, `seven-line`, `eight-line`, and back
+-- `line-four`, `line-seven`, `line-done`, `line-stop`. 16 is in RangeLaws.
 use mathlib.Core.Path.{_≡_, refl, ap, sym, _∙_, subst}
 use mathlib.Core.List.{List, []}
 use mathlib.Core.Bool.{Bool, true, false, not, false≢true}

@@ -1,5 +1,9 @@
 -- The beginnings of a decimal from lo to hi with its line feed, for any lo and hi such that a number below lo can go on by zeros into the range.
 -- Assumes nothing.
+--
+-- Main definitions: `Wide`, what is asked of lo and hi; `Ends`, bytes that go on behind digits to a number in range and its line feed; `Numbered`, bytes at
+-- the front of a decimal from lo to hi and its line feed.
+-- Main statements: `number-sound` and `number-complete`: `beginsNumber lo hi` is true of bytes exactly where they are such a front.
 use mathlib.Core.Path.{_≡_, refl, ap, _∙_}
 use mathlib.Core.List.{List, [], _∷_, _++_}
 use mathlib.Core.Bool.{Bool, true, false, not, false≢true}

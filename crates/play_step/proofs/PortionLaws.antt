@@ -1,4 +1,9 @@
 -- A portion of a wait by a run: its number, and its words as lines. Assumes nothing.
+--
+-- Main definitions: `ranOf`, what the run of a portion comes to, refused or not.
+-- Main statements: `number-run`, `number-late`, `number-own`, a wait is refused by its run's own number, else by 9 where the clocks in all are too many;
+-- `room-fits`, the room lent to the run is of so many records that all fit as lines; `portion-size`, a portion's text fits; `portion-all`, the run's words
+-- as lines are the portion's text, and the step's answer is the portion's.
 use Prim.Native.Nat.{ℕ, suc, _+_, _-_, _*_, _/_, _%_, _≤_, _<_}
 use mathlib.Core.Path.{_≡_, refl, sym, ap, ap₂, _∙_}
 use mathlib.Core.Bool.{Bool, true, false}

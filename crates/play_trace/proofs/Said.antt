@@ -1,4 +1,9 @@
 -- THE STEPS FROM A LOG'S BEGINNING SAY ITS WINDOW, event by event, and then the end, at the window's. Assumes nothing.
+--
+-- Main definitions: `Told`, from a place on the steps say these events within so many steps, and then the end at its time; `window`, the window of a log
+-- that passes, as specs/Window defines it.
+-- Main statements: `window-told`, from a log's beginning the steps say the window's events and then its end, in at most 2,000,003 steps and one for each
+-- clock; `window-said`, the same in 2,002,000,003 steps at most, whatever the log.
 use Prim.Native.Nat.{ℕ, zero, suc, _+_, _-_, _≤_, _<_, min}
 use mathlib.Core.Path.{_≡_, refl, sym, ap, subst, _∙_}
 use mathlib.Core.Bool.{Bool, true, false}

@@ -1,4 +1,10 @@
 -- Laws of a clockwork with counts beside it. Assumes nothing.
+--
+-- Main definitions: `tallied`, the counts after k clocks by the places one after the other; `Free`, no clock up to k is one that a count stops; `Full`, the
+-- next clock is one; `Most`, no count is over the limit; `viewed`, a reading without its counts; `besides`, a reading with those that its clocks bring.
+-- Main statements: `sum-tallied`, the sum grows by the clocks; `tallied-dwelt`, each count by its own clocks; `tallied-stay`, g clocks at one place are one
+-- sum; `plain-free`, as long as no count stops a clock a reading with counts is the one without, and the counts are those of the clocks done; `plain-full`,
+-- where the next clock is one that a count stops it ends there; `plain-within`, no count handed back is over the limit.
 use Prim.Native.Nat.{ℕ, zero, suc, _+_, _-_, _≤_, _<_, zero-le}
 use mathlib.Core.Path.{_≡_, refl, sym, ap, ap₂, _∙_}
 use mathlib.Core.Bool.{Bool, true, false}

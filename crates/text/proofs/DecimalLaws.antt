@@ -1,4 +1,8 @@
 -- Decimals: what is written is read back, and what is read was written. Assumes nothing.
+--
+-- Main definitions: none; decimals are defined in specs/Decimal (`decimal`, `decimalText`).
+-- Main statements: `decimal-complete`, every number below 10 ^ 10 is read back from its text; `decimal-sound`, what is read as n is n's text; `cap-digits`,
+-- a number cut off at 2 ^ 32 on the way is the one cut off at the end.
 use mathlib.Core.Path.{_≡_, refl, ap, ap₂, sym, _∙_}
 use mathlib.Core.List.{List, [], _∷_, _++_, append-assoc, append-nil}
 use mathlib.Core.Bool.{Bool, true, false, not}
