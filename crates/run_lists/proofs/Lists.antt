@@ -1,4 +1,10 @@
 -- Demand 3: any list of runs is the plain reading of the clocks asked for in all. Assumes nothing.
+--
+-- Main definitions: `Refused` and `Done`, the two ways in which one run of a list ends. The statements themselves are in specs/Lists.
+-- Main statements: `list-plain`, every list of runs, refused ones included, ends as the plain reading of the clocks asked for in all; `list-tables`, it
+-- hands back a table that 13 refuses exactly where it refuses the first; `lists-alike`, two lists alike end alike; `split`, a run of a clocks and one of b
+-- give what a run of a + b gives. The way there: `either`, a run is refused or reads plainly; `read-on`, two readings one behind the other are one;
+-- `listed`, by induction over the list.
 use Prim.Native.Nat.{ℕ, _+_, _*_, _≤_}
 use mathlib.Core.Path.{_≡_, refl, sym, ap, ap₂, _∙_}
 use mathlib.Core.Logic.{_≢_, _⊎_, inl, inr, ⊎-elim}

@@ -1,4 +1,10 @@
 -- What a stretch's loops hold, and how an event keeps it. Assumes nothing.
+--
+-- Main definitions: `Untouched`, a stretch in which no event has come yet. What the loops hold is defined in specs/Stretch (`Standing`, `Worked`,
+-- `Stretched`), what a quiet stretch owes in specs/Leap (`Passed`).
+-- Main statements: `worked-start`, the loops' facts hold where a stretch begins; `worked-event`, they still hold behind the next event, with its record
+-- where the level is another; `voices-worked`, the same for an event of squares and triangle alone; `worked-on`, two parts one after the other are one;
+-- `worked-stop`, a stop before the next event makes a stretch; `untouched-passed`, from a quiet state the stretch goes to its end by the law of the leap.
 use Prim.Native.Nat.{ℕ, _+_, _-_, _/_, _≤_, _<_, min}
 use mathlib.Core.Path.{_≡_, refl, sym, ap, _∙_}
 use mathlib.Core.Bool.{Bool, true, false}

@@ -1,4 +1,9 @@
 -- The DMC goes by itself, and what a walk along its changes holds. Assumes nothing.
+--
+-- Main definitions: none; a walk is defined in specs/Walk (`Walking`, `Walked`, `Open`).
+-- Main statements: `dmc-alone`, the chip's DMC after k clocks is the DMC clocked k times by itself; `walk-start`, `walk-on`, `walk-full`, `walk-end`, what
+-- a walk holds at its beginning, at the next change, where a count is full, and at its end; `open-all`, where no count can reach the limit every clock is
+-- open; `opened`, a run without counts of the open clocks and a walk of those that it did give what the run with counts answers.
 use Prim.Native.Nat.{ℕ, zero, suc, _+_, _-_, _*_, _≤_, _<_, min}
 use mathlib.Core.Path.{_≡_, refl, sym, ap, _∙_}
 use mathlib.Core.Bool.{Bool, true, false, not}
