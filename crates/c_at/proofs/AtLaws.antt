@@ -13,11 +13,11 @@ use Rattle.arith.specs.Pick.{pick}
 use Rattle.arith.proofs.PickLaws.{pick-both, pick-each}
 use Rattle.log_line.specs.declared.Act.{Act}
 use Rattle.log_line.specs.declared.Act.the-variants.{Wait, Access}
-use Rattle.log_rules.specs.Head.{machineOf}
+use Rattle.recording.specs.Whole.{machineOf}
 use Rattle.log_rules.specs.Tree.{acts, clocks}
-use Rattle.log_rules.specs.Whole.{treeOf, checkOf}
-use Rattle.log_rules.proofs.Limits.{check-limits}
-use Rattle.log_passing.proofs.Passing.{clear}
+use Rattle.recording.specs.Whole.{treeOf, checkOf}
+use Rattle.recording.proofs.Limits.{check-limits}
+use Rattle.recording.proofs.Passing.{clear}
 use Rattle.chip.specs.Clock.{chipClock}
 use Rattle.chip.specs.Range.{powerOn}
 use Rattle.chip.specs.declared.State.{State}
@@ -33,11 +33,11 @@ use Rattle.c_chip.proofs.StoreLaws.{written-by}
 use Rattle.c_at.specs.Packed.{atAnswer, atPacked, atBytes}
 
 pub record Limited (a : At) : Type 0 where
-  pub number : a .number ≤ 19
+  pub number : a .number ≤ 36
   pub clock : a .clock ≤ 2000000000
-  pub place : a .place ≤ 60000
+  pub place : a .place ≤ 524288
 
-refused-in : (number place : ℕ) → number ≤ 19 → place ≤ 60000 → Limited (refusedAt number place)
+refused-in : (number place : ℕ) → number ≤ 36 → place ≤ 524288 → Limited (refusedAt number place)
 refused-in number place n p = record { number = n; clock = omega arith; place = p }
 
 module _ (log memory : List ℕ) (c : ℕ) where

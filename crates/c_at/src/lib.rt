@@ -7,7 +7,7 @@ ghost use Rattle.c_at.specs.Packed.{atAnswer, atPacked, atBytes};
 
 // An answer in one number.
 fn pack_at(number: u8, place: usize, clock: u64) -> u64
-    requires { ⌜ (place ≤ 60000) × (clock ≤ 2000000000) ⌝ }
+    requires { ⌜ (place ≤ 524288) × (clock ≤ 2000000000) ⌝ }
     ensures { λ r. ⌜ r ≡ logPacked number place clock ⌝ }
 {
     number as u64 + 256 * place as u64 + 4294967296 * clock

@@ -17,11 +17,11 @@ use Rattle.play.specs.Playing.{PlayedOn}
 use Rattle.play.specs.Calls as play
 use Rattle.play_begin.specs.Whole.{playNumber, begunOf}
 use Rattle.play.proofs.Whole.{Beginning, pieces-whole, never-halted, gets-line, comes-to-end}
-use Rattle.log_rules.specs.Head.{machineOf}
+use Rattle.recording.specs.Whole.{machineOf}
 use Rattle.log_rules.specs.Tree.{acts}
-use Rattle.log_rules.specs.Whole.{treeOf}
+use Rattle.recording.specs.Whole.{treeOf}
 use Rattle.play_rules.specs.Sound.{entriesOf}
-use Rattle.c_cursor.proofs.Calls.{beginning-fits}
+use Rattle.c_recording.proofs.Calls.{beginning-fits}
 use Rattle.c_player.specs.Player.{playerSize, playerBytes, playerIn, PlayerFits}
 use Rattle.c_player.proofs.CodeLaws.{written-in}
 use Rattle.c_play.specs.Players.{playerAfter, beginNumber, beginBytes, Continued}

@@ -14,7 +14,7 @@ use Rattle.arith.specs.Pick.{pick}
 use Rattle.arith.proofs.PickLaws.{pick-both}
 use Rattle.chip.specs.Range.{inRange}
 use Rattle.chip_api.specs.Answer.{isMemory}
-use Rattle.log_rules.proofs.Limits.{check-limits}
+use Rattle.recording.proofs.Limits.{check-limits}
 use Rattle.text_print.specs.Printed.{fits, placed}
 use Rattle.play_rules.specs.declared.Player.{Player}
 use Rattle.play.specs.declared.Played.{Played}
@@ -123,9 +123,9 @@ piece-stored log memory b before after r x =
 
 -- a beginning
 
-pub begun-place : (log memory : List ℕ) → begunOf log memory .place ≤ 60000
+pub begun-place : (log memory : List ℕ) → begunOf log memory .place ≤ 524288
 unfolding begunOf playPlace
-begun-place log memory = pick-both (λ (p : ℕ). p ≤ 60000) (isMemory memory) (check-limits log .place) (omega arith)
+begun-place log memory = pick-both (λ (p : ℕ). p ≤ 524288) (isMemory memory) (check-limits log .place) (omega arith)
 
 other-refused : (t : Bool) → eqb (pick t 2 1) 0 ≡ false
 other-refused true = refl

@@ -17,9 +17,9 @@ use Rattle.c_bytes.specs.Fields.{byteOf}
 use Rattle.c_state.specs.Bytes.{isState}
 use Rattle.c_state.proofs.BackLaws.{alike}
 use Rattle.c_state.proofs.CodeLaws.{exactly-same, read-written as state-written}
-use Rattle.c_cursor.specs.Cursors.{cursorSize}
+use Rattle.c_recording.specs.Cursors.{cursorSize}
 use Rattle.c_bytes.proofs.NumberLaws.{cut, wide-most, wide-kept}
-use Rattle.c_cursor.proofs.CodeLaws.{read-fits as cursor-fits, read-written as cursor-written}
+use Rattle.c_recording.proofs.CodeLaws.{read-fits as cursor-fits, read-written as cursor-written}
 use Rattle.c_player.specs.Player.{cursorPlace, playerSize, cursorPart, statePart, playerBytes, playerAt, isPlayer, PlayerFits}
 use Rattle.c_player.proofs.CodeLaws.{read-told}
 

@@ -14,11 +14,11 @@ use Rattle.chip.specs.Range.{inRange}
 use Rattle.c_state.specs.Bytes.{stateBytes, isState}
 use Rattle.c_state.proofs.CodeLaws.{exactly-same, outside-out, state-right, written-read as state-read}
 use Rattle.c_bytes.specs.Numbers.{wideBytes, wideOf}
-use Rattle.c_cursor.specs.Cursors.{cursorSize, cursorBytes, cursorOf}
+use Rattle.c_recording.specs.Cursors.{cursorSize, cursorBytes}
 use Rattle.c_bytes.proofs.WideLaws.{wide-size}
-use Rattle.c_bytes.proofs.NumberLaws.{wide-past, wide-read, widths}
-use Rattle.c_cursor.proofs.PlaceLaws.{cursor-size}
-use Rattle.c_cursor.proofs.CodeLaws.{written-read as cursor-read}
+use Rattle.c_bytes.proofs.NumberLaws.{wide-past, wide-read}
+use Rattle.c_recording.proofs.PlaceLaws.{cursor-size}
+use Rattle.c_recording.proofs.CodeLaws.{read-starts, read-left, written-read as cursor-read}
 use Rattle.play_rules.specs.declared.Player.{Player}
 use Rattle.c_player.specs.Player.{cursorPlace, statePlace, playerSize, playerBytes, cursorPart, statePart, playerAt, isPlayer, outsidePlayer, playerIn, PlayerFits}
 use Rattle.c_player.proofs.PlaceLaws.{numbers, numbers-size, front-size, whole, player-size}
@@ -66,7 +66,7 @@ module _ (p : Player) (size : length (cursorBytes (p .cursor)) ≡ cursorSize) w
 pub written-read : (p : Player) → PlayerFits p → playerAt (playerBytes p) ≡ p
 unfolding playerAt
 written-read p fits =
-    let size = cursor-size (p .cursor) (fits .cursor .starts .0) (fits .cursor .left .0) in
+    let size = cursor-size (p .cursor) (fits .cursor .log .starts .0) (fits .cursor .log .left .0) in
     rw (
       phase-read p fits,
       wait-read p fits,
@@ -79,14 +79,14 @@ written-read p fits =
     )
 
 -- its bytes are as many as a player is, and those of the state are a state's
-pub player-told : (p : Player) → length (p .cursor .starts) ≡ 8 → length (p .cursor .left) ≡ 8
+pub player-told : (p : Player) → length (p .cursor .log .starts) ≡ 8 → length (p .cursor .log .left) ≡ 8
     → both (eqb (length (playerBytes p)) playerSize) (isState (statePart (playerBytes p))) ≡ true
 player-told p s l = rw (eq-eqb _ _ (player-size p s l), state-part p (cursor-size (p .cursor) s l)) (state-right (p .state))
 
 -- a player that was read has a player's bytes
 pub read-told : (b : List ℕ) → both (eqb (length (playerBytes (playerAt b))) playerSize) (isState (statePart (playerBytes (playerAt b)))) ≡ true
-unfolding playerAt cursorOf
-read-told b = player-told (playerAt b) (widths (cursorPart b) 16 8 8) (widths (cursorPart b) 80 1 8)
+unfolding playerAt
+read-told b = player-told (playerAt b) (read-starts (cursorPart b)) (read-left (cursorPart b))
 
 -- BYTES THAT ARE A PLAYER'S
 

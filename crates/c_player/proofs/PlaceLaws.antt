@@ -8,10 +8,10 @@ use lib.Seq.{sets}
 use Rattle.c_state.specs.Bytes.{stateBytes}
 use Rattle.c_state.proofs.CodeLaws.{state-size}
 use Rattle.c_bytes.specs.Numbers.{wideBytes}
-use Rattle.c_cursor.specs.Cursors.{cursorSize, cursorBytes}
+use Rattle.c_recording.specs.Cursors.{cursorSize, cursorBytes}
 use Rattle.c_bytes.proofs.WideLaws.{wide-size}
 use Rattle.c_bytes.proofs.PlaceLaws.{put-next, put-all}
-use Rattle.c_cursor.proofs.PlaceLaws.{cursor-size}
+use Rattle.c_recording.proofs.PlaceLaws.{cursor-size}
 use Rattle.play_rules.specs.declared.Player.{Player}
 use Rattle.c_player.specs.Player.{cursorPlace, statePlace, playerSize, playerBytes}
 
@@ -70,5 +70,5 @@ put-player p old b₁ b₂ b₃ h l e₁ e₂ e₃ =
     put-all (playerBytes p) old b₃ (whole-size p l ∙ sym h) (all ∙ ap (sets old 0) (whole p))
 
 -- how many bytes a player is
-pub player-size : (p : Player) → length (p .cursor .starts) ≡ 8 → length (p .cursor .left) ≡ 8 → length (playerBytes p) ≡ playerSize
+pub player-size : (p : Player) → length (p .cursor .log .starts) ≡ 8 → length (p .cursor .log .left) ≡ 8 → length (playerBytes p) ≡ playerSize
 player-size p s l = whole-size p (cursor-size (p .cursor) s l)

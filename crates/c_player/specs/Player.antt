@@ -1,4 +1,4 @@
--- A player as bytes, low byte first in every number: phase 1, wait 4, time 4, last 2, the cursor's as the crate `c_cursor` has them, and last
+-- A player as bytes, low byte first in every number: phase 1, wait 4, time 4, last 2, the cursor's as the crate `c_recording` has them, and last
 -- the state's as the crate `c_state` has them.
 use Prim.Native.Nat.{ℕ, _+_, _^_, _<_}
 use mathlib.Core.Bool.{Bool}
@@ -9,7 +9,7 @@ use Rattle.arith.specs.Pick.{pick}
 use Rattle.text.specs.Key.{exactly}
 use Rattle.c_state.specs.Bytes.{stateSize, stateBytes, stateOf, outside}
 use Rattle.c_bytes.specs.Numbers.{wideBytes, wideOf}
-use Rattle.c_cursor.specs.Cursors.{cursorSize, cursorBytes, cursorOf, CursorFits}
+use Rattle.c_recording.specs.Cursors.{cursorSize, cursorBytes, cursorOf, CursorFits}
 use Rattle.play_rules.specs.declared.Player.{Player}
 
 -- where the cursor and the state begin, and how many bytes a player is

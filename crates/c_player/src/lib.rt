@@ -1,4 +1,4 @@
-// A player as bytes, for callers in other languages: its fields in their order, low byte first, the cursor as the crate `c_cursor` has it, and
+// A player as bytes, for callers in other languages: its fields in their order, low byte first, the cursor as the crate `c_recording` has it, and
 // last the state as the crate `c_state` has it.
 ghost use mathlib.Core.Path.{_≡_};
 ghost use Rattle.c_player.specs.Player.{playerSize, playerAt, isPlayer, playerIn, playerEncoded};
@@ -12,7 +12,7 @@ use play_rules::Player;
 // Where the cursor and the state begin, and how many bytes a player is.
 pub(crate) const CURSOR: usize = 11;
 
-pub(crate) const STATE: usize = CURSOR + c_cursor::SIZE;
+pub(crate) const STATE: usize = CURSOR + c_recording::SIZE;
 
 pub const SIZE: usize = STATE + c_state::SIZE;
 
@@ -41,7 +41,7 @@ pub fn decode(b: &[u8]) -> Player
     let wait = number::u32_at(b, 1);
     let time = number::u32_at(b, 5);
     let last = number::u16_at(b, 9);
-    let cursor = c_cursor::decode(reader::cursor_part(b));
+    let cursor = c_recording::decode(reader::cursor_part(b));
     let state = c_state_read::decode(reader::state_part(b));
     Player {
         phase: phase,
@@ -60,7 +60,7 @@ pub fn player_in(b: &[u8]) -> Player
     if is_player(b) {
         return decode(b);
     }
-    let cursor = c_cursor::decode(b"");
+    let cursor = c_recording::decode(b"");
     let state = c_state_read::decode(b"\xff");
     Player {
         phase: 0,

@@ -5,13 +5,13 @@ ghost use lib.ListN.{length};
 ghost use lib.Seq.{sets};
 ghost use Rattle.c_state.specs.Bytes.{stateBytes};
 ghost use Rattle.c_bytes.specs.Numbers.{wideBytes};
-ghost use Rattle.c_cursor.specs.Cursors.{cursorSize, cursorBytes};
+ghost use Rattle.c_recording.specs.Cursors.{cursorSize, cursorBytes};
 ghost use Rattle.c_player.specs.Player.{cursorPlace, statePlace, playerSize};
 use super::CURSOR;
 use super::STATE;
 use c_bytes::number;
 use chip::State;
-use log_cursor::Cursor;
+use recording_cursor::Cursor;
 
 // Phase, wait, time and last.
 pub(crate) fn put_numbers(phase: u8, wait: u32, time: u32, last: u16, b: &mut [u8])
@@ -23,13 +23,13 @@ pub(crate) fn put_numbers(phase: u8, wait: u32, time: u32, last: u16, b: &mut [u
     number::put_wide(b, 9, 2, last as u64);
 }
 
-// The cursor, as the crate `c_cursor` writes it.
+// The cursor, as the crate `c_recording` writes it.
 pub(crate) fn put_cursor(c: Cursor, b: &mut [u8])
     requires { ⌜ length (now b) ≡ playerSize ⌝ }
     ensures { λ r. ⌜ now (b .exit) ≡ sets (now (b .entry)) cursorPlace (cursorBytes c) ⌝ }
     ensures { λ r. ⌜ length (cursorBytes c) ≡ cursorSize ⌝ }
 {
-    c_cursor::encode(c, &mut b[CURSOR..STATE]);
+    c_recording::encode(c, &mut b[CURSOR..STATE]);
 }
 
 // The state, as the crate `c_state` writes it.

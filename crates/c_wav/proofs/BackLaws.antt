@@ -15,9 +15,9 @@ use Rattle.c_bytes.specs.Fields.{flagByte, byteOf, flagOf}
 use Rattle.c_bytes.specs.Numbers.{wideBytes, wideOf}
 use Rattle.c_state.proofs.BackLaws.{alike}
 use Rattle.c_state.proofs.CodeLaws.{exactly-same, read-written as state-written}
-use Rattle.c_cursor.specs.Cursors.{cursorSize}
+use Rattle.c_recording.specs.Cursors.{cursorSize}
 use Rattle.c_bytes.proofs.NumberLaws.{cut, wide-kept}
-use Rattle.c_cursor.proofs.CodeLaws.{read-written as cursor-written}
+use Rattle.c_recording.proofs.CodeLaws.{read-written as cursor-written}
 use Rattle.c_wav.specs.Wavs.{cursorPlace, wavSize, fileBytes, placeBytes, numberBytes, encodedWav, cursorPart, statePart, wavAt, isWav}
 use Rattle.c_wav.proofs.CodeLaws.{told, read-told}
 

@@ -15,11 +15,11 @@ use Rattle.c_state.specs.Bytes.{stateBytes, isState}
 use Rattle.c_state.proofs.CodeLaws.{exactly-same, outside-out, state-right, written-read as state-read}
 use Rattle.c_bytes.specs.Fields.{flagByte, byteOf, flagOf}
 use Rattle.c_bytes.specs.Numbers.{wideBytes, wideOf}
-use Rattle.c_cursor.specs.Cursors.{cursorSize, cursorBytes, cursorOf}
+use Rattle.c_recording.specs.Cursors.{cursorSize, cursorBytes}
 use Rattle.c_bytes.proofs.WideLaws.{wide-size}
-use Rattle.c_bytes.proofs.NumberLaws.{wide-past, wide-read, widths}
-use Rattle.c_cursor.proofs.PlaceLaws.{cursor-size}
-use Rattle.c_cursor.proofs.CodeLaws.{written-read as cursor-read}
+use Rattle.c_bytes.proofs.NumberLaws.{wide-past, wide-read}
+use Rattle.c_recording.proofs.PlaceLaws.{cursor-size}
+use Rattle.c_recording.proofs.CodeLaws.{read-starts, read-left, written-read as cursor-read}
 use Rattle.wav_rules.specs.declared.Wav.{Wav}
 use Rattle.c_wav.specs.Wavs.{cursorPlace, statePlace, wavSize, fileBytes, placeBytes, numberBytes, encodedWav, cursorPart, statePart, wavAt, isWav, outsideWav, wavIn, WavFits}
 use Rattle.c_wav.proofs.PlaceLaws.{numbers-size, front-size, wav-size}
@@ -94,7 +94,7 @@ module _ (w : Wav) (size : length (cursorBytes (w .place .moment .cursor)) ≡ c
 pub written-read : (w : Wav) → WavFits w → wavAt (encodedWav w) ≡ w
 unfolding wavAt
 written-read w fits =
-    let size = cursor-size (w .place .moment .cursor) (fits .cursor .starts .0) (fits .cursor .left .0) in
+    let size = cursor-size (w .place .moment .cursor) (fits .cursor .log .starts .0) (fits .cursor .log .left .0) in
     rw (
       begun-read w,
       rate-read w fits,
@@ -113,15 +113,15 @@ written-read w fits =
 unfoldable pub told : List ℕ → Bool
 told b = both (eqb (length b) wavSize) (both (leb (byteOf b 0) 1) (isState (statePart b)))
 
-wav-told : (w : Wav) → length (w .place .moment .cursor .starts) ≡ 8 → length (w .place .moment .cursor .left) ≡ 8 → told (encodedWav w) ≡ true
+wav-told : (w : Wav) → length (w .place .moment .cursor .log .starts) ≡ 8 → length (w .place .moment .cursor .log .left) ≡ 8 → told (encodedWav w) ≡ true
 unfolding told
 wav-told w s l =
     rw (eq-eqb _ _ (wav-size w s l), begun-most w, state-part w (cursor-size (w .place .moment .cursor) s l)) (state-right (w .place .moment .state))
 
 -- a file that was read has such bytes
 pub read-told : (b : List ℕ) → told (encodedWav (wavAt b)) ≡ true
-unfolding wavAt cursorOf
-read-told b = wav-told (wavAt b) (widths (cursorPart b) 16 8 8) (widths (cursorPart b) 80 1 8)
+unfolding wavAt
+read-told b = wav-told (wavAt b) (read-starts (cursorPart b)) (read-left (cursorPart b))
 
 -- BYTES OF A FILE UNDER WAY
 

@@ -16,8 +16,8 @@ use Rattle.text_print.specs.Printed.{printed}
 use Rattle.text_print.proofs.StoreLaws.{printed-in, kept}
 use Rattle.chip.specs.Range.{inRange}
 use Rattle.chip_api.specs.Answer.{isMemory}
-use Rattle.log_rules.specs.Whole.{checkOf}
-use Rattle.log_rules.proofs.Limits.{check-limits}
+use Rattle.recording.specs.Whole.{checkOf}
+use Rattle.recording.proofs.Limits.{check-limits}
 use Rattle.c_chip.proofs.StoreLaws.{written-by}
 use Rattle.c_log.specs.Logs.{logPacked}
 use Rattle.play_begin.specs.Whole.{playNumber, playPlace}
@@ -178,26 +178,26 @@ piece-stored log memory b before after r x =
 
 -- A BEGINNING: its number, its place and the file's size have their bits
 pub record Low (g : Begun) : Type 0 where
-  pub number : g .number ≤ 33
-  pub place : g .place ≤ 60000
+  pub number : g .number ≤ 36
+  pub place : g .place ≤ 524288
   pub size : g .size < 2 ^ 32
 
 module _ (log memory : List ℕ) (rate : ℕ) where
-  player-low : playNumber log memory ≤ 33
+  player-low : playNumber log memory ≤ 36
   unfolding playNumber
-  player-low = let l = check-limits log .number in pick-both (λ (k : ℕ). k ≤ 33) (isMemory memory) {a = checkOf log .number} {b = 1} (omega arith) (omega arith)
+  player-low = let l = check-limits log .number in pick-both (λ (k : ℕ). k ≤ 36) (isMemory memory) {a = checkOf log .number} {b = 1} (omega arith) (omega arith)
 
-  number-low : wavNumber log memory rate ≤ 33
+  number-low : wavNumber log memory rate ≤ 36
   unfolding wavNumber
   number-low =
-      pick-both (λ (k : ℕ). k ≤ 33) (eqb (playNumber log memory) 0) {a = pick (rateRight rate) 0 33} {b = playNumber log memory}
-      (pick-both (λ (k : ℕ). k ≤ 33) (rateRight rate) {a = 0} {b = 33} (omega arith) (omega arith)) player-low
+      pick-both (λ (k : ℕ). k ≤ 36) (eqb (playNumber log memory) 0) {a = pick (rateRight rate) 0 33} {b = playNumber log memory}
+      (pick-both (λ (k : ℕ). k ≤ 36) (rateRight rate) {a = 0} {b = 33} (omega arith) (omega arith)) player-low
 
-  place-low : wavPlace log memory ≤ 60000
+  place-low : wavPlace log memory ≤ 524288
   unfolding wavPlace playPlace
   place-low =
-      pick-both (λ (k : ℕ). k ≤ 60000) (eqb (playNumber log memory) 0) {a = 0} {b = pick (isMemory memory) (checkOf log .place) 0} (omega arith)
-      (pick-both (λ (k : ℕ). k ≤ 60000) (isMemory memory) {a = checkOf log .place} {b = 0} (check-limits log .place) (omega arith))
+      pick-both (λ (k : ℕ). k ≤ 524288) (eqb (playNumber log memory) 0) {a = 0} {b = pick (isMemory memory) (checkOf log .place) 0} (omega arith)
+      (pick-both (λ (k : ℕ). k ≤ 524288) (isMemory memory) {a = checkOf log .place} {b = 0} (check-limits log .place) (omega arith))
 
   pub begun-low : Low (begunOf log memory rate)
   unfolding begunOf

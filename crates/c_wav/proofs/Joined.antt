@@ -12,7 +12,7 @@ use Rattle.c_bytes.specs.Fields.{flagByte}
 use Rattle.chip.specs.Range.{Bytes}
 use Rattle.chip_api.specs.Answer.{isMemory}
 use Rattle.c_log.specs.Logs.{logPacked}
-use Rattle.c_cursor.proofs.Calls.{beginning-fits}
+use Rattle.c_recording.proofs.Calls.{beginning-fits}
 use Rattle.wav_sample.proofs.ClockLaws.{right-top}
 use Rattle.wav_rules.specs.declared.Wav.{Wav}
 use Rattle.wav_rules.specs.Sound.{logSamples, wavBytes, wavNumber, wavPlace}
@@ -82,7 +82,7 @@ module _ (log memory : List ℕ) (rate : ℕ) where
       by true e z = eqb-true (wavNumber log memory rate) 0 e
       by false e z = z
 
-  low-number : (k p n : ℕ) → k ≤ 33 → numberOf (logPacked k p n) ≡ 0 → k ≡ 0
+  low-number : (k p n : ℕ) → k ≤ 36 → numberOf (logPacked k p n) ≡ 0 → k ≡ 0
   low-number k p n l h = omega arith
 
   low-size : (n : ℕ) → sizeOf (logPacked 0 0 n) ≡ n

@@ -10,10 +10,10 @@ use Rattle.c_state.specs.Bytes.{stateBytes}
 use Rattle.c_state.proofs.CodeLaws.{state-size}
 use Rattle.c_bytes.specs.Fields.{flagByte}
 use Rattle.c_bytes.specs.Numbers.{wideBytes}
-use Rattle.c_cursor.specs.Cursors.{cursorSize, cursorBytes}
+use Rattle.c_recording.specs.Cursors.{cursorSize, cursorBytes}
 use Rattle.c_bytes.proofs.WideLaws.{wide-size}
 use Rattle.c_bytes.proofs.PlaceLaws.{put-next, put-all}
-use Rattle.c_cursor.proofs.PlaceLaws.{cursor-size}
+use Rattle.c_recording.proofs.PlaceLaws.{cursor-size}
 use Rattle.play_samples.specs.declared.Place.{Place}
 use Rattle.wav_rules.specs.declared.Wav.{Wav}
 use Rattle.c_wav.specs.Wavs.{cursorPlace, statePlace, wavSize, fileBytes, placeBytes, numberBytes, encodedWav}
@@ -82,5 +82,5 @@ module _ (w : Wav) where
         (put-next (numberBytes w) (c ++ s) old b₂ b₄ 0 cursorPlace (ap (λ (k : ℕ). 0 + k) numbers-size) front behind)
 
 -- how many bytes a file under way is
-pub wav-size : (w : Wav) → length (w .place .moment .cursor .starts) ≡ 8 → length (w .place .moment .cursor .left) ≡ 8 → length (encodedWav w) ≡ wavSize
+pub wav-size : (w : Wav) → length (w .place .moment .cursor .log .starts) ≡ 8 → length (w .place .moment .cursor .log .left) ≡ 8 → length (encodedWav w) ≡ wavSize
 wav-size w s l = whole-size w (cursor-size (w .place .moment .cursor) s l)

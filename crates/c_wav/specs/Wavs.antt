@@ -1,5 +1,5 @@
 -- A file under way as bytes, low byte first in every number: begun 1, a flag, rate 4, count 4, left 4, sample 8, sum 8, time 8, the cursor's as the crate
--- `c_cursor` has them, and last the state's as the crate `c_state` has them.
+-- `c_recording` has them, and last the state's as the crate `c_state` has them.
 use Prim.Native.Nat.{ℕ, _+_, _^_, _<_}
 use mathlib.Core.Bool.{Bool, false}
 use mathlib.Core.List.{List, [], _++_}
@@ -9,7 +9,7 @@ use Rattle.arith.specs.Pick.{pick}
 use Rattle.text.specs.Key.{exactly}
 use Rattle.c_bytes.specs.Fields.{flagByte, flagOf}
 use Rattle.c_bytes.specs.Numbers.{wideBytes, wideOf}
-use Rattle.c_cursor.specs.Cursors.{cursorSize, cursorBytes, cursorOf, CursorFits}
+use Rattle.c_recording.specs.Cursors.{cursorSize, cursorBytes, cursorOf, CursorFits}
 use Rattle.c_state.specs.Bytes.{stateSize, stateBytes, stateOf, outside}
 use Rattle.play_walk.specs.Walk.{momentOf}
 use Rattle.play_samples.specs.Stepping.{placeOf}

@@ -1,5 +1,5 @@
 // A log as a WAV file in pieces, the file under way being bytes lent in place, which the caller keeps between two pieces: its fields, low byte first, the
-// cursor as the crate `c_cursor` has it, and last the state as the crate `c_state` has it. Bytes that are none of a file under way are refused, and stay.
+// cursor as the crate `c_recording` has it, and last the state as the crate `c_state` has it. Bytes that are none of a file under way are refused, and stay.
 ghost use mathlib.Core.Path.{_≡_};
 ghost use Prim.Native.Nat.{_≤_};
 ghost use lib.Dec.{eqb};
@@ -20,7 +20,7 @@ use wav_rules::Wav;
 // Where the cursor and the state begin, and how many bytes a file under way is.
 pub(crate) const CURSOR: usize = 37;
 
-pub(crate) const STATE: usize = CURSOR + c_cursor::SIZE;
+pub(crate) const STATE: usize = CURSOR + c_recording::SIZE;
 
 pub const SIZE: usize = STATE + c_state::SIZE;
 
@@ -53,7 +53,7 @@ fn decode(b: &[u8]) -> Wav
     let sample = number::usize_at(b, 13);
     let sum = number::usize_at(b, 21);
     let time = number::usize_at(b, 29);
-    let cursor = c_cursor::decode(reader::cursor_part(b));
+    let cursor = c_recording::decode(reader::cursor_part(b));
     let state = c_state_read::decode(reader::state_part(b));
     let moment = play_walk::moment_of(cursor, state, time as u64);
     let place = Place {
@@ -74,7 +74,7 @@ fn decode(b: &[u8]) -> Wav
 fn outside() -> Wav
     ensures { λ r. ⌜ r ≡ outsideWav ⌝ }
 {
-    let cursor = c_cursor::decode(b"");
+    let cursor = c_recording::decode(b"");
     let state = c_state_read::decode(b"\xff");
     let moment = play_walk::moment_of(cursor, state, 0);
     let place = Place {

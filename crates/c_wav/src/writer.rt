@@ -3,15 +3,15 @@ ghost use mathlib.Core.Path.{_≡_};
 ghost use lib.ListN.{length};
 ghost use lib.Seq.{sets};
 ghost use Rattle.c_state.specs.Bytes.{stateBytes};
-ghost use Rattle.c_cursor.specs.Cursors.{cursorSize, cursorBytes};
+ghost use Rattle.c_recording.specs.Cursors.{cursorSize, cursorBytes};
 ghost use Rattle.c_wav.specs.Wavs.{cursorPlace, statePlace, wavSize, fileBytes, placeBytes};
 use super::CURSOR;
 use super::STATE;
 use c_bytes::field;
 use c_bytes::number;
 use chip::State;
-use log_cursor::Cursor;
 use play_samples::Place;
+use recording_cursor::Cursor;
 
 // The flag, the rate and the samples in all.
 pub(crate) fn put_file(begun: bool, rate: u32, count: u32, b: &mut [u8])
@@ -33,13 +33,13 @@ pub(crate) fn put_place(p: Place, b: &mut [u8])
     number::put_wide(b, 29, 8, m.time);
 }
 
-// The cursor, as the crate `c_cursor` writes it.
+// The cursor, as the crate `c_recording` writes it.
 pub(crate) fn put_cursor(c: Cursor, b: &mut [u8])
     requires { ⌜ length (now b) ≡ wavSize ⌝ }
     ensures { λ r. ⌜ now (b .exit) ≡ sets (now (b .entry)) cursorPlace (cursorBytes c) ⌝ }
     ensures { λ r. ⌜ length (cursorBytes c) ≡ cursorSize ⌝ }
 {
-    c_cursor::encode(c, &mut b[CURSOR..STATE]);
+    c_recording::encode(c, &mut b[CURSOR..STATE]);
 }
 
 // The state, as the crate `c_state` writes it.

@@ -5,10 +5,13 @@ mod dwells;
 mod fold;
 mod import;
 mod interrupts;
+mod memory;
 mod meters;
 mod pieces;
+mod playing;
 mod refused;
 mod salvage;
+mod samples;
 mod sheet;
 mod sound;
 mod states;
@@ -41,6 +44,12 @@ fn run(verb: &[u8], words: usize) -> bool {
     }
     if arith::both_of(words == 2, text::exact(verb, b"salvage")) {
         return salvage::salvage();
+    }
+    if arith::both_of(words == 2, text::exact(verb, b"samples")) {
+        return samples::samples();
+    }
+    if arith::both_of(words == 2, text::exact(verb, b"play")) {
+        return playing::play();
     }
     if arith::both_of(words == 3, text::exact(verb, b"why")) {
         return why::why();

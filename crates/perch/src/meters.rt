@@ -5,6 +5,7 @@ ghost use lib.ListN.{length, take};
 ghost use Rattle.io.specs.Counts.{Counts};
 ghost use Rattle.text_print.specs.Printed.{Put};
 ghost use Rattle.perch_meter.specs.Text.{meterText, nextText};
+use super::memory::read_for;
 use super::pieces::poured;
 use super::refused::explain;
 use super::refused::unplayed;
@@ -82,7 +83,7 @@ fn tell_all(log: &[u8], memory: &[u8], each: bool) -> bool {
 // With the sample memory: a byte more than it has, so that a longer one is seen.
 fn with_sample(log: &[u8], each: bool) -> bool {
     let mut memory = [0u8; 32769];
-    let r = program_io::read_sample(b"perch", &mut memory);
+    let r = read_for(log, &mut memory);
     if r.failed {
         return true;
     }
@@ -90,9 +91,9 @@ fn with_sample(log: &[u8], each: bool) -> bool {
     tell_all(log, &memory[..n], each)
 }
 
-// A byte more than a log may have, so that a longer one is seen.
+// A byte more than a VGM file may have, so that a longer one is seen, and a longer log.
 pub(crate) fn meter(each: bool) -> bool {
-    let mut log = [0u8; 60001];
+    let mut log = [0u8; 524289];
     let r = program_io::read_input(b"perch", &mut log);
     if r.failed {
         return true;

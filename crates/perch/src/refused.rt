@@ -3,7 +3,7 @@ ghost use mathlib.Core.Path.{_≡_};
 ghost use lib.Dec.{eqb};
 ghost use lib.ListN.{length};
 ghost use Rattle.arith.specs.Pick.{pick};
-ghost use Rattle.log_rules.specs.Whole.{checkOf};
+ghost use Rattle.recording.specs.Whole.{checkOf};
 use libc::STDERR_FILENO;
 
 // The reason in words; none for 0.
@@ -32,6 +32,6 @@ pub(crate) fn unplayed(log: &[u8], memory: &[u8]) -> u8
     if memory.len() != 32768 {
         return 1;
     }
-    let k = log_check::check(log);
+    let k = recording::check(log);
     k.number
 }

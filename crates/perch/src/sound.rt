@@ -1,4 +1,5 @@
 // `perch wav [RATE]`: a log on standard input, and on standard output what it sounds like as a WAV file, RATE samples a second.
+use super::memory::read_for;
 use super::refused::explain;
 use text::Number;
 
@@ -13,7 +14,7 @@ fn tell(log: &[u8], memory: &[u8], rate: u32) -> bool {
 // With the sample memory: a byte more than it has, so that a longer one is seen.
 fn with_sample(log: &[u8], rate: u32) -> bool {
     let mut memory = [0u8; 32769];
-    let r = program_io::read_sample(b"perch", &mut memory);
+    let r = read_for(log, &mut memory);
     if r.failed {
         return true;
     }
@@ -21,9 +22,9 @@ fn with_sample(log: &[u8], rate: u32) -> bool {
     tell(log, &memory[..n], rate)
 }
 
-// A byte more than a log may have, so that a longer one is seen.
+// A byte more than a VGM file may have, so that a longer one is seen, and a longer log.
 pub(crate) fn at_rate(rate: u32) -> bool {
-    let mut log = [0u8; 60001];
+    let mut log = [0u8; 524289];
     let r = program_io::read_input(b"perch", &mut log);
     if r.failed {
         return true;

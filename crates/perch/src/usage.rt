@@ -20,69 +20,84 @@ pub(crate) fn usage(file: i32) -> bool {
     let c = line(
         file,
         b,
-        b"  fold        a log on standard input: the same log with its repeats as loops\n",
+        b"  play        a log on standard input: what it sounds like, level by level\n",
     );
     let d = line(
         file,
         c,
-        b"  import      a VGM file on standard input: the log that it comes to\n",
+        b"  fold        a log on standard input: the same log with its repeats as loops\n",
     );
     let e = line(
         file,
         d,
-        b"  salvage     a damaged log on standard input: the log repaired, and what was dropped and added\n",
+        b"  import      a VGM file on standard input: the log that it comes to\n",
     );
     let f = line(
         file,
         e,
-        b"  why CLOCK   a log on standard input: why the squares and the noise are silent there\n",
+        b"  samples     a VGM file on standard input: the sample memory that it brings along\n",
     );
     let g = line(
         file,
         f,
-        b"  at CLOCK    a log on standard input: every field of the state there, a line each\n",
+        b"  salvage     a damaged log on standard input: the log repaired, and what was dropped and added\n",
     );
     let h = line(
         file,
         g,
-        b"  vcd FROM CLOCKS\n              a log on standard input: what is seen of it in these clocks, as a VCD for GTKWave\n",
+        b"  why CLOCK   a log on standard input: why the squares and the noise are silent there\n",
     );
     let i = line(
         file,
         h,
-        b"  wav [RATE]  a log on standard input: what it sounds like as a WAV file, 44100 samples a second or RATE\n",
+        b"  at CLOCK    a log on standard input: every field of the state there, a line each\n",
     );
     let j = line(
         file,
         i,
-        b"  meter       a log on standard input: whether it is silent, steady or moving, and between which levels\n",
+        b"  vcd FROM CLOCKS\n              a log on standard input: what is seen of it in these clocks, as a VCD for GTKWave\n",
     );
     let k = line(
         file,
         j,
-        b"  meter waits the same, and that of each of its waits\n",
+        b"  wav [RATE]  a log on standard input: what it sounds like as a WAV file, 44100 samples a second or RATE\n",
     );
     let l = line(
         file,
         k,
-        b"  interrupts  a log on standard input: when the interrupt flags and the line change\n",
+        b"  meter       a log on standard input: whether it is silent, steady or moving, and between which levels\n",
     );
     let m = line(
         file,
         l,
-        b"  dwell       a log on standard input: how many clocks the DMC stood at each of its levels\n",
+        b"  meter waits the same, and that of each of its waits\n",
     );
     let n = line(
         file,
         m,
+        b"  interrupts  a log on standard input: when the interrupt flags and the line change\n",
+    );
+    let o = line(
+        file,
+        n,
+        b"  dwell       a log on standard input: how many clocks the DMC stood at each of its levels\n",
+    );
+    let p = line(
+        file,
+        o,
         b"  sheet LEVEL ADDRESS LENGTH\n              the level after each byte of a sample in sample.bin\n",
     );
-    let o = line(file, n, b"  help        these lines\n");
-    let p = line(file, o, b"  version     the version of the library\n");
+    let q = line(file, p, b"  help        these lines\n");
+    let r = line(file, q, b"  version     the version of the library\n");
+    let s = line(
+        file,
+        r,
+        b"check, play, why, at, vcd, wav, meter, interrupts and dwell take a VGM file in a log's place\n",
+    );
     line(
         file,
-        p,
-        b"why, at, vcd, wav, meter, interrupts, dwell and sheet read the sample memory from the file sample.bin of the current folder\n",
+        s,
+        b"play, why, at, vcd, wav, meter, interrupts, dwell and sheet read the sample memory from the file sample.bin of the current folder\n",
     )
 }
 

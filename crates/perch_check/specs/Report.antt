@@ -1,4 +1,4 @@
--- What `perch check` writes about a log.
+-- What `perch check` writes about a log, or about a VGM file.
 use Prim.Native.Nat.{ℕ}
 use mathlib.Core.List.{List, [], _++_}
 use mathlib.Core.Bool.{Bool}
@@ -8,7 +8,7 @@ use Rattle.text.specs.Ascii.{bytes}
 use Rattle.text.specs.Decimal.{decimalText}
 use Rattle.log_rules.specs.declared.Checked.{Checked}
 use Rattle.log_rules.specs.declared.Totals.{Totals}
-use Rattle.log_rules.specs.Whole.{checkOf}
+use Rattle.recording.specs.Whole.{isFile, checkOf}
 use Rattle.log_mend.specs.Mending.{totalsOf, firstOpen, firstPlace, openAt}
 use Rattle.text_lines.specs.Lines.{keyedLine, refusedLine}
 use Rattle.text_place.specs.Place.{lineNumber, column}
@@ -63,12 +63,20 @@ moreText log c =
     (pick (eqb (c .number) 8) (keyedLine (bytes "open=") (openLine log (c .place)))
     []))
 
+-- of a file: number, place and reason
+unfoldable pub fileText : ℕ → ℕ → List ℕ
+fileText number place =
+    refusedLine number place ++ (bytes "byte " ++ (decimalText place ++ (bytes ": " ++ (reasonText number ++ bytes "\n"))))
+
+unfoldable pub failedText : List ℕ → Checked → List ℕ
+failedText log c = pick (isFile log) (fileText (c .number) (c .place)) (refusedText log (c .number) (c .place) ++ moreText log c)
+
 -- what a check found: its number is 0 where the log passes
 unfoldable pub outcomeText : List ℕ → Checked → List ℕ
 outcomeText log c =
     pick (eqb (c .number) 0)
     (passedText (c .pal) (c .clocks) (c .turns) (c .items))
-    (refusedText log (c .number) (c .place) ++ moreText log c)
+    (failedText log c)
 
 -- the whole text; each of its lines ends in one line feed
 unfoldable pub checkText : List ℕ → List ℕ

@@ -1,8 +1,8 @@
-// What `perch check` writes about a log.
+// What `perch check` writes about a log, or about a VGM file.
 ghost use mathlib.Core.Path.{_≡_};
 ghost use Rattle.text_print.specs.Printed.{printed, placed};
 ghost use Rattle.text_lines.specs.Puts.{Puts};
-ghost use Rattle.perch_check.specs.Report.{machineLine, passedText, reasonLine, refusedText, openLine, totalsText, moreText, checkText};
+ghost use Rattle.perch_check.specs.Report.{machineLine, passedText, reasonLine, refusedText, openLine, totalsText, moreText, fileText, failedText, checkText};
 use log_rules::Checked;
 use log_rules::Totals;
 use perch_reasons::reason;
@@ -92,17 +92,39 @@ fn more(out: &mut [u8], at: usize, log: &[u8], c: Checked) -> usize
     at
 }
 
+// Number, place and reason of the refusal of a VGM file.
+fn file_refused(out: &mut [u8], at: usize, number: u8, place: usize) -> usize
+    ensures { λ r. ⌜ Puts (now (out .entry)) at (fileText number place) (now (out .exit)) r ⌝ }
+{
+    let a = refused_line(out, at, number, place);
+    let b = text_print::fixed(out, a, b"byte ");
+    let c = text_print::decimal(out, b, place as u64);
+    let d = text_print::fixed(out, c, b": ");
+    let e = reason(out, d, number);
+    text_print::fixed(out, e, b"\n")
+}
+
+// What is said of a recording that doesn't pass.
+fn failed(out: &mut [u8], at: usize, log: &[u8], c: Checked) -> usize
+    ensures { λ r. ⌜ Puts (now (out .entry)) at (failedText (now (log .entry)) c) (now (out .exit)) r ⌝ }
+{
+    if recording::is_file(log) {
+        return file_refused(out, at, c.number, c.place);
+    }
+    let b = refused(out, at, log, c.number, c.place);
+    more(out, b, log, c)
+}
+
 // The whole text.
 fn whole(out: &mut [u8], log: &[u8]) -> usize
     ensures { λ r. ⌜ Puts (now (out .entry)) 0 (checkText (now (log .entry))) (now (out .exit)) r ⌝ }
 {
-    let c = log_check::check(log);
+    let c = recording::check(log);
     let a = text_print::fixed(out, 0, b"check=1\n");
     if c.number == 0 {
         return passed(out, a, c.pal, c.clocks, c.turns, c.items);
     }
-    let b = refused(out, a, log, c.number, c.place);
-    more(out, b, log, c)
+    failed(out, a, log, c)
 }
 
 // The text about a log where it fits, and its length; else nothing, and 0.

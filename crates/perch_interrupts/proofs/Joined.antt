@@ -7,8 +7,8 @@ use borrow.Author.Tests.{eq-eqb, ne-eqb}
 use lib.ListN.{length}
 use Rattle.text_lines.specs.Lines.{refusedLine}
 use Rattle.log_rules.specs.Tree.{clocks}
-use Rattle.log_rules.specs.Whole.{treeOf, checkOf}
-use Rattle.log_passing.proofs.Passing.{clear}
+use Rattle.recording.specs.Whole.{treeOf, checkOf}
+use Rattle.recording.proofs.Passing.{clear}
 use Rattle.chip.specs.Range.{Bytes}
 use Rattle.play_begin.specs.Whole.{playNumber, playPlace}
 use Rattle.play_interrupts.specs.declared.Change.{Change}

@@ -6,9 +6,9 @@ use lib.Dec.{eqb}
 use Rattle.arith.specs.Pick.{pick}
 use Rattle.text.specs.Ascii.{bytes}
 use Rattle.text_lines.specs.Lines.{keyedLine, pairLine, refusedLine}
-use Rattle.log_rules.specs.Head.{machineOf}
+use Rattle.recording.specs.Whole.{machineOf}
 use Rattle.log_rules.specs.Tree.{acts, clocks}
-use Rattle.log_rules.specs.Whole.{treeOf}
+use Rattle.recording.specs.Whole.{treeOf}
 use Rattle.chip.specs.Range.{powerOn}
 use Rattle.play_begin.specs.Whole.{playNumber, playPlace}
 use Rattle.play_interrupts.specs.declared.Change.{Change}

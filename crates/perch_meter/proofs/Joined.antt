@@ -5,7 +5,7 @@ use mathlib.Core.List.{List, _++_}
 use native.Mathlib.Omega.{arith}
 use borrow.Author.Tests.{eq-eqb}
 use lib.ListN.{length}
-use Rattle.log_rules.specs.Whole.{checkOf}
+use Rattle.recording.specs.Whole.{checkOf}
 use Rattle.reading.specs.Saying.{Gives, ends, goes, gives}
 use Rattle.chip.specs.Range.{Bytes}
 use Rattle.play_walk.specs.declared.Moment.{Moment}

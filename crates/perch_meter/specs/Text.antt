@@ -7,9 +7,9 @@ use Rattle.arith.specs.Pick.{pick}
 use Rattle.text.specs.Ascii.{bytes}
 use Rattle.text.specs.Decimal.{decimalText}
 use Rattle.text_lines.specs.Lines.{refusedLine}
-use Rattle.log_rules.specs.Head.{machineOf}
+use Rattle.recording.specs.Whole.{machineOf}
 use Rattle.log_rules.specs.Tree.{acts}
-use Rattle.log_rules.specs.Whole.{treeOf}
+use Rattle.recording.specs.Whole.{treeOf}
 use Rattle.chip.specs.Range.{powerOn}
 use Rattle.play_walk.specs.declared.Moment.{Moment}
 use Rattle.meter.specs.declared.Measured.{Measured}

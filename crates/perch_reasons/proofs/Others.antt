@@ -13,7 +13,7 @@ use Rattle.perch_reasons.specs.Reasons.{reasonText}
 
 -- which numbers have words
 abbrev worded : ℕ → Bool
-worded k = both (leb 1 k) (both (leb k 34) (not (eqb k 6)))
+worded k = both (leb 1 k) (both (leb k 36) (not (eqb k 6)))
 
 past : {n : ℕ} (k : ℕ) (a : List ℕ) {b t : List ℕ} → (n ≡ k → ⊥) → b ≡ t → pick (eqb n k) a b ≡ t
 past {n} k a h e = rw (ne-eqb n k h) e
@@ -53,7 +53,9 @@ unworded n h =
     (past 31 _ (h 31 refl)
     (past 32 _ (h 32 refl)
     (past 33 _ (h 33 refl)
-    (past 34 _ (h 34 refl) refl))))))))))))))))))))))))))))))))
+    (past 34 _ (h 34 refl)
+    (past 35 _ (h 35 refl)
+    (past 36 _ (h 36 refl) refl))))))))))))))))))))))))))))))))))
 
 pub next : (b n : ℕ) → b ≤ n → (n ≡ b → ⊥) → b + 1 ≤ n
 next b n h a = omega arith
@@ -72,16 +74,16 @@ below n less a b c d f g = unworded n each
     each k w e =
         let r = both-right (leb 1 k) _ w in
         let low = leb-true 1 k (both-left (leb 1 k) _ w) in
-        let six = eqb-false k 6 (not-true (eqb k 6) (both-right (leb k 34) _ r)) in
+        let six = eqb-false k 6 (not-true (eqb k 6) (both-right (leb k 36) _ r)) in
         let least : 1 ≤ n = rw e low in
         let five = next 5 n (next 4 n (next 3 n (next 2 n (next 1 n least a) b) c) d) f in
         clash (next 7 n (next 6 n five (λ s. six (sym e ∙ s))) g) less
 
-pub above : (n : ℕ) → 32 ≤ n → (n ≡ 32 → ⊥) → (n ≡ 33 → ⊥) → (n ≡ 34 → ⊥) → reasonText n ≡ bytes "refused"
-above n more a b c = unworded n each
+pub above : (n : ℕ) → 32 ≤ n → (n ≡ 32 → ⊥) → (n ≡ 33 → ⊥) → (n ≡ 34 → ⊥) → (n ≡ 35 → ⊥) → (n ≡ 36 → ⊥) → reasonText n ≡ bytes "refused"
+above n more a b c d f = unworded n each
   where
     each : (k : ℕ) → worded k ≡ true → n ≡ k → ⊥
     each k w e =
-        let high = leb-true k 34 (both-left (leb k 34) _ (both-right (leb 1 k) _ w)) in
-        let far = next 34 n (next 33 n (next 32 n more a) b) c in
+        let high = leb-true k 36 (both-left (leb k 36) _ (both-right (leb 1 k) _ w)) in
+        let far = next 36 n (next 35 n (next 34 n (next 33 n (next 32 n more a) b) c) d) f in
         omega arith

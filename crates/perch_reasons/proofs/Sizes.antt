@@ -45,4 +45,6 @@ reason-size n =
     (pick-both Short (eqb n 32) (lit≤ tt)
     (pick-both Short (eqb n 33) (lit≤ tt)
     (pick-both Short (eqb n 34) (lit≤ tt)
-    (lit≤ tt)))))))))))))))))))))))))))))))))
+    (pick-both Short (eqb n 35) (lit≤ tt)
+    (pick-both Short (eqb n 36) (lit≤ tt)
+    (lit≤ tt)))))))))))))))))))))))))))))))))))

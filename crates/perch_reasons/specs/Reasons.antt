@@ -41,4 +41,6 @@ reasonText n =
     (pick (eqb n 32) (bytes "buffer shorter than the log")
     (pick (eqb n 33) (bytes "rate outside 8000..192000")
     (pick (eqb n 34) (bytes "a sample block outside 8000..ffff")
-    (bytes "refused")))))))))))))))))))))))))))))))))
+    (pick (eqb n 35) (bytes "the header of the VGM file says no place for commands")
+    (pick (eqb n 36) (bytes "a VGM file for two chips")
+    (bytes "refused")))))))))))))))))))))))))))))))))))

@@ -101,6 +101,12 @@ fn last(out: &mut [u8], at: usize, number: u8) -> usize
         32 => text_print::fixed(out, at, b"buffer shorter than the log"),
         33 => text_print::fixed(out, at, b"rate outside 8000..192000"),
         34 => text_print::fixed(out, at, b"a sample block outside 8000..ffff"),
+        35 => text_print::fixed(
+            out,
+            at,
+            b"the header of the VGM file says no place for commands",
+        ),
+        36 => text_print::fixed(out, at, b"a VGM file for two chips"),
         _ => text_print::fixed(out, at, b"refused"),
     }
 }

@@ -6,8 +6,8 @@ use native.Mathlib.Omega.{arith}
 use borrow.Author.Tests.{eq-eqb, ne-eqb}
 use lib.ListN.{length}
 use Rattle.text_lines.specs.Lines.{refusedLine}
-use Rattle.log_rules.specs.Whole.{checkOf}
-use Rattle.log_passing.proofs.Passing.{clear}
+use Rattle.recording.specs.Whole.{checkOf}
+use Rattle.recording.proofs.Passing.{clear}
 use Rattle.chip.specs.Range.{Bytes}
 use Rattle.play_begin.specs.Whole.{playNumber, playPlace}
 use Rattle.play_interrupts.proofs.Telling.{ends, goes, gives}

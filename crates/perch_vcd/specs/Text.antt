@@ -7,9 +7,9 @@ use Rattle.arith.specs.Pick.{pick}
 use Rattle.text.specs.Ascii.{bytes}
 use Rattle.text_lines.specs.Lines.{refusedLine}
 use Rattle.vcd_text.specs.Lines.{timeLine, valueLine}
-use Rattle.log_rules.specs.Head.{machineOf}
+use Rattle.recording.specs.Whole.{machineOf}
 use Rattle.log_rules.specs.Tree.{acts}
-use Rattle.log_rules.specs.Whole.{treeOf}
+use Rattle.recording.specs.Whole.{treeOf}
 use Rattle.chip.specs.Range.{powerOn}
 use Rattle.chip_seen.specs.declared.Seen.{Seen}
 use Rattle.play_begin.specs.Whole.{playNumber, playPlace}

@@ -9,9 +9,9 @@ use lib.Dec.{leb}
 use lib.ListN.{length, take, length-append}
 use borrow.Author.Tests.{eq-eqb, leb-true}
 use Rattle.arith.specs.Pick.{pick}
-use Rattle.log_rules.specs.Head.{machineOf}
+use Rattle.recording.specs.Whole.{machineOf}
 use Rattle.log_rules.specs.Tree.{acts}
-use Rattle.log_rules.specs.Whole.{treeOf, checkOf}
+use Rattle.recording.specs.Whole.{treeOf, checkOf}
 use Rattle.chip_api.specs.Answer.{isMemory}
 use Rattle.chip.specs.Range.{inRange}
 use Rattle.chip.proofs.RangeLaws.{power-on-in}

@@ -7,10 +7,10 @@ use lib.Dec.{ltb}
 use Rattle.arith.specs.Iterate.{iterate}
 use Rattle.arith.specs.Pick.{pick}
 use Rattle.log_line.specs.declared.Act.{Act}
-use Rattle.log_rules.specs.Head.{machineOf}
+use Rattle.recording.specs.Whole.{machineOf}
 use Rattle.log_rules.specs.Tree.{acts}
-use Rattle.log_rules.specs.Whole.{treeOf}
-use Rattle.log_cursor.specs.Stepping.{stepOf}
+use Rattle.recording.specs.Whole.{treeOf}
+use Rattle.recording_cursor.specs.Stepping.{stepOf}
 use Rattle.reading.specs.Saying.{Gives}
 use Rattle.chip.specs.Clock.{chipClock}
 use Rattle.chip.specs.Range.{inRange, powerOn}

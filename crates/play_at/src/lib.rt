@@ -3,9 +3,9 @@ ghost use mathlib.Core.Path.{_≡_};
 ghost use mathlib.Core.Bool.{true};
 ghost use lib.ListN.{length};
 ghost use Rattle.chip.specs.Range.{inRange, powerOn};
-ghost use Rattle.log_rules.specs.Head.{machineOf};
+ghost use Rattle.recording.specs.Whole.{machineOf};
 ghost use Rattle.log_rules.specs.Tree.{acts};
-ghost use Rattle.log_rules.specs.Whole.{treeOf, checkOf};
+ghost use Rattle.recording.specs.Whole.{treeOf, checkOf};
 ghost use Rattle.play_at.specs.Reached.{atOf, refusedAt, reached, stateAt};
 ghost use Rattle.play_at.specs.Walking.{standOf, waitTo, metTo, Fine};
 use chip::State;
@@ -124,7 +124,7 @@ pub fn state_at(log: &[u8], memory: &[u8], clock: u64) -> At
     if memory.len() != 32768 {
         return refused_at(1, 0);
     }
-    let k = log_check::check(log);
+    let k = recording::check(log);
     if k.number != 0 {
         return refused_at(k.number, k.place);
     }

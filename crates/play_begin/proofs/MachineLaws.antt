@@ -7,10 +7,10 @@ use lib.Dec.{eqb}
 use lib.ListN.{length}
 use borrow.Author.Tests.{eq-eqb, eqb-true}
 use Rattle.arith.specs.Pick.{pick}
-use Rattle.log_rules.specs.Head.{machineOf}
-use Rattle.log_rules.specs.Whole.{checkOf}
+use Rattle.recording.specs.Whole.{machineOf}
+use Rattle.recording.specs.Whole.{checkOf}
 use Rattle.log_rules.specs.declared.Checked.{Checked}
-use Rattle.log_passing.proofs.Passing.{clear, passes}
+use Rattle.recording.proofs.Passing.{passes}
 use Rattle.play_rules.specs.Turns.{freshPlayer, endedPlayer}
 use Rattle.play_rules.specs.declared.Player.{Player}
 use Rattle.play_begin.specs.declared.Begun.{Begun}
@@ -21,7 +21,7 @@ opened number place player = record { number = number; place = place; player = p
 
 module _ (log : List ℕ) where
   machine-passed : checkOf log .number ≡ 0 → checkOf log .pal ≡ machineOf log
-  machine-passed h = ap (λ (k : Checked). k .pal) (passes (clear log h))
+  machine-passed h = ap (λ (k : Checked). k .pal) (passes log h)
 
   first-of : pick (eqb (checkOf log .number) 0) (freshPlayer (checkOf log .pal)) endedPlayer ≡ pick (eqb (checkOf log .number) 0) (freshPlayer (machineOf log)) endedPlayer
   first-of = by (eqb (checkOf log .number) 0) refl

@@ -4,9 +4,9 @@ use mathlib.Core.List.{List}
 use lib.Dec.{eqb}
 use Rattle.arith.specs.Pick.{pick}
 use Rattle.chip_api.specs.Answer.{isMemory}
-use Rattle.log_rules.specs.Head.{machineOf}
+use Rattle.recording.specs.Whole.{machineOf}
 use Rattle.log_rules.specs.Tree.{acts}
-use Rattle.log_rules.specs.Whole.{treeOf, checkOf}
+use Rattle.recording.specs.Whole.{treeOf, checkOf}
 use Rattle.play_text.specs.Entries.{entriesText, refusalText}
 use Rattle.play_rules.specs.Sound.{entriesOf}
 use Rattle.play_rules.specs.Turns.{freshPlayer, endedPlayer}

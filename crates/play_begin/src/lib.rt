@@ -18,7 +18,7 @@ fn fresh(pal: bool) -> Player
     ensures { λ r. ⌜ r ≡ freshPlayer pal ⌝ }
 {
     let s = chip::power_on(pal);
-    let c = log_cursor::start();
+    let c = recording_cursor::start();
     Player {
         phase: play_rules::OPENING,
         wait: 0,
@@ -64,6 +64,6 @@ pub fn begin(log: &[u8], memory: &[u8]) -> Begun
     if memory.len() != 32768 {
         return opening(1, 0, false);
     }
-    let k = log_check::check(log);
+    let k = recording::check(log);
     opening(k.number, k.place, k.pal)
 }

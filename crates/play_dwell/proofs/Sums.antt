@@ -10,11 +10,11 @@ use borrow.Author.Tests.{eqb-true}
 use Rattle.arith.specs.Pick.{pick}
 use Rattle.arith.proofs.PickLaws.{pick-each}
 use Rattle.reading.specs.Counting.{sum}
-use Rattle.log_rules.specs.Head.{machineOf}
+use Rattle.recording.specs.Whole.{machineOf}
 use Rattle.log_rules.specs.Tree.{acts, clocks}
-use Rattle.log_rules.specs.Whole.{treeOf, checkOf}
+use Rattle.recording.specs.Whole.{treeOf, checkOf}
 use Rattle.log_passing.proofs.ActLaws.{every-acts, clocks-listed}
-use Rattle.log_passing.proofs.Passing.{stands}
+use Rattle.recording.proofs.Passing.{tree-within}
 use Rattle.chip.specs.Range.{powerOn}
 use Rattle.chip.proofs.RangeLaws.{power-on-in}
 use Rattle.chip_api.specs.Answer.{isMemory}
@@ -42,7 +42,7 @@ sum-is-clocks log memory bytes =
     pick-each (λ (a : Answer). sum (a .counts) ≡ a .clocks) (eqb (playNumber log memory) 0)
     (λ e.
     let h = passed log memory (eqb-true _ _ e) in
-    let right = every-acts (treeOf log) 0 (stands log h .within) in
+    let right = every-acts (treeOf log) 0 (tree-within log h) in
     from-sum memory bytes (acts (treeOf log)) (powerOn (machineOf log)) noCounts right (power-on-in (machineOf log)) refl
     ∙ omega (arith, none-sum, clocks-listed (treeOf log)))
     (λ e. none-sum)

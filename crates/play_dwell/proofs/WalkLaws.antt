@@ -10,15 +10,15 @@ use Rattle.arith.specs.Iterate.{iterate}
 use Rattle.reading.specs.Counting.{sum}
 use Rattle.reading.specs.Saying.{Gives}
 use Rattle.log_line.specs.declared.Act.{Act}
-use Rattle.log_rules.specs.Head.{machineOf}
+use Rattle.recording.specs.Whole.{machineOf}
 use Rattle.log_rules.specs.Tree.{acts, actClocks, clocks}
-use Rattle.log_rules.specs.Whole.{treeOf, checkOf}
+use Rattle.recording.specs.Whole.{treeOf, checkOf}
 use Rattle.log_rules.specs.declared.Checked.{Checked}
 use Rattle.log_passing.proofs.ActLaws.{clocksIn, clocks-listed}
-use Rattle.log_passing.proofs.Passing.{clear, passes}
-use Rattle.log_cursor.specs.declared.Cursor.{Cursor}
-use Rattle.log_cursor.specs.Stepping.{stepOf}
-use Rattle.log_cursor.proofs.Whole.{cursor-gives}
+use Rattle.recording.proofs.Passing.{clear, passes}
+use Rattle.recording_cursor.specs.declared.Cursor.{Cursor}
+use Rattle.recording_cursor.specs.Stepping.{stepOf}
+use Rattle.recording_cursor.proofs.Whole.{cursor-gives}
 use Rattle.chip.specs.Clock.{chipClock}
 use Rattle.chip.specs.Range.{inRange, Bytes}
 use Rattle.chip.specs.declared.State.{State}
@@ -127,4 +127,4 @@ module _ (log memory : List ℕ) where
 
   -- the clocks that the check hands out
   pub check-clocks : checkOf log .number ≡ 0 → checkOf log .clocks ≡ clocks (treeOf log)
-  check-clocks fine = ap (λ (k : Checked). k .clocks) (passes (clear log fine))
+  check-clocks fine = ap (λ (k : Checked). k .clocks) (passes log fine)

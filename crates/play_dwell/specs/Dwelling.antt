@@ -9,9 +9,9 @@ use Rattle.arith.specs.Pick.{pick}
 use Rattle.reading.specs.Counting.{raise, sum}
 use Rattle.log_line.specs.declared.Act.{Act}
 use Rattle.log_line.specs.declared.Act.the-variants.{Wait, Access}
-use Rattle.log_rules.specs.Head.{machineOf}
+use Rattle.recording.specs.Whole.{machineOf}
 use Rattle.log_rules.specs.Tree.{acts, clocks}
-use Rattle.log_rules.specs.Whole.{treeOf}
+use Rattle.recording.specs.Whole.{treeOf}
 use Rattle.chip.specs.Clock.{chipClock}
 use Rattle.chip.specs.Range.{Bytes, powerOn}
 use Rattle.chip.specs.declared.State.{State}

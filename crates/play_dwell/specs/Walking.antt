@@ -8,11 +8,11 @@ use Rattle.arith.specs.Iterate.{iterate}
 use Rattle.reading.specs.Counting.{sum}
 use Rattle.reading.specs.Saying.{Gives}
 use Rattle.log_line.specs.declared.Act.{Act}
-use Rattle.log_rules.specs.Head.{machineOf}
+use Rattle.recording.specs.Whole.{machineOf}
 use Rattle.log_rules.specs.Tree.{acts}
-use Rattle.log_rules.specs.Whole.{treeOf}
+use Rattle.recording.specs.Whole.{treeOf}
 use Rattle.log_passing.proofs.ActLaws.{clocksIn}
-use Rattle.log_cursor.specs.Stepping.{stepOf}
+use Rattle.recording_cursor.specs.Stepping.{stepOf}
 use Rattle.chip.specs.Clock.{chipClock}
 use Rattle.chip.specs.Range.{inRange, powerOn}
 use Rattle.chip.specs.declared.State.{State}

@@ -5,7 +5,7 @@ ghost use Prim.Native.Nat.{_+_, _≤_};
 ghost use lib.ListN.{length};
 ghost use Rattle.reading.specs.Counting.{sum};
 ghost use Rattle.chip.specs.Range.{inRange};
-ghost use Rattle.log_rules.specs.Whole.{checkOf};
+ghost use Rattle.recording.specs.Whole.{checkOf};
 ghost use Rattle.play_dwell.specs.Dwelling.{logDwell};
 ghost use Rattle.play_dwell.specs.Walking.{tableOf, refusedAnswer, dweltOf, clocksOn, metClocks, metOn};
 use chip::State;
@@ -121,7 +121,7 @@ pub fn whole(log: &[u8], memory: &[u8]) -> Answer
     if memory.len() != 32768 {
         return refused(1, 0);
     }
-    let k = log_check::check(log);
+    let k = recording::check(log);
     if k.number != 0 {
         return refused(k.number, k.place);
     }

@@ -14,14 +14,14 @@ use Rattle.bus.specs.declared.Access.the-variants as bus
 use Rattle.log_line.specs.declared.Act.{Act}
 use Rattle.log_line.specs.declared.Act.the-variants.{Wait, Access}
 use Rattle.log_line.specs.Printed.{Allowed}
-use Rattle.log_rules.specs.Head.{machineOf}
+use Rattle.recording.specs.Whole.{machineOf}
 use Rattle.log_rules.specs.Tree.{acts, clocks, actClocks}
-use Rattle.log_rules.specs.Whole.{treeOf, checkOf}
+use Rattle.recording.specs.Whole.{treeOf, checkOf}
 use Rattle.log_passing.proofs.ActLaws.{Every, every-acts, clocksIn, clocks-listed}
-use Rattle.log_passing.proofs.Passing.{clear, stands}
-use Rattle.log_cursor.specs.declared.Cursor.{Cursor}
-use Rattle.log_cursor.specs.Stepping as cursor
-use Rattle.log_cursor.proofs.Whole.{cursor-gives}
+use Rattle.recording.proofs.Passing.{clear, tree-within}
+use Rattle.recording_cursor.specs.declared.Cursor.{Cursor}
+use Rattle.recording_cursor.specs.Stepping as cursor
+use Rattle.recording_cursor.proofs.Whole.{cursor-gives}
 use Rattle.reading.specs.Saying.{over, on, says, Gives, ends, goes, gives}
 use Rattle.reading.proofs.SayingLaws.{within}
 use Rattle.chip.specs.Clock.{chipClock}
@@ -176,7 +176,7 @@ module _ (log memory : List ℕ) (long : length memory ≡ 32768) (bytes : Bytes
   changes-told =
       let c = clear log h .in-clocks in
       let d = clocks-listed (treeOf log) in
-      let every = every-acts (treeOf log) 0 (stands log h .within) in
+      let every = every-acts (treeOf log) 0 (tree-within log h) in
       rw d at
       (acts-said log memory (clocks (treeOf log)) long bytes (cursor-gives log h) 0 (powerOn (machineOf log)) every
       (power-on-in (machineOf log)) (omega arith) c)

@@ -12,14 +12,14 @@ use Rattle.bus.specs.declared.Access.the-variants as bus
 use Rattle.log_line.specs.declared.Act.{Act}
 use Rattle.log_line.specs.declared.Act.the-variants.{Wait, Access}
 use Rattle.log_line.specs.Printed.{Allowed}
-use Rattle.log_rules.specs.Head.{machineOf}
+use Rattle.recording.specs.Whole.{machineOf}
 use Rattle.log_rules.specs.Tree.{acts, actClocks}
-use Rattle.log_rules.specs.Whole.{treeOf, checkOf}
+use Rattle.recording.specs.Whole.{treeOf, checkOf}
 use Rattle.log_passing.proofs.ActLaws.{Every, every-acts, clocksIn, clocks-listed}
-use Rattle.log_passing.proofs.Passing.{clear, stands}
-use Rattle.log_cursor.specs.declared.Cursor.{Cursor}
-use Rattle.log_cursor.specs.Stepping.{stepOf}
-use Rattle.log_cursor.proofs.Whole.{cursor-gives}
+use Rattle.recording.proofs.Passing.{clear, tree-within}
+use Rattle.recording_cursor.specs.declared.Cursor.{Cursor}
+use Rattle.recording_cursor.specs.Stepping.{stepOf}
+use Rattle.recording_cursor.proofs.Whole.{cursor-gives}
 use Rattle.reading.specs.Saying.{over, on, says, Gives, ends, goes, gives}
 use Rattle.reading.proofs.SayingLaws.{by-says, by-on, by-over}
 use Rattle.chip.specs.Clock.{chipClock}
@@ -83,4 +83,4 @@ module _ (log memory : List ℕ) (long : length memory ≡ 32768) (bytes : Bytes
   waits-said h =
       let c = clear log h .in-clocks in
       let d = clocks-listed (treeOf log) in
-      acts-said (cursor-gives log h) 0 (powerOn (machineOf log)) (every-acts (treeOf log) 0 (stands log h .within)) (power-on-in (machineOf log)) (omega arith)
+      acts-said (cursor-gives log h) 0 (powerOn (machineOf log)) (every-acts (treeOf log) 0 (tree-within log h)) (power-on-in (machineOf log)) (omega arith)

@@ -12,13 +12,13 @@ use Rattle.arith.specs.Pick.{pick}
 use Rattle.bus.specs.declared.Access as busAccess
 use Rattle.log_line.specs.declared.Act.{Act}
 use Rattle.log_line.specs.declared.Act.the-variants.{Wait, Access}
-use Rattle.log_rules.specs.Head.{machineOf}
+use Rattle.recording.specs.Whole.{machineOf}
 use Rattle.log_rules.specs.Tree.{acts}
-use Rattle.log_rules.specs.Whole.{treeOf, checkOf}
+use Rattle.recording.specs.Whole.{treeOf, checkOf}
 use Rattle.log_rules.specs.declared.Checked.{Checked}
-use Rattle.log_cursor.specs.declared.Cursor.{Cursor}
-use Rattle.log_cursor.specs.Stepping.{stepOf}
-use Rattle.log_cursor.proofs.Whole.{cursor-gives}
+use Rattle.recording_cursor.specs.declared.Cursor.{Cursor}
+use Rattle.recording_cursor.specs.Stepping.{stepOf}
+use Rattle.recording_cursor.proofs.Whole.{cursor-gives}
 use Rattle.reading.specs.Saying.{Gives}
 use Rattle.chip.specs.Clock.{chipClock}
 use Rattle.chip.specs.Level.{stateLevel}

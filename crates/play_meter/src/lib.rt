@@ -4,9 +4,9 @@ ghost use mathlib.Core.Bool.{true, false};
 ghost use Prim.Native.Nat.{_≤_};
 ghost use lib.ListN.{length};
 ghost use Rattle.chip.specs.Range.{inRange};
-ghost use Rattle.log_rules.specs.Head.{machineOf};
+ghost use Rattle.recording.specs.Whole.{machineOf};
 ghost use Rattle.log_rules.specs.Tree.{acts};
-ghost use Rattle.log_rules.specs.Whole.{treeOf, checkOf};
+ghost use Rattle.recording.specs.Whole.{treeOf, checkOf};
 ghost use Rattle.play_meter.specs.Meters.{actsMeter, refusedAnswer, logMeter};
 ghost use Rattle.play_meter.specs.Walking.{heardOf, clocksOn, heardBy, metOn};
 use chip::State;
@@ -131,7 +131,7 @@ pub fn whole(log: &[u8], memory: &[u8]) -> Answer
     if memory.len() != 32768 {
         return refused(1, 0);
     }
-    let k = log_check::check(log);
+    let k = recording::check(log);
     if k.number != 0 {
         return refused(k.number, k.place);
     }

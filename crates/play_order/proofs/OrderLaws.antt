@@ -1,7 +1,7 @@
 -- Request 13 in a log: two logs that differ in two neighbouring write lines to different channels, which have changed places. Assumes nothing.
 use Prim.Native.Nat.{ℕ, zero, suc, _+_, _-_, _≤_}
-use mathlib.Core.Path.{_≡_, refl, ap, _∙_}
-use mathlib.Core.Bool.{true}
+use mathlib.Core.Path.{_≡_, refl, sym, ap, _∙_}
+use mathlib.Core.Bool.{true, false}
 use mathlib.Core.List.{List, [], _∷_, _++_}
 use lib.Dec.{ltb}
 use borrow.Author.Tests.{le-leb}
@@ -13,8 +13,10 @@ use Rattle.bus.specs.declared.Access.the-variants.{Write}
 use Rattle.log_line.specs.declared.Act.{Act}
 use Rattle.log_line.specs.declared.Act.the-variants.{Wait, Access}
 use Rattle.log_line.specs.Printed.{Allowed}
-use Rattle.log_rules.specs.Head.{machineOf}
-use Rattle.log_rules.specs.Whole.{checkOf}
+use Rattle.log_rules.specs.Tree.{acts}
+use Rattle.recording.specs.Whole.{isFile, machineOf, treeOf, checkOf}
+use Rattle.recording.proofs.ByteLaws.{bytes-swap}
+use Rattle.recording.proofs.KindLaws.{log-machine, log-tree, log-check, front-file}
 use Rattle.chip.specs.Clock.{chipClock}
 use Rattle.chip.specs.Level.{stateLevel}
 use Rattle.chip.specs.Range.{powerOn}
@@ -27,7 +29,7 @@ use Rattle.play_at.specs.Reached.{atOf, reached, stateAt}
 use Rattle.play_at.specs.declared.At.{At}
 use Rattle.run_order.specs.Order.{Apart}
 use Rattle.run_order.proofs.WriteLaws.{writes-swap}
-use Rattle.play_order.specs.Order.{toLevel, SameBut, ends, line, by-way, LinesSwap}
+use Rattle.play_order.specs.Order.{writeLine, toLevel, SameBut, ends, line, by-way, LinesSwap}
 use Rattle.play_order.proofs.TreeLaws.{Swapped, finish, next, cross, acts-swapped}
 use Rattle.play_order.proofs.LogLaws.{machine-same, exchanged, check-same, log, log′}
 
@@ -90,14 +92,18 @@ is-register register low high = rw (le-leb 0x4000 register low, le-leb register 
 -- REQUEST 13 IN A LOG
 pub lines-swap : LinesSwap
 unfolding stateAt entriesOf
-lines-swap front back register register′ value value′ apart byte byte′ =
+lines-swap front back register register′ value value′ apart byte byte′ kind =
     let p : Allowed (Access (Write register value)) = (is-register register (apart .low) (apart .high), byte) in
     let q : Allowed (Access (Write register′ value′)) = (is-register register′ (apart .low′) (apart .high′), byte′) in
     let one : List ℕ = log front back register register′ value value′ in
     let other : List ℕ = log′ front back register register′ value value′ in
-    let check : checkOf one ≡ checkOf other = check-same front back register register′ value value′ p q in
-    let machine : machineOf one ≡ machineOf other = machine-same front back register register′ value value′ in
-    let list = acts-swapped _ _ (exchanged front back register register′ value value′ p q) in
+    let kind′ : isFile other ≡ false = sym (front-file front _ _ (bytes-swap (writeLine register value) (writeLine register′ value′) back)) ∙ kind in
+    let check : checkOf one ≡ checkOf other =
+    log-check one kind ∙ (check-same front back register register′ value value′ p q ∙ sym (log-check other kind′)) in
+    let machine : machineOf one ≡ machineOf other =
+    log-machine one kind ∙ (machine-same front back register register′ value value′ ∙ sym (log-machine other kind′)) in
+    let list : Swapped (Access (Write register value)) (Access (Write register′ value′)) (acts (treeOf one)) (acts (treeOf other)) =
+    rw (log-tree one kind, log-tree other kind′) (acts-swapped _ _ (exchanged front back register register′ value value′ p q)) in
     record {
       check = check;
       states = λ memory c. rw (check, machine, same-reached register register′ value value′ apart memory c list 0 (powerOn (machineOf other)));

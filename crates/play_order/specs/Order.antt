@@ -2,6 +2,7 @@
 -- neighbouring write lines, to different channels, which have changed places.
 use Prim.Native.Nat.{ℕ, _≤_}
 use mathlib.Core.Path.{_≡_}
+use mathlib.Core.Bool.{false}
 use mathlib.Core.List.{List, [], _∷_, _++_}
 use lib.Dec.{eqb}
 use Rattle.arith.specs.Pick.{pick}
@@ -9,9 +10,8 @@ use Rattle.bus.specs.declared.Access.the-variants.{Write}
 use Rattle.log_line.specs.declared.Act.the-variants.{Access}
 use Rattle.log_line.specs.declared.Line.the-variants.{One}
 use Rattle.log_line.specs.Printed.{lineText}
-use Rattle.log_rules.specs.Head.{machineOf}
 use Rattle.log_rules.specs.Tree.{acts}
-use Rattle.log_rules.specs.Whole.{treeOf, checkOf}
+use Rattle.recording.specs.Whole.{isFile, machineOf, treeOf, checkOf}
 use Rattle.play_text.specs.declared.Entry.{Entry}
 use Rattle.play_text.specs.declared.Entry.the-variants.{Level}
 use Rattle.play_rules.specs.Sound.{entriesOf}
@@ -45,10 +45,10 @@ pub record SameSound (log log′ : List ℕ) : Type 0 where
   -- and so are the player's lines, but for the levels on the way at the two writes themselves
   pub entries : (memory : List ℕ) → SameBut (entriesOf (machineOf log) memory (acts (treeOf log))) (entriesOf (machineOf log′) memory (acts (treeOf log′)))
 
--- REQUEST 13 IN A LOG, whatever stands before and behind the two lines, also inside loops; a value that is written is a byte
+-- REQUEST 13 IN A LOG, which is no VGM file, whatever stands before and behind the two lines, also inside loops; a value that is written is a byte
 abbrev pub LinesSwap : Type 0
 LinesSwap =
     (front back : List ℕ) (register register′ value value′ : ℕ) → Apart register register′ → value ≤ 255 → value′ ≤ 255
     → let one = writeLine register value in
     let other = writeLine register′ value′ in
-    SameSound (logWith front one other back) (logWith front other one back)
+    isFile (logWith front one other back) ≡ false → SameSound (logWith front one other back) (logWith front other one back)

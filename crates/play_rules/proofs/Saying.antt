@@ -11,13 +11,13 @@ use Rattle.bus.specs.declared.Access.the-variants as bus
 use Rattle.log_line.specs.declared.Act.{Act}
 use Rattle.log_line.specs.declared.Act.the-variants as line
 use Rattle.log_rules.specs.Tree.{acts, actClocks}
-use Rattle.log_rules.specs.Whole.{treeOf, checkOf}
+use Rattle.recording.specs.Whole.{treeOf, checkOf}
 use Rattle.log_passing.proofs.ActLaws.{Every, every-acts, clocksIn, clocks-listed}
-use Rattle.log_passing.proofs.Passing.{clear, stands}
+use Rattle.recording.proofs.Passing.{clear, tree-within}
 use Rattle.reading.specs.Saying.{over, on, says, Gives, ends, goes, gives}
-use Rattle.log_cursor.specs.declared.Cursor.{Cursor}
-use Rattle.log_cursor.specs.Stepping.{beginning, stepOf}
-use Rattle.log_cursor.proofs.Whole.{cursor-gives}
+use Rattle.recording_cursor.specs.declared.Cursor.{Cursor}
+use Rattle.recording_cursor.specs.Stepping.{beginning, stepOf}
+use Rattle.recording_cursor.proofs.Whole.{cursor-gives}
 use Rattle.chip.specs.Level.{stateLevel}
 use Rattle.chip.specs.Range.{powerOn}
 use Rattle.chip.specs.declared.State.{State}
@@ -153,5 +153,5 @@ module _ (log memory : List ℕ) where
       let few = clear log h .in-clocks in
       let sum = clocks-listed (treeOf log) in
       by-tell (turnOf log memory) 1 (turn-play pal)
-      (by-tell (turnOf log memory) 1 (turn-level pal) (acts-told (cursor-gives log h) (omega arith) 0 (powerOn pal) (every-acts (treeOf log) 0 (stands log h .within)) (omega arith)) (omega arith))
+      (by-tell (turnOf log memory) 1 (turn-level pal) (acts-told (cursor-gives log h) (omega arith) 0 (powerOn pal) (every-acts (treeOf log) 0 (tree-within log h)) (omega arith)) (omega arith))
       (omega arith)

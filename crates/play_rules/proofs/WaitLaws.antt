@@ -15,7 +15,7 @@ use Rattle.run_answer.specs.Run.{chipClockwork}
 use Rattle.chip.specs.Range.{inRange, Bytes}
 use Rattle.chip.specs.declared.State.{State}
 use Rattle.chip.proofs.RangeLaws.{StateRanged, state-in, state-back, clock-kept}
-use Rattle.log_cursor.specs.declared.Cursor.{Cursor}
+use Rattle.recording_cursor.specs.declared.Cursor.{Cursor}
 use Rattle.play_text.specs.declared.Entry.{Entry}
 use Rattle.play_text.specs.declared.Entry.the-variants.{Level}
 use Rattle.play_rules.specs.declared.Player.{Player}

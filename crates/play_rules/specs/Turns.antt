@@ -10,8 +10,8 @@ use Rattle.bus.specs.declared.Access.the-variants as bus
 use Rattle.log_line.specs.declared.Act.{Act}
 use Rattle.log_line.specs.declared.Act.the-variants as line
 use Rattle.reading.specs.Saying.{Said, over, on, says, refused, Turn}
-use Rattle.log_cursor.specs.declared.Cursor.{Cursor}
-use Rattle.log_cursor.specs.Stepping.{beginning, stepOf}
+use Rattle.recording_cursor.specs.declared.Cursor.{Cursor}
+use Rattle.recording_cursor.specs.Stepping.{beginning, stepOf}
 use Rattle.reading.specs.Reading.{Mark, Progress, plain}
 use Rattle.run_answer.specs.Run.{chipClockwork}
 use Rattle.chip.specs.Level.{stateLevel}

@@ -1,6 +1,6 @@
 // The player as a teller that says lines: definitions and laws, no code but its phases.
 use chip::State;
-use log_cursor::Cursor;
+use recording_cursor::Cursor;
 
 // The phases of a player: `play=1` is due; the first level is; the log's acts go on; from `OVER` on all is over.
 pub const OPENING: u8 = 0;

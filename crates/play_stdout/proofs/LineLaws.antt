@@ -12,10 +12,10 @@ use Rattle.bus.specs.declared.Access.the-variants as bus
 use Rattle.log_line.specs.declared.Act.{Act}
 use Rattle.log_line.specs.declared.Act.the-variants as line
 use Rattle.log_rules.specs.Tree.{acts, actClocks}
-use Rattle.log_rules.specs.Whole.{treeOf, checkOf}
+use Rattle.recording.specs.Whole.{treeOf, checkOf}
 use Rattle.log_rules.proofs.CheckLaws.{acts-le}
 use Rattle.log_passing.proofs.ActLaws.{clocksIn, clocks-listed}
-use Rattle.log_passing.proofs.Passing.{clear}
+use Rattle.recording.proofs.Passing.{clear}
 use Rattle.chip.specs.Clock.{chipClock}
 use Rattle.chip.specs.Level.{stateLevel}
 use Rattle.chip.specs.Range.{powerOn}

@@ -9,8 +9,8 @@ use lib.Dec.{eqb}
 use lib.ListN.{length, take}
 use borrow.Author.Tests.{le-leb}
 use Rattle.arith.specs.Pick.{pick, either}
-use Rattle.log_rules.specs.Head.{machineOf}
-use Rattle.log_rules.specs.Whole.{checkOf}
+use Rattle.recording.specs.Whole.{machineOf}
+use Rattle.recording.specs.Whole.{checkOf}
 use Rattle.chip.specs.Range.{inRange}
 use Rattle.chip_api.specs.Answer.{isMemory}
 use Rattle.play_rules.specs.declared.Player.{Player}

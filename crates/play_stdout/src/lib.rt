@@ -2,7 +2,7 @@
 ghost use mathlib.Core.Path.{_≡_};
 ghost use Prim.Native.Nat.{_≤_};
 ghost use lib.ListN.{length};
-ghost use Rattle.log_rules.specs.Head.{machineOf};
+ghost use Rattle.recording.specs.Whole.{machineOf};
 ghost use Rattle.play_text.specs.Entries.{refusalText};
 ghost use Rattle.play_rules.specs.Turns.{freshPlayer};
 ghost use Rattle.play_begin.specs.Whole.{playNumber, playText};

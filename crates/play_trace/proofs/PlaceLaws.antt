@@ -8,8 +8,8 @@ use lib.ListN.{length}
 use Rattle.arith.specs.Iterate.{iterate}
 use Rattle.bus.specs.declared.Access as busAccess
 use Rattle.log_line.specs.declared.Act.the-variants.{Wait, Access}
-use Rattle.log_cursor.specs.declared.Cursor.{Cursor}
-use Rattle.log_cursor.specs.Stepping as cursor
+use Rattle.recording_cursor.specs.declared.Cursor.{Cursor}
+use Rattle.recording_cursor.specs.Stepping as cursor
 use Rattle.reading.specs.Saying.{over, on, says}
 use Rattle.chip.specs.Clock.{chipClock}
 use Rattle.chip.specs.Range.{inRange}

@@ -21,14 +21,14 @@ use Rattle.bus.specs.declared.Access.the-variants as bus
 use Rattle.log_line.specs.declared.Act.{Act}
 use Rattle.log_line.specs.declared.Act.the-variants.{Wait, Access}
 use Rattle.log_line.specs.Printed.{Allowed}
-use Rattle.log_rules.specs.Head.{machineOf}
+use Rattle.recording.specs.Whole.{machineOf}
 use Rattle.log_rules.specs.Tree.{acts, clocks, actClocks}
-use Rattle.log_rules.specs.Whole.{treeOf, checkOf}
+use Rattle.recording.specs.Whole.{treeOf, checkOf}
 use Rattle.log_passing.proofs.ActLaws.{Every, every-acts, clocksIn, clocks-listed}
-use Rattle.log_passing.proofs.Passing.{clear, stands}
-use Rattle.log_cursor.specs.declared.Cursor.{Cursor}
-use Rattle.log_cursor.specs.Stepping as cursor
-use Rattle.log_cursor.proofs.Whole.{cursor-gives}
+use Rattle.recording.proofs.Passing.{clear, tree-within}
+use Rattle.recording_cursor.specs.declared.Cursor.{Cursor}
+use Rattle.recording_cursor.specs.Stepping as cursor
+use Rattle.recording_cursor.proofs.Whole.{cursor-gives}
 use Rattle.reading.specs.Saying.{says, Gives, ends, goes, gives}
 use Rattle.reading.proofs.SayingLaws.{within}
 use Rattle.chip.specs.Clock.{chipClock}
@@ -300,7 +300,7 @@ module _ (log memory : List ℕ) (from until : ℕ) (order : from < until) (long
   window-told =
       let c = clear log h .in-clocks in
       let d = clocks-listed (treeOf log) in
-      let every = every-acts (treeOf log) 0 (stands log h .within) in
+      let every = every-acts (treeOf log) 0 (tree-within log h) in
       let e : 1 + (2000002 + clocksIn (acts (treeOf log))) ≡ 2000003 + clocks (treeOf log) = omega (arith, d) in
       subst (λ (i : ℕ). Told log memory from until (window .end .time) (placeStart log) (window .events) i) e
       (window-from log memory from until long bytes order (cursor-gives log h) 0 (powerOn (machineOf log)) every

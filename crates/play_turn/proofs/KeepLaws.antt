@@ -8,8 +8,8 @@ use Rattle.bus.specs.declared.Access.the-variants as bus
 use Rattle.log_line.specs.declared.Act.{Act}
 use Rattle.log_line.specs.declared.Act.the-variants as line
 use Rattle.reading.specs.Saying.{Said, over, on, says, refused}
-use Rattle.log_cursor.specs.declared.Cursor.{Cursor}
-use Rattle.log_cursor.specs.Stepping.{told}
+use Rattle.recording_cursor.specs.declared.Cursor.{Cursor}
+use Rattle.recording_cursor.specs.Stepping.{told}
 use Rattle.chip.specs.Level.{stateLevel}
 use Rattle.chip.specs.Range.{inRange}
 use Rattle.chip.specs.declared.State.{State}

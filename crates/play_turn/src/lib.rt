@@ -7,11 +7,11 @@ ghost use Rattle.play_rules.specs.Turns.{playerOf, go, levelTold, acted, stepSa
 ghost use Rattle.play_turn.specs.Turned.{went, foundSaid, Keeps};
 use bus::Access;
 use chip::State;
-use log_cursor::Cursor;
 use log_cursor::Given;
 use log_line::Act;
 use play_rules::Player;
 use play_text::Entry;
+use recording_cursor::Cursor;
 
 // What a turn says: that all is over; nothing; a line; or a refusal's number and place.
 pub enum Told {
@@ -156,7 +156,7 @@ fn cursor_turn(log: &[u8], p: Player) -> Went
     ensures { λ r. ⌜ Keeps p r ⌝ }
 {
     let c = p.cursor;
-    let s = log_cursor::step(log, c);
+    let s = recording_cursor::step(log, c);
     let f = s.found;
     let next = s.cursor;
     stepped_to(p, f, next)

@@ -6,9 +6,9 @@ use native.Mathlib.Omega.{arith}
 use Rattle.bus.specs.declared.Access as busAccess
 use Rattle.log_line.specs.declared.Act.{Act}
 use Rattle.log_line.specs.declared.Act.the-variants.{Wait, Access}
-use Rattle.log_cursor.specs.declared.Cursor.{Cursor}
+use Rattle.recording_cursor.specs.declared.Cursor.{Cursor}
 use Rattle.log_cursor.specs.declared.Given.{Given}
-use Rattle.log_cursor.specs.Stepping.{stepOf, told}
+use Rattle.recording_cursor.specs.Stepping.{stepOf, told}
 use Rattle.reading.specs.Saying.{Gives, ends, goes, gives}
 use Rattle.reading.proofs.SayingLaws.{within}
 use Rattle.chip.specs.Level.{stateLevel}

@@ -6,10 +6,10 @@ use Rattle.arith.specs.Iterate.{iterate}
 use Rattle.arith.specs.Pick.{pick, both}
 use Rattle.log_line.specs.declared.Act.{Act}
 use Rattle.log_line.specs.declared.Act.the-variants.{Wait, Access}
-use Rattle.log_rules.specs.Head.{machineOf}
-use Rattle.log_cursor.specs.declared.Cursor.{Cursor}
+use Rattle.recording.specs.Whole.{machineOf}
+use Rattle.recording_cursor.specs.declared.Cursor.{Cursor}
 use Rattle.log_cursor.specs.declared.Given.{Given}
-use Rattle.log_cursor.specs.Stepping.{beginning, stepOf, told}
+use Rattle.recording_cursor.specs.Stepping.{beginning, stepOf, told}
 use Rattle.chip.specs.Clock.{chipClock}
 use Rattle.chip.specs.Level.{stateLevel}
 use Rattle.chip.specs.Range.{inRange, powerOn}

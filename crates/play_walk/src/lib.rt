@@ -10,9 +10,9 @@ ghost use Rattle.chip.specs.Range.{inRange};
 ghost use Rattle.play_walk.specs.Walk.{momentOf, walkStart, actMet, actState, walkedTo, givenMet, walkStep, clocksOn};
 use bus::Access;
 use chip::State;
-use log_cursor::Cursor;
 use log_cursor::Given;
 use log_line::Act;
+use recording_cursor::Cursor;
 
 // A moment of a log: the place in it, the state there, and the clocks done.
 pub struct Moment {
@@ -52,8 +52,8 @@ pub fn moment_of(c: Cursor, s: State, time: u64) -> Moment
 pub fn start(log: &[u8]) -> Moment
     ensures { λ r. ⌜ r ≡ walkStart (now (log .entry)) ⌝ }
 {
-    let s = chip::power_on(log_read::is_pal(log));
-    let c = log_cursor::start();
+    let s = chip::power_on(recording::is_pal(log));
+    let c = recording_cursor::start();
     moment_of(c, s, 0)
 }
 
@@ -107,7 +107,7 @@ pub fn step(log: &[u8], m: Moment) -> Walked
     ensures { λ r. ⌜ (inRange (m .state) ≡ true → inRange (r .moment .state) ≡ true) ⌝ }
 {
     let c = m.cursor;
-    let t = log_cursor::step(log, c);
+    let t = recording_cursor::step(log, c);
     let given = t.found;
     let next = t.cursor;
     given_met(given, m, next)

@@ -5,8 +5,8 @@ use mathlib.Core.Bool.{true, false}
 use mathlib.Core.List.{List}
 use borrow.Author.Tests.{eq-eqb, ne-eqb}
 use lib.ListN.{length}
-use Rattle.log_rules.specs.Whole.{checkOf}
-use Rattle.log_passing.proofs.Passing.{clear, passes}
+use Rattle.recording.specs.Whole.{checkOf}
+use Rattle.recording.proofs.Passing.{clear, passes}
 use Rattle.play_begin.specs.Whole.{playNumber, playPlace}
 use Rattle.wav_sample.specs.Samples.{rateRight, samplesIn}
 use Rattle.wav_rules.specs.Sound.{logSamples, wavNumber, wavPlace}
@@ -37,7 +37,7 @@ module _ (log memory : List ℕ) (rate : ℕ) where
       begun-rate e = rw (eq-eqb (length memory) 32768 long, eq-eqb (checkOf log .number) 0 passed, e)
 
       count-is : rateRight rate ≡ true → samplesIn (checkOf log .pal) rate (checkOf log .clocks) ≡ length (logSamples log memory rate)
-      count-is right = rw (passes (clear log passed)) (sym (samples-count log memory rate right))
+      count-is right = rw (passes log passed) (sym (samples-count log memory rate right))
 
       pub begun-file : rateRight rate ≡ true → openedWith rate (samplesIn (checkOf log .pal) rate (checkOf log .clocks)) log ≡ begunOf log memory rate
       unfolding begunOf wavNumber playNumber
@@ -47,4 +47,4 @@ module _ (log memory : List ℕ) (rate : ℕ) where
 
 -- the clocks of a log that passes fit in 32 bits
 pub clocks-fit : (log : List ℕ) → checkOf log .number ≡ 0 → checkOf log .clocks ≤ 2000000000
-clocks-fit log passed = rw (passes (clear log passed)) (clear log passed .in-clocks)
+clocks-fit log passed = rw (passes log passed) (clear log passed .in-clocks)

@@ -6,7 +6,7 @@ use native.Mathlib.Omega.{arith}
 use borrow.Author.Tests.{eq-eqb, ne-eqb}
 use Rattle.reading.specs.Saying.{Said, over, on, says, refused}
 use Rattle.chip.specs.Range.{Bytes}
-use Rattle.log_cursor.specs.Stepping as cursor
+use Rattle.recording_cursor.specs.Stepping as cursor
 use Rattle.wav_sample.proofs.ClockLaws.{before-onward}
 use Rattle.wav_sample.proofs.OrderLaws.{ordered}
 use Rattle.play_walk.specs.Walk.{walkStep}

@@ -12,7 +12,7 @@ use Rattle.arith.specs.Pick.{pick}
 use Rattle.reading.specs.Saying.{over}
 use Rattle.chip.specs.Range.{Bytes}
 use Rattle.chip_api.specs.Answer.{isMemory}
-use Rattle.log_rules.specs.Whole.{checkOf}
+use Rattle.recording.specs.Whole.{checkOf}
 use Rattle.text_print.specs.Printed.{printed}
 use Rattle.play_begin.specs.Whole.{playNumber}
 use Rattle.play_samples.specs.declared.Place.{Place}

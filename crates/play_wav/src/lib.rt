@@ -240,7 +240,7 @@ pub fn begin(log: &[u8], memory: &[u8], rate: u32) -> Begun
     if memory.len() != 32768 {
         return refuse(1, 0, log);
     }
-    let c = log_check::check(log);
+    let c = recording::check(log);
     if c.number != 0 {
         return refuse(c.number, c.place, log);
     }

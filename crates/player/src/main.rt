@@ -14,7 +14,7 @@ fn play(log: &[u8]) -> bool {
 
 // A byte more than a log may have, so that a longer one is seen.
 fn main() {
-    let mut log = [0u8; 60001];
+    let mut log = [0u8; 524289];
     let r = program_io::read_input(b"player", &mut log);
     if r.failed {
         return;

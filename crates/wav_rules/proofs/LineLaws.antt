@@ -4,74 +4,26 @@ use mathlib.Core.Path.{_≡_, refl}
 use mathlib.Core.Bool.{true}
 use mathlib.Core.List.{List}
 use native.Mathlib.Omega.{arith}
-use lib.Dec.{eqb, leb, ltb}
-use lib.ListN.{getD}
+use lib.Dec.{leb}
 use Rattle.arith.specs.Pick.{pick}
-use Rattle.arith.proofs.PickLaws.{pick-both}
 use Rattle.bus.specs.declared.Access as busAccess
 use Rattle.bus.specs.declared.Access.the-variants as bus
 use Rattle.reading.specs.Saying.{Said, over, on, says, refused}
 use Rattle.log_line.specs.declared.Act.{Act}
 use Rattle.log_line.specs.declared.Act.the-variants.{Wait, Access}
-use Rattle.log_line.specs.declared.Line.{Line}
-use Rattle.log_line.specs.declared.Line.the-variants.{Header, Machine, One, Loop, Done, Stop, NoForm, NoRegister}
-use Rattle.log_line.specs.Printed.{Allowed, Printable}
-use Rattle.log_fault.specs.declared.Stand.{Stand}
-use Rattle.log_rules.specs.declared.Reading.{Reading}
-use Rattle.log_rules.specs.declared.Reading.the-variants.{Item, Refused}
-use Rattle.log_rules.specs.Reading.{standing, readIn}
-use Rattle.log_rules.proofs.PlaceLaws.{HadIn, had-in, had-text}
-use Rattle.log_cursor.specs.declared.Cursor.{Cursor}
-use Rattle.log_cursor.specs.Stepping as cursor
-use Rattle.log_cursor.specs.Stepping.{loopsOpen, movedTo, entered, again, turned, followed, readStep}
+use Rattle.log_line.specs.Printed.{Allowed}
+use Rattle.recording_cursor.specs.declared.Cursor.{Cursor}
+use Rattle.recording_cursor.specs.Stepping as cursor
+use Rattle.recording_cursor.proofs.Allowed.{SaysAllowed, step-allowed}
 use Rattle.chip.specs.Range.{inRange}
 use Rattle.chip.specs.declared.State.{State}
 use Rattle.chip_access.specs.Access.{accessState}
 use Rattle.chip_access.proofs.AccessLaws.{Bytewide, access-kept, access-machine}
 use Rattle.play_walk.specs.Walk.{momentOf}
 use Rattle.play_samples.specs.declared.Place.{Place}
-use Rattle.play_samples.specs.Stepping.{Go, placeOf, refusalOf}
+use Rattle.play_samples.specs.Stepping.{placeOf, refusalOf}
 use Rattle.wav_rules.specs.Turns.{turnOf}
 use Rattle.wav_rules.proofs.TurnLaws.{Fine, none-fine, refusal-late, turn-over, turn-on, turn-wait, turn-access, turn-fault}
-
--- AN ACT THAT A CURSOR SAYS IS WITHIN THE LIMITS, whatever the log
-abbrev SaysAllowed : Said Act → Type 0
-SaysAllowed over = Unit {0}
-SaysAllowed on = Unit {0}
-SaysAllowed (says a) = Allowed a
-SaysAllowed (refused k q) = Unit {0}
-
-abbrev GoesAllowed : cursor.Go → Type 0
-GoesAllowed t = SaysAllowed (t .said)
-
-module _ (c : Cursor) where
-  turned-allowed : (d p n : ℕ) → GoesAllowed (turned c d p n)
-  unfolding turned
-  turned-allowed d p n = pick-both GoesAllowed (eqb n 0) {a = cursor.go on (movedTo c (d - 1) p)} {b = cursor.go on (again c d n)} tt tt
-
-  followed-allowed : (d p : ℕ) (l : Line) → Printable l → GoesAllowed (followed c d p l)
-  unfolding followed
-  followed-allowed d p Header h = tt
-  followed-allowed d p Machine h = tt
-  followed-allowed d p (One a) h = h
-  followed-allowed d p (Loop n) h = pick-both GoesAllowed (ltb d 8) {a = cursor.go on (entered c d p n)} {b = cursor.go (refused 7 (c .at)) c} tt tt
-  followed-allowed d p Done h =
-      pick-both GoesAllowed (eqb d 0) {a = cursor.go (refused 8 (c .at)) c} {b = turned c d p (getD (c .left) (d - 1) 0)} tt
-      (turned-allowed d p (getD (c .left) (d - 1) 0))
-  followed-allowed d p (Stop n) h = pick-both GoesAllowed (eqb d 0) {a = cursor.go over c} {b = cursor.go (refused 8 (c .at)) c} tt tt
-  followed-allowed d p NoForm h = tt
-  followed-allowed d p NoRegister h = tt
-
-  read-allowed : (st : Stand) (log : List ℕ) (r : Reading) → HadIn st log (c .at) r → GoesAllowed (readStep c r)
-  unfolding readStep
-  read-allowed st log (Item l p) h = followed-allowed (loopsOpen c) p l (had-text h .1)
-  read-allowed st log (Refused k p) h = tt
-
-step-allowed : (log : List ℕ) (c : Cursor) → GoesAllowed (cursor.stepOf log c)
-unfolding cursor.stepOf
-step-allowed log c =
-    let st = standing log (c .at) (loopsOpen c) in
-    read-allowed c st log (readIn st log (c .at)) (had-in st log (c .at))
 
 pub bytewide : (x : busAccess.Access) → Allowed (Access x) → Bytewide x
 bytewide (bus.Write r v) w = w .1

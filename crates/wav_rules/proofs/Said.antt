@@ -13,14 +13,14 @@ use Rattle.clock_rate.specs.Rate.{clockRate}
 use Rattle.reading.specs.Saying.{Said, over, on, refused, Gives, ends, goes, gives}
 use Rattle.log_line.specs.declared.Act.{Act}
 use Rattle.log_line.specs.declared.Act.the-variants.{Wait, Access}
-use Rattle.log_rules.specs.Head.{machineOf}
+use Rattle.recording.specs.Whole.{machineOf}
 use Rattle.log_rules.specs.Tree.{acts, clocks, actClocks}
-use Rattle.log_rules.specs.Whole.{treeOf, checkOf}
+use Rattle.recording.specs.Whole.{treeOf, checkOf}
 use Rattle.log_passing.proofs.ActLaws.{clocksIn, clocks-listed}
-use Rattle.log_passing.proofs.Passing.{clear}
-use Rattle.log_cursor.specs.declared.Cursor.{Cursor}
-use Rattle.log_cursor.specs.Stepping as cursor
-use Rattle.log_cursor.proofs.Whole.{cursor-gives}
+use Rattle.recording.proofs.Passing.{clear}
+use Rattle.recording_cursor.specs.declared.Cursor.{Cursor}
+use Rattle.recording_cursor.specs.Stepping as cursor
+use Rattle.recording_cursor.proofs.Whole.{cursor-gives}
 use Rattle.chip.specs.Clock.{chipClock}
 use Rattle.chip.specs.Range.{powerOn, Bytes}
 use Rattle.chip.proofs.RangeLaws.{power-on-in}

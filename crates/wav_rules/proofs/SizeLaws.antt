@@ -11,11 +11,11 @@ use Rattle.c_bytes.specs.Numbers.{wideBytes}
 use Rattle.clock_rate.specs.Rate.{clockRate}
 use Rattle.log_line.specs.declared.Act.{Act}
 use Rattle.log_line.specs.declared.Act.the-variants.{Wait, Access}
-use Rattle.log_rules.specs.Head.{machineOf}
+use Rattle.recording.specs.Whole.{machineOf}
 use Rattle.log_rules.specs.Tree.{acts, clocks, actClocks}
-use Rattle.log_rules.specs.Whole.{treeOf, checkOf}
+use Rattle.recording.specs.Whole.{treeOf, checkOf}
 use Rattle.log_passing.proofs.ActLaws.{clocksIn, clocks-listed}
-use Rattle.log_passing.proofs.Passing.{clear}
+use Rattle.recording.proofs.Passing.{clear}
 use Rattle.chip.specs.Clock.{chipClock}
 use Rattle.chip.specs.Range.{powerOn}
 use Rattle.chip.specs.declared.State.{State}

@@ -11,7 +11,7 @@ use Rattle.arith.specs.Pick.{pick}
 use Rattle.bus.specs.declared.Access as busAccess
 use Rattle.reading.specs.Saying.{over, on, says, refused}
 use Rattle.log_line.specs.declared.Act.the-variants.{Wait, Access}
-use Rattle.log_cursor.specs.Stepping as cursor
+use Rattle.recording_cursor.specs.Stepping as cursor
 use Rattle.chip.specs.Range.{inRange}
 use Rattle.chip_access.specs.Access.{accessState}
 use Rattle.chip_api.specs.Answer.{isMemory}

@@ -9,9 +9,9 @@ use Rattle.text.specs.Ascii.{bytes}
 use Rattle.c_bytes.specs.Numbers.{wideBytes}
 use Rattle.log_line.specs.declared.Act.{Act}
 use Rattle.log_line.specs.declared.Act.the-variants.{Wait, Access}
-use Rattle.log_rules.specs.Head.{machineOf}
+use Rattle.recording.specs.Whole.{machineOf}
 use Rattle.log_rules.specs.Tree.{acts}
-use Rattle.log_rules.specs.Whole.{treeOf}
+use Rattle.recording.specs.Whole.{treeOf}
 use Rattle.chip.specs.Clock.{chipClock}
 use Rattle.chip.specs.Range.{powerOn}
 use Rattle.chip.specs.declared.State.{State}

@@ -349,10 +349,9 @@ pub(crate) fn piece(bytes: &mut [u8], log: &[u8], memory: &[u8], size: usize) ->
         };
     }
     // With no room for a sample the log needn't be looked at, nor behind many turns.
-    let free =
-        |turns: u64| before.is_some_and(|before| before.refusal().is_none()) && (size < 2 || turns >= MOST_SILENT);
+    let by_log = memory.len() == MEMORY && before.is_some_and(|before| before.refusal().is_none());
     if let Some((fault, turns)) = refused
-        && !free(turns)
+        && !(by_log && (size < 2 || turns >= MOST_SILENT))
     {
         return wrong(format!("the machine comes to {fault:?} before any sample"));
     }

@@ -2,7 +2,7 @@ use mathlib.Core.Path.{ap, _∙_}
 use Prim.Native.Nat.{ℕ}
 use borrow.Author.Needs.{needs}
 use Rattle.c_log.specs.Logs.{logPacked}
-use Rattle.c_log.proofs.TotalLaws.{place-is}
+use Rattle.recording.proofs.Limits.{place-is}
 use Rattle.c_play.proofs.PlayerLaws.{not-begun, begun, begun-place}
 use Rattle.c_play.proofs.begin.Statement.{statement}
 use Rattle.c_play.proofs.begin.Tie as tie

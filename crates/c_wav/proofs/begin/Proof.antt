@@ -3,7 +3,7 @@ use mathlib.Core.Path.{ap, _∙_}
 use native.Mathlib.Omega.{arith}
 use borrow.Author.Needs.{needs}
 use Rattle.c_log.specs.Logs.{logPacked}
-use Rattle.c_log.proofs.TotalLaws.{place-is}
+use Rattle.recording.proofs.Limits.{place-is}
 use Rattle.c_wav.proofs.FileLaws.{Low, begun-low, not-begun, begun}
 use Rattle.c_wav.proofs.begin.Statement.{statement}
 use Rattle.c_wav.proofs.begin.Tie as tie

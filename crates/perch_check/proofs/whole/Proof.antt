@@ -15,11 +15,11 @@ returns c =
 
 returns-2 : tie.Need-returns-2
 returns-2 c =
-    let r = c .before .before .before .before .before .before in
+    let r = c .before .before in
     let f = r .before .before .before .before .before .before in
     let k = f .before .before .before .check in
     rw (text-refused _ (k .result) (sym (k .ensures)) (r .before .before .if1 .left))
-    (puts-then (bytes "check=1\n") _ (puts _ (f .fixed .ensures)) (puts-then _ _ (r .refused .ensures) (c .before .before .more .ensures)))
+    (puts-then (bytes "check=1\n") _ (puts _ (f .fixed .ensures)) (r .failed .ensures))
 
 pub whole-spec : {M : Type 1} → statement M
 whole-spec =
@@ -31,7 +31,6 @@ whole-spec =
     (λ c κs. tt)
     (λ c. search needs)
     returns
-    (λ c κs. tt)
     (λ c κs. tt)
     (λ c. search needs)
     returns-2)

@@ -19,17 +19,29 @@ unfolding reasonText
 returns-3 c = rw (c .before .before .before .before .before .match .keys3) (c .before .before .fixed3 .ensures)
 
 returns-4 : tie.Need-returns-4
-returns-4 c =
+unfolding reasonText
+returns-4 c = rw (c .before .before .before .before .before .match .keys4) (c .before .before .fixed4 .ensures)
+
+returns-5 : tie.Need-returns-5
+unfolding reasonText
+returns-5 c = rw (c .before .before .before .before .before .match .keys5) (c .before .before .fixed5 .ensures)
+
+returns-6 : tie.Need-returns-6
+returns-6 c =
     let a = c .before .before .before .before .before .before .before in
     let r = c .before .before .before .before .before .match .rest in
-    let w = c .before .before .fixed4 .ensures in
-    let e = above (a .args .number) (a .pre) (r .0 .0 .1) (r .0 .1) (r .1) in
+    let w = c .before .before .fixed6 .ensures in
+    let e = above (a .args .number) (a .pre) (r .0 .0 .0 .0 .1) (r .0 .0 .0 .1) (r .0 .0 .1) (r .0 .1) (r .1) in
     (w .0 ∙ ap (placed (a .args .out .now) (a .args .at)) (sym e), w .1 ∙ ap (printed (a .args .out .now) (a .args .at)) (sym e))
 
 pub last-spec : {M : Type 1} → statement M
 last-spec =
     tie.close
     (tie.spec
+    (λ c. refl)
+    (λ c κs. tt)
+    (λ c. refl)
+    (λ c κs. tt)
     (λ c. refl)
     (λ c κs. tt)
     (λ c. refl)
@@ -45,4 +57,8 @@ last-spec =
     (λ c. search needs)
     returns-3
     (λ c. search needs)
-    returns-4)
+    returns-4
+    (λ c. search needs)
+    returns-5
+    (λ c. search needs)
+    returns-6)

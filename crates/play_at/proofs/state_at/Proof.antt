@@ -3,7 +3,7 @@ use mathlib.Core.Bool.{false}
 use Rattle.chip.specs.Range.{inRange}
 use Rattle.chip.proofs.RangeLaws.{power-on-in}
 use Rattle.log_rules.specs.declared.Checked.{Checked}
-use Rattle.log_rules.specs.Whole.{checkOf}
+use Rattle.recording.specs.Whole.{checkOf}
 use Rattle.play_at.specs.declared.At.{At}
 use Rattle.play_at.proofs.WalkLaws.{refused-one, refused-log, at-is}
 use Rattle.play_at.proofs.state_at.Statement.{statement}

@@ -2,7 +2,7 @@ use borrow.Author.Needs.{needs}
 use mathlib.Core.Path.{_≡_, sym, ap, _∙_}
 use native.Mathlib.Omega.{arith}
 use Rattle.log_rules.specs.declared.Checked.{Checked}
-use Rattle.log_rules.specs.Whole.{checkOf}
+use Rattle.recording.specs.Whole.{checkOf}
 use Rattle.play_meter.proofs.WalkLaws.{refused-one, refused-log, meter-is}
 use Rattle.play_meter.proofs.whole.Statement.{statement}
 use Rattle.play_meter.proofs.whole.Tie as tie

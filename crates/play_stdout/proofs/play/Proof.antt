@@ -4,7 +4,7 @@ use Prim.Native.Nat.{ℕ}
 use mathlib.Core.List.{List}
 use borrow.Author.Needs.{needs}
 use borrow.Author.Tests.{eq-eqb, ne-eqb}
-use Rattle.log_rules.specs.Head.{machineOf}
+use Rattle.recording.specs.Whole.{machineOf}
 use Rattle.play_text.specs.Entries.{refusalText}
 use Rattle.play_rules.specs.Turns.{freshPlayer}
 use Rattle.play_begin.specs.declared.Begun.{Begun}

@@ -22,6 +22,9 @@ returns c =
     ∙ wait-passed (a .memory .now) (a .n) (a .m) (h .result) (c .before .moment-of .result) (c .before .before .before .told .result)
     (h .ensures .0 ∙ rw (w, c .before .before .before .before .before .before .before .before .before .before .at-level .ensures, c .before .before .before .before .before .before .before .before .before .before .before .level .ensures) refl) (c .before .before .before .told .ensures) (c .before .moment-of .ensures ∙ rw w refl)
 
+same-length : tie.Need-same-length
+same-length c = c .before .before .before .before .before .before .before .before .clocks-on .kept .1 .1 .1 .1 .0
+
 pub pass-wait-spec : {M : Type 1} → statement M
 pass-wait-spec =
     tie.close
@@ -35,5 +38,5 @@ pass-wait-spec =
     add-moment-of
     (λ c κs. tt)
     (λ c κs. tt)
-    (λ c. search needs)
+    same-length
     returns)

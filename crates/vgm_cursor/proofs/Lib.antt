@@ -1,0 +1,4 @@
+pub mod CommandLaws
+pub mod ReadLaws
+pub mod WaitLaws
+pub mod WalkLaws
