@@ -11,7 +11,7 @@
  * An answer is one 64-bit number: its low 8 bits are the answer's number, PERCH_DONE or a refusal, and the bits above
  * are its value. A refused call answers its number, about a log its place too, with value 0, and leaves all that was
  * lent to it as it was. Where several refusals hold the lowest is given; in a log 5 comes before 4, and of 4, 7, 8 and
- * 14 to 19 the first line at fault wins, before 9 to 12.
+ * 14 to 19 the first line at fault wins, before 9 to 12; a VGM file has an order of its own (RECORDINGS).
  *
  *   answer of            bits 8 and up
  *   access               8..15 PERCH_BYTE, 16..31 PERCH_LEVEL_AFTER, 32 PERCH_DIFFERS
@@ -65,10 +65,11 @@ extern "C" {
 #define PERCH_MEMORY_SIZE 32768    /* bytes of sample memory, $8000 to $FFFF */
 #define PERCH_MOST_CLOCKS 1000000  /* clocks that one run may be asked for */
 #define PERCH_MOST_SHEET 4081      /* bytes that one sheet may be asked for */
-#define PERCH_PLAYER_SIZE 190      /* bytes of a player; perch_player_size() at run time */
+#define PERCH_MOST_VGM 524288      /* bytes of the longest VGM file that is a recording */
+#define PERCH_PLAYER_SIZE 198      /* bytes of a player; perch_player_size() at run time */
 #define PERCH_PLAYER_TIME 5        /* the first of the four bytes of a player that tell its time */
 #define PERCH_CURSOR_SIZE 88       /* bytes of a cursor; perch_cursor_size() at run time */
-#define PERCH_WAV_SIZE 216         /* bytes of a WAV file under way; perch_wav_size() at run time */
+#define PERCH_WAV_SIZE 224         /* bytes of a WAV file under way; perch_wav_size() at run time */
 #define PERCH_LONGEST_LINE 23      /* bytes of the longest line that a player writes, with its line feed */
 #define PERCH_REFUSAL_SIZE 40      /* bytes in which the text of any refusal fits */
 
@@ -80,7 +81,7 @@ extern "C" {
 #define PERCH_REFUSED_STATE 2     /* the bytes are no state in range, no player, no cursor or no WAV file under way */
 #define PERCH_REFUSED_CLOCKS 3    /* a run of more than PERCH_MOST_CLOCKS */
 #define PERCH_REFUSED_REGISTER 4  /* register not among $4000..$4013, $4015, $4017 */
-#define PERCH_REFUSED_LONG 5      /* log longer than 60,000 bytes */
+#define PERCH_REFUSED_LONG 5      /* log longer than 60,000 bytes, or VGM file longer than PERCH_MOST_VGM */
 #define PERCH_REFUSED_DEPTH 7     /* a ninth loop opened inside eight */
 #define PERCH_REFUSED_UNMATCHED 8 /* `done` with no loop open, or `stop` with one open */
 #define PERCH_REFUSED_TOTALS 9    /* over 2,000,000,000 clocks or 1,000,000 turns in all */
@@ -108,6 +109,9 @@ extern "C" {
 #define PERCH_REFUSED_LIST 31     /* the list of what was done to repair a log has no room */
 #define PERCH_REFUSED_FOLD_ROOM 32 /* the buffer is shorter than the log to be folded */
 #define PERCH_REFUSED_RATE 33     /* of a WAV file: rate outside 8000..192000 */
+#define PERCH_REFUSED_SAMPLE_BLOCK 34 /* a VGM sample block without an address, or outside $8000..$FFFF */
+#define PERCH_REFUSED_HEADER 35   /* a VGM file whose header is cut short, or points out of the file */
+#define PERCH_REFUSED_TWO_CHIPS 36 /* a VGM file for two chips */
 
 /* The number of an answer, and its value. */
 #define PERCH_NUMBER(answer) ((unsigned)((answer) & 0xff))
@@ -263,10 +267,24 @@ uint64_t perch_body(const uint8_t *log, size_t n, uint64_t offset);
 #define PERCH_START(answer) ((uint32_t)((uint64_t)(answer) >> 32 & 0xffff))
 #define PERCH_LENGTH(answer) ((uint32_t)((uint64_t)(answer) >> 48))
 
-/* Makes the n bytes, whatever they held, the state at a clock of the log of ln bytes: after exactly so many clocks from
- * power-on on the log's machine, accesses stamped with that clock done; at the log's end where that comes before. So a
- * program stops at any clock, looks at the state, and goes on from it. The value is the clock reached. Refused, and the
- * bytes stay: 1; n isn't the size of a state (2); as the log. */
+/* RECORDINGS. A recording is a log, or a VGM file, which begins with the four bytes `Vgm `. perch_state_at, perch_begin,
+ * perch_play_on, perch_wav_begin and perch_wav_on take a recording; every other function that takes a log takes no other.
+ *
+ * A VGM file stands for the acts of its commands as perch_import has them, on its own machine, and of any length: each write
+ * at the clock floor(S x f / 44100) where S samples stand before it, f the machine's clocks a second, and the clocks between
+ * in waits of 1,000,000, then the rest. The machine is PAL where the low 30 bits of the NES clock at $84 are 1,662,607, else
+ * NTSC; a header of a version below $161, or one that ends before $88, has no such clock. Data blocks ($67 $66) in front of
+ * the commands are passed over; perch_samples has what the sample blocks among them hold.
+ *
+ * A VGM file is refused, with the place in the file: at 0, longer than PERCH_MOST_VGM (5), or with a header that is cut short
+ * or points out of the file (35); at $84, for two chips (36); at its first byte, a sample block in front of the commands
+ * without an address, or with its address or a byte outside $8000..$FFFF (34); at the first byte at fault of the commands 25,
+ * 26 or, at the file's end, 27; then, at 0, 9. That is their order. Below, "as the log" is as the recording. */
+
+/* Makes the n bytes, whatever they held, the state at a clock of the recording of ln bytes: after exactly so many clocks from
+ * power-on on its machine, accesses stamped with that clock done; at its end where that comes before. So a program stops at
+ * any clock, looks at the state, and goes on from it. The value is the clock reached. Refused, and the bytes stay: 1; n isn't
+ * the size of a state (2); as the log. */
 uint64_t perch_state_at(uint8_t *state, size_t n, const uint8_t *log, size_t ln, const uint8_t *memory, size_t m,
                         uint64_t clock);
 
@@ -326,29 +344,39 @@ uint64_t perch_salvage(const uint8_t *log, size_t n, uint8_t *text, size_t t, ui
  * place (the low 56 bits of it). */
 uint64_t perch_import(const uint8_t *stream, size_t n, uint8_t *text, size_t t);
 
+/* The same for a machine, PERCH_NTSC or PERCH_PAL: for PAL a log whose second line is `machine=pal`, each write at the clock
+ * floor(S x 1662607 / 44100). Refused: a machine that is neither (2), then as above. */
+uint64_t perch_import_for(const uint8_t *stream, size_t n, uint8_t machine, uint8_t *text, size_t t);
+
+/* Makes the m bytes the sample memory that a VGM stream, as above, brings with it: what the sample blocks in front of its
+ * commands hold ($67 $66 $C2, the size in four bytes, an address in two, then the bytes for it), each over those before, and
+ * 0 elsewhere. Blocks of other types are passed over. The value is how many sample blocks there are. Refused, and the memory
+ * stays: m isn't PERCH_MEMORY_SIZE (1, at 0); 34 at the block's first byte. Here too the value of a refusal is its place. */
+uint64_t perch_samples(const uint8_t *stream, size_t n, uint8_t *memory, size_t m);
+
 /* THE PLAYER IN PIECES. A player is PERCH_PLAYER_SIZE bytes that the caller keeps between two pieces.
  *
- * A copy of them is a bookmark: kept and played on later, with the same log and memory, it gives the same lines again. The
- * bytes hold no pointers, so that they can be written to a file too, for a library of the same version. The four bytes from
- * PERCH_PLAYER_TIME on, low byte first, are the time in clocks up to which the player has come: that of its last line or
+ * A copy of them is a bookmark: kept and played on later, with the same recording and memory, it gives the same lines again.
+ * The bytes hold no pointers, so that they can be written to a file too, for a library of the same version. The four bytes
+ * from PERCH_PLAYER_TIME on, low byte first, are the time in clocks up to which the player has come: that of its last line or
  * later, and not past its next line. */
 
 /* How many bytes a player is. */
 size_t perch_player_size(void);
 
-/* Makes the p bytes a player at the beginning of the log, on its machine, whatever they held. The answer is one about a
- * log, with value 0. Refused: 1; p isn't the size of a player (2); as the log. */
+/* Makes the p bytes a player at the beginning of the recording, on its machine, whatever they held. The answer is one about
+ * a log, with value 0. Refused: 1; p isn't the size of a player (2); as the log. */
 uint64_t perch_begin(uint8_t *player, size_t p, const uint8_t *log, size_t n, const uint8_t *memory, size_t m);
 
-/* Writes the player's next lines to the text, whole lines only, and moves the player behind them. The log and the memory
- * are those that the player began with; then the pieces joined are what the player program writes, and no piece is
+/* Writes the player's next lines to the text, whole lines only, and moves the player behind them. Recording and memory are
+ * those that the player began with; then the pieces joined are what the player program writes, and no piece is
  * refused. A text of PERCH_LONGEST_LINE bytes or more gets one line at least until the player is over; how many more is
  * free; a shorter one may get none, and then the player stays. Bytes behind the lines stay; no line goes behind the
  * first 4,294,967,295 bytes. The answer is 2^8 x over + 2^32 x bytes written; refused it is an answer about a log.
  *
  * Refused: 1; the bytes are no player, or their state is out of range (2). A player that its log didn't lead to may be
- * refused with 3 (a wait of more than PERCH_MOST_CLOCKS), with 9 (a time above 2,000,000,000) or as the line that it
- * comes to, and PERCH_PLACE has that line's place. */
+ * refused with 3 (a wait of more than PERCH_MOST_CLOCKS), with 9 (a time above 2,000,000,000) or as the line or the
+ * command that it comes to, and PERCH_PLACE has its place. */
 uint64_t perch_play_on(uint8_t *player, size_t p, const uint8_t *log, size_t n, const uint8_t *memory, size_t m,
                        uint8_t *text, size_t t);
 #define PERCH_OVER(answer) ((unsigned)((answer) >> 8 & 1))
@@ -363,11 +391,12 @@ uint64_t perch_refusal_text(uint8_t number, uint64_t place, uint8_t *text, size_
  * written. */
 uint64_t perch_reason(uint8_t number, uint8_t *text, size_t t);
 
-/* A LOG AS A WAV FILE, IN PIECES: RIFF, PCM, 16 bits, one channel; a head of 44 bytes, then two bytes a sample, low byte first.
+/* A RECORDING AS A WAV FILE, IN PIECES: RIFF, PCM, 16 bits, one channel; a head of 44 bytes, then two bytes a sample, low
+ * byte first.
  * Sample n, from 0, is the mean, rounded down, of the levels after the clocks floor(n x f / rate) + 1 to
  * floor((n + 1) x f / rate), where f is 1,789,773, or 1,662,607 on a PAL machine, and the rate is in samples a second: 0..32767,
  * and nothing is filtered. An access changes the levels of the clocks behind it only. The samples are those whose last clock
- * the log has.
+ * the recording has.
  *
  * A WAV file under way is PERCH_WAV_SIZE bytes that the caller keeps between two pieces, every number low byte first; a copy of
  * them is a bookmark, as a player's is.
@@ -380,20 +409,22 @@ uint64_t perch_reason(uint8_t number, uint8_t *text, size_t t);
  *         21  its levels so far, added up (8)
  *         29  the clocks done (8)
  *         37  a cursor
- *        125  a state */
+ *        125  of a VGM file the samples before its place, 44,100 a second (4), of a log 0
+ *        129  and the clocks that were given as waits (4), of a log 0
+ *        133  a state */
 
 /* How many bytes a WAV file under way is. */
 size_t perch_wav_size(void);
 
-/* Makes the w bytes the log's WAV file at its beginning, whatever they held. The value is the size of the whole file in bytes:
- * 44 + 2 x its samples. Refused, and the bytes stay: 1; w isn't the size of a WAV file under way (2); as the log; the rate is
+/* Makes the w bytes the recording's WAV file at its beginning, whatever they held. The value is the size of the whole file in
+ * bytes: 44 + 2 x its samples. Refused, and the bytes stay: 1; w isn't the size of a WAV file under way (2); as the log; the rate is
  * outside 8000..192000 (33, at 0). */
 uint64_t perch_wav_begin(uint8_t *wav, size_t w, const uint8_t *log, size_t n, const uint8_t *memory, size_t m,
                          uint32_t rate);
 
 /* Writes the next bytes of the file to the front of `out`, and moves the file behind them: first the head alone, into 44
- * bytes or more, and into fewer nothing; behind it whole samples, as many as fit, into less than two bytes none. The log and
- * the memory are those that the file began with; then the pieces joined are the whole file, and no piece is refused. A piece
+ * bytes or more, and into fewer nothing; behind it whole samples, as many as fit, into less than two bytes none. Recording and
+ * memory are those that the file began with; then the pieces joined are the whole file, and no piece is refused. A piece
  * with room for a sample gets one at least, or says over; one that says over may have written the last samples. Bytes behind
  * those written stay; none goes behind the first 4,294,967,295. The answer is 2^8 x over + 2^32 x bytes written; refused it is
  * an answer about a log.
@@ -401,8 +432,8 @@ uint64_t perch_wav_begin(uint8_t *wav, size_t w, const uint8_t *log, size_t n, c
  * Refused, and nothing is written, and the file stays: 1; the bytes are no WAV file under way, or their state is out of range
  * (2). One that its log didn't lead to may be refused, in this order, with 3 (a wait of more than PERCH_MOST_CLOCKS), 9 (a
  * time, with the wait's clocks, above 2,000,000,000), 33, 2 (a sample under way that doesn't have the clock, or a sum above
- * 65,535 for each of its clocks done), or as the line that it comes to before any sample of this piece, and PERCH_PLACE has
- * that line's place. */
+ * 65,535 for each of its clocks done), or as the line or the command that it comes to before any sample of this piece, and
+ * PERCH_PLACE has its place. */
 uint64_t perch_wav_on(uint8_t *wav, size_t w, const uint8_t *log, size_t n, const uint8_t *memory, size_t m, uint8_t *out,
                       size_t o);
 

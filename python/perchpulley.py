@@ -8,6 +8,8 @@
     clocks, levels = perch.levels(log)          # every level and the clock at which it begins
     open("tune.wav", "wb").writelines(perch.wav(log))  # the log as a sound
 
+play, state_at and wav take a recording: a log, or the bytes of a VGM file; all else takes a log.
+
 One file, no packages. It loads the shared object that PERCHPULLEY_LIBRARY names, else that of the folder it was installed to, else the
 one that the loader finds. Sample memory is 32,768 bytes, $8000 to $FFFF; where it isn't given it is zeros. A refusal is raised as Refused,
 with its number, its place and its words; include/perchpulley.h has the functions below, and every answer.
@@ -35,13 +37,14 @@ At = namedtuple("At", "chip clock")
 Outputs = namedtuple("Outputs", "square1 square2 triangle noise dmc")
 Levels = namedtuple("Levels", "clocks levels")
 Meter = namedtuple("Meter", "case lowest highest")
+Samples = namedtuple("Samples", "memory blocks")
 
 _CHANNELS = {"square1": 0, "square2": 1, "noise": 3}
 _REASONS = ("disabled", "length", "period", "sweep", "step", "volume")
 _CASES = ("none", "silent", "steady", "moving")
 
 class Refused(Exception):
-    """A refusal: its number, of a log also its place, a byte offset from 0."""
+    """A refusal: its number, of a log, a stream or a VGM file also its place, a byte offset from 0."""
 
     def __init__(self, number, place=0):
         self.number, self.place = number, place
@@ -70,6 +73,8 @@ _FUNCTIONS = {
     "items": (c_uint64, _SLICE),
     "item": (c_uint64, _SLICE + [c_uint64]),
     "state_at": (c_uint64, _SLICE + _SLICE + _SLICE + [c_uint64]),
+    "import_for": (c_uint64, _SLICE + [c_uint8] + _SLICE),
+    "samples": (c_uint64, _SLICE + _SLICE),
     "cursor_size": (c_size_t, []),
     "cursor_start": (c_uint64, _SLICE),
     "cursor_next": (c_uint64, _SLICE + _SLICE),
@@ -122,6 +127,13 @@ def _log_value(answer):
     if answer & 0xFF:
         raise Refused(answer & 0xFF, answer >> 8 & 0xFFFFFF)
     return answer >> 32
+
+
+def _stream_value(answer):
+    """The value of an answer about a stream, or its refusal."""
+    if answer & 0xFF:
+        raise Refused(answer & 0xFF, answer >> 8)
+    return answer >> 8
 
 
 def _bytes(memory):
@@ -287,7 +299,7 @@ def _passed(log, memory):
 
 
 def state_at(log, clock, memory=None):
-    """The chip at a clock of a log, the accesses stamped with it among them; past the log's end the chip at its end. At has the chip and
+    """The chip at a clock of a recording, the accesses stamped with it among them; past its end the chip at its end. At has the chip and
     the clock where it stands."""
     log, memory, chip = bytes(log), _bytes(memory), Chip()
     state = chip._state
@@ -314,6 +326,21 @@ def levels(log, memory=None):
     return Levels(clocks, heights)
 
 
+def imported(stream, machine=NTSC):
+    """The log of a VGM stream, the bytes behind a VGM file's header and its data blocks, for a machine."""
+    stream, text = bytes(stream), (c_uint8 * 60000)()
+    if machine not in (NTSC, PAL):
+        raise Refused(2)
+    return bytes(text[: _stream_value(_library.perch_import_for(stream, len(stream), machine, text, len(text)))])
+
+
+def samples(stream):
+    """The sample memory that the sample blocks in front of a VGM stream's commands hold, 0 elsewhere, and how many blocks they are."""
+    stream, memory = bytes(stream), (c_uint8 * MEMORY)()
+    blocks = _stream_value(_library.perch_samples(stream, len(stream), memory, len(memory)))
+    return Samples(bytes(memory), blocks)
+
+
 def meter(values):
     """What levels are: "none", "silent" (all 0), "steady" (all equal) or "moving", with the lowest and the highest of them."""
     values = array("I", values)
@@ -337,7 +364,7 @@ def _pieces(on, lent):
 
 
 def play(log, memory=None):
-    """The text that the player writes for a log, in pieces of whole lines."""
+    """The text that the player writes for a recording, in pieces of whole lines."""
     log, memory = bytes(log), _bytes(memory)
     player = (c_uint8 * _library.perch_player_size())()
     lent = (player, len(player), log, len(log), memory, len(memory))
@@ -346,7 +373,7 @@ def play(log, memory=None):
 
 
 def wav(log, memory=None, rate=44100):
-    """The WAV file of a log, 16 bits and one channel, at a rate from 8,000 to 192,000 samples a second, in pieces: joined they are the file.
+    """The WAV file of a recording, 16 bits and one channel, at a rate from 8,000 to 192,000 samples a second, in pieces: joined they are the file.
     A sample is the mean of the levels after its clocks, exact to the clock, 0 to 32767."""
     log, memory = bytes(log), _bytes(memory)
     file = (c_uint8 * _library.perch_wav_size())()

@@ -267,6 +267,61 @@ static void streams(void)
     expect("no room", perch_import(stream, sizeof stream, text, 5), PERCH_REFUSED_ROOM);
 }
 
+/* Puts a number of four bytes, low byte first. */
+static void put_word(uint8_t *file, size_t at, uint32_t word)
+{
+    size_t i;
+
+    for (i = 0; i < 4; i++)
+        file[at + i] = (uint8_t)(word >> 8 * i);
+}
+
+/* A VGM file of a PAL machine with a sample block: its samples, its log and its text, and what is refused. */
+static void vgm_files(void)
+{
+    static uint8_t file[PERCH_MOST_VGM + 1], memory[PERCH_MEMORY_SIZE];
+    static const uint8_t stream[] = {0x67, 0x66, 0xc2, 4, 0, 0, 0, 0x00, 0xc0, 0x55, 0xaa, 0xb4, 0x11, 0x40, 0x62, 0x66};
+    static const char log[] = "log=1\nmachine=pal\nwrite=4011:40\nwait=27710\nstop=27710\n";
+    static const char lines[] = "play=1\nlevel=0:8074\nlevel=0:16620\nstop=27710\n";
+    const size_t start = 0x88, n = start + sizeof stream, m = sizeof memory, p = PERCH_PLAYER_SIZE;
+    uint8_t player[PERCH_PLAYER_SIZE], text[100];
+    uint64_t answer;
+
+    memcpy(file, "Vgm ", 4);
+    put_word(file, 0x08, 0x161);
+    put_word(file, 0x34, (uint32_t)(start - 0x34));
+    put_word(file, 0x84, 1662607);
+    memcpy(file + start, stream, sizeof stream);
+    answer = perch_samples(stream, sizeof stream, memory, m);
+    expect("sample blocks", PERCH_NUMBER(answer), PERCH_DONE);
+    expect("one", PERCH_VALUE(answer), 1);
+    expect("its bytes", memory[0x4000] | memory[0x4001] << 8, 0xaa55);
+    expect("and zeros", memory[0x3fff] | memory[0x4002], 0);
+    answer = perch_import_for(stream + 11, sizeof stream - 11, PERCH_PAL, text, sizeof text);
+    expect("a PAL log", PERCH_VALUE(answer), strlen(log));
+    expect("its text", (uint64_t)memcmp(text, log, strlen(log)), 0);
+    expect("no machine", perch_import_for(stream, 1, 2, text, sizeof text), PERCH_REFUSED_STATE);
+    expect("a file's beginning", perch_begin(player, p, file, n, memory, m), PERCH_DONE);
+    answer = perch_play_on(player, p, file, n, memory, m, text, sizeof text);
+    expect("its lines", PERCH_WRITTEN(answer), strlen(lines));
+    expect("as they are", (uint64_t)memcmp(text, lines, strlen(lines)), 0);
+
+    expect("too long a file", perch_begin(player, p, file, sizeof file, memory, m), PERCH_REFUSED_LONG);
+    expect("a header cut short", perch_begin(player, p, file, 0x3f, memory, m), PERCH_REFUSED_HEADER);
+    file[0x87] |= 0x40;
+    answer = perch_begin(player, p, file, n, memory, m);
+    expect("two chips", PERCH_NUMBER(answer), PERCH_REFUSED_TWO_CHIPS);
+    expect("at the clock", PERCH_PLACE(answer), 0x84);
+    file[0x87] = 0;
+    file[start + 8] = 0x7f;
+    answer = perch_begin(player, p, file, n, memory, m);
+    expect("a low address", PERCH_NUMBER(answer), PERCH_REFUSED_SAMPLE_BLOCK);
+    expect("at the block", PERCH_PLACE(answer), start);
+    expect("so its samples", perch_samples(file + start, sizeof stream, memory, m), PERCH_REFUSED_SAMPLE_BLOCK);
+    expect("the memory stays", memory[0x4000], 0x55);
+    expect("less memory", perch_samples(stream, sizeof stream, memory, m - 1), PERCH_REFUSED_MEMORY);
+}
+
 static void channels(void)
 {
     uint8_t state[PERCH_STATE_SIZE];
@@ -377,6 +432,7 @@ int main(void)
     wavs();
     chips();
     streams();
+    vgm_files();
     channels();
     moments();
     samples();

@@ -32,7 +32,7 @@ static int put(const uint8_t *bytes, size_t n)
 
 int main(int count, char **words)
 {
-    static uint8_t memory[PERCH_MEMORY_SIZE + 1], file[60001], text[4096];
+    static uint8_t memory[PERCH_MEMORY_SIZE + 1], file[PERCH_MOST_VGM + 1], text[4096];
     uint8_t player[PERCH_PLAYER_SIZE];
     const uint8_t *log = (const uint8_t *)example;
     size_t n = sizeof example - 1, m = PERCH_MEMORY_SIZE, p = sizeof player;

@@ -36,7 +36,7 @@ static int read_rate(const char *word, uint32_t *rate)
 
 int main(int count, char **words)
 {
-    static uint8_t memory[PERCH_MEMORY_SIZE + 1], log[60001], out[4096];
+    static uint8_t memory[PERCH_MEMORY_SIZE + 1], log[PERCH_MOST_VGM + 1], out[4096];
     uint8_t wav[PERCH_WAV_SIZE];
     size_t n, m, w = sizeof wav;
     uint32_t rate = 44100, left;

@@ -49,15 +49,17 @@ says() {
 verbs() {
   cd "$examples"
   for log in first tune sweep drum sample scale; do as 0 $log.log player; done
-  for verb in check fold salvage meter "meter waits" "why 5" "at 5" "vcd 0 5" wav "wav 8000"; do as 0 sweep.log perch $verb; done
+  for verb in check play fold salvage meter "meter waits" "why 5" "at 5" "vcd 0 5" wav "wav 8000"; do as 0 sweep.log perch $verb; done
+  for verb in check play import samples meter "meter waits" "why 5" "at 5" "vcd 0 5" wav interrupts dwell; do as 0 scale.vgm perch $verb; done
   as 0 damaged.log perch salvage
-  as 0 scale.vgm perch import
   as 0 /dev/null perch sheet 64 c000 20
   for log in slip damaged; do
     as 1 $log.log player
-    for verb in check fold meter "meter waits" "why 5" "at 5" "vcd 0 5" wav "wav 8000"; do as 1 $log.log perch $verb; done
+    for verb in check play fold meter "meter waits" "why 5" "at 5" "vcd 0 5" wav "wav 8000"; do as 1 $log.log perch $verb; done
   done
-  as 1 scale.log perch import
+  for verb in import samples; do as 1 scale.log perch $verb; done
+  head -c 100 scale.vgm >"$work/cut.vgm"
+  for verb in check play import samples wav; do as 1 "$work/cut.vgm" perch $verb; done
   as 1 /dev/null perch sheet 128 c000 20
   for words in nothing "nothing first.log" "check a b" why "why 05" "why first.log" at "at 05" "vcd 5" "vcd 0 0" "vcd 0 first.log" "wav 08000" "wav 8000 1" "sheet 64 C000 20" "sheet 64 c000 20 1"; do
     as 2 first.log perch $words

@@ -21,7 +21,7 @@ const GAPS: [u64; 22] = [
 /// The most samples that a log has clocks for.
 const MOST_SAMPLES: u64 = 49_279_992;
 
-fn wait_command(samples: u64) -> Vec<u8> {
+pub(crate) fn wait_command(samples: u64) -> Vec<u8> {
     let [low, high] = (samples as u16).to_le_bytes();
     vec![0x61, low, high]
 }
@@ -50,7 +50,7 @@ fn wait(random: &mut Random, commands: &mut Commands, mut samples: u64) {
     }
 }
 
-fn write(random: &mut Random) -> Vec<u8> {
+pub(crate) fn write(random: &mut Random) -> Vec<u8> {
     let register = match random.within(0..=9) {
         0 => 0x15,
         1 => 0x17,
@@ -118,7 +118,7 @@ fn most_turns(random: &mut Random, over: usize) -> Vec<u8> {
 const UNKNOWN: [u8; 15] = [0x00, 0x4f, 0x50, 0x60, 0x64, 0x65, 0x67, 0x6f, 0x80, 0x90, 0xb3, 0xb5, 0xa0, 0xe0, 0xff];
 
 /// Damages a stream in one way.
-fn damage(random: &mut Random, commands: &mut Commands) {
+pub(crate) fn damage(random: &mut Random, commands: &mut Commands) {
     let at = random.within(0..=commands.len() as u64 - 1) as usize;
     let unknown = random.pick(&UNKNOWN);
     match random.within(0..=8) {

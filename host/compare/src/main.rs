@@ -4,8 +4,8 @@ use compare::case::{self, Case, Outcome, sample};
 use compare::judge::{self, Tally, judge};
 use compare::random::Random;
 use compare::{
-    accesses, cursors, draw, edges, every, folds, free, imports, interrupts, lines, logs, machines, meters, moments,
-    orders, outputs, players, reasons, salvages, sheets, stored, traces, under_way, waves, wavs,
+    accesses, cursors, draw, edges, every, file_verbs, files, folds, free, imports, interrupts, lines, logs, machines,
+    meters, moments, orders, outputs, players, reasons, salvages, sheets, stored, traces, under_way, waves, wavs,
 };
 use reading::{Chip, MEMORY};
 use std::process::ExitCode;
@@ -28,13 +28,16 @@ compare carried VCD OTHER FEWEST                        hold each lane of anothe
 compare wav LOG SAMPLE [RATE]                           write what perch wav writes for a log, by the reading
 compare edges N PERCH [--seed N]                        hold what a built perch interrupts writes for N logs drawn near edges to the reading
 compare lanes VCD LOG SAMPLE FROM CLOCKS                hold each lane of a VCD at each clock and each access to the reading
+compare files N PERCH [--seed N]                        hold what the verbs of a built perch write for N drawn VGM files to the reading
 compare moments N PERCH [--seed N]                      hold what a built perch at writes for N drawn logs and clocks to the reading
 compare traces N PERCH [--seed N]                       hold what a built perch vcd writes for N drawn windows to the reading
 compare waves N PERCH [--seed N]                        hold what a built perch wav writes for N drawn logs and rates to the reading
 compare judged FOLDER                                   write what test_logs prints about the logs of a folder
 compare played FOLDER                                   write what test_plays prints about them, with sample.bin
+compare through FILE SAMPLE                             play a recording through in the library, and hold each line to the reading
+(LOG may be a VGM file: one with sample blocks is played with these)
 --each N: so many accesses, orders, reasons, outputs, meters, sheets and texts, half as many whole logs, cursors, players,
-         WAV files, WAV files under way and imports
+         WAV files, WAV files under way and imports, an eighth as many VGM files
 --archive: an error where the library's archive isn't linked; --brief: no more parts after one that differs";
 
 /// What the command line asks for.
@@ -190,6 +193,8 @@ fn compare(asked: &Asked) -> bool {
     part("folds", &mut || folds::compare(seed, asked.logs, &memory));
     part("salvages", &mut || salvages::compare(seed, asked.logs));
     part("imports", &mut || imports::compare(seed, asked.each / 2));
+    part("files", &mut || files::compare(seed, asked.each / 8, &memory));
+    part("file bytes", &mut || files::every_byte(seed, asked.each / 200, &memory));
     good
 }
 
@@ -279,10 +284,12 @@ fn main() -> ExitCode {
         }
         ["carried", vcd, other, fewest] => stored::carried(vcd, other, fewest).map(|told| print!("{told}")),
         ["edges", count, program] => run_program(&asked, edges::compare, count, program),
+        ["files", count, program] => run_program(&asked, file_verbs::compare, count, program),
         ["moments", count, program] => run_program(&asked, moments::compare, count, program),
         ["waves", count, program] => run_program(&asked, waves::compare, count, program),
         ["traces", count, program] => run_program(&asked, traces::compare, count, program),
         ["judged", folder] => stored::judged(folder).map(|text| print!("{text}")),
+        ["through", log, sample] => stored::through(log, sample).map(|told| print!("{told}")),
         ["played", folder] => stored::played(folder).map(|text| print!("{text}")),
         _ => Err(USAGE.into()),
     };

@@ -14,7 +14,7 @@ use reading::{MEMORY, MOST_CLOCKS};
 const LONGEST: usize = 23;
 
 /// The most clocks of a piece, and of one with the longest wait: the machine goes one by one.
-const MOST_WORKED: u64 = 40_000;
+pub(crate) const MOST_WORKED: u64 = 40_000;
 const MOST_WORKED_RARELY: u64 = 1_000_000 + MOST_WORKED;
 
 /// More turns than any piece has been seen to go behind its last line.
@@ -284,7 +284,13 @@ fn led(mut now: Player, to: &Player, mut lines: &[u8], log: &[u8], memory: &[u8]
 }
 
 /// Holds one piece to the machine, and moves the player; tells what it came to.
-fn piece(bytes: &mut Vec<u8>, log: &[u8], memory: &[u8], size: usize, worked: u64) -> Result<String, String> {
+pub(crate) fn piece(
+    bytes: &mut Vec<u8>,
+    log: &[u8],
+    memory: &[u8],
+    size: usize,
+    worked: u64,
+) -> Result<String, String> {
     let before = bytes.clone();
     let first = Player::decode(&before);
     let refused = match (&first, memory.len()) {
@@ -300,7 +306,7 @@ fn piece(bytes: &mut Vec<u8>, log: &[u8], memory: &[u8], size: usize, worked: u6
     let answer = raw::play_on(bytes, log, memory, &mut text);
     let (number, low, written) = (answer as u8, answer >> 8 & 0xff_ffff, (answer >> 32) as usize);
     let wrong = |what: String| {
-        let shown = first.map(|first| (first.cursor, first.phase, first.wait, first.time, first.last));
+        let shown = first.map(|first| (first.place, first.phase, first.wait, first.time, first.last));
         Err(format!("a piece of {size} bytes answers {answer:#x}: {what}\nfrom {shown:?}"))
     };
     if written > size || text[written..].iter().any(|&byte| byte != b'?') {
@@ -311,7 +317,7 @@ fn piece(bytes: &mut Vec<u8>, log: &[u8], memory: &[u8], size: usize, worked: u6
             return wrong("refused, and something changed".into());
         }
         return match refused {
-            Some(fault) if (fault.number, fault.place as u64) == (number, low) => Ok(number.to_string()),
+            Some(fault) if (fault.number, fault.place as u64 & 0xff_ffff) == (number, low) => Ok(number.to_string()),
             _ => wrong(format!("the machine comes to {refused:?}")),
         };
     }

@@ -30,13 +30,19 @@ impl Program {
 
     /// What it writes to standard output for a log, called with these words.
     pub fn writes(&self, words: &[String], log: &[u8]) -> Result<Vec<u8>, String> {
+        self.tells(words, log).map(|(out, _)| out)
+    }
+
+    /// The same, with what it writes to standard error.
+    pub fn tells(&self, words: &[String], log: &[u8]) -> Result<(Vec<u8>, Vec<u8>), String> {
         let written = || {
             let mut command = Command::new(&self.path);
             command.args(words).current_dir(&self.folder);
-            let mut child = command.stdin(Stdio::piped()).stdout(Stdio::piped()).stderr(Stdio::null()).spawn()?;
+            let mut child = command.stdin(Stdio::piped()).stdout(Stdio::piped()).stderr(Stdio::piped()).spawn()?;
             // It reads all of a log before it writes; a program that doesn't is told by what it writes.
             let _ = child.stdin.take().map(|mut input| input.write_all(log));
-            Ok(child.wait_with_output()?.stdout)
+            let output = child.wait_with_output()?;
+            Ok((output.stdout, output.stderr))
         };
         written().map_err(|error: std::io::Error| format!("{}: {error}", self.name))
     }

@@ -3,8 +3,8 @@
 use crate::logs::{damage, sounding};
 use crate::machines::either;
 use crate::random::Random;
-use reading::Machine;
-use reading::log::{self, Item};
+use reading::log::Item;
+use reading::{Machine, recording};
 
 /// How many accesses stand at a clock of a drawn log.
 const MANY: [u64; 16] = [0, 1, 1, 2, 2, 3, 3, 5, 8, 30, 200, 499, 500, 500, 501, 700];
@@ -109,10 +109,10 @@ pub struct Stamps {
 }
 
 impl Stamps {
-    /// Those of a log that passes.
+    /// Those of a recording that passes.
     pub fn of(log: &[u8]) -> Option<Self> {
-        let mut all = Self { machine: log::machine(log).ok()?, clocks: 0, waits: Vec::new(), stamps: Vec::new() };
-        for item in log::items(log).ok()? {
+        let mut all = Self { machine: recording::machine(log).ok()?, clocks: 0, waits: Vec::new(), stamps: Vec::new() };
+        for item in recording::items(log).ok()? {
             if let Item::Wait(clocks) = item {
                 all.waits.push(all.clocks);
                 all.clocks += u64::from(clocks);

@@ -4,7 +4,7 @@ use crate::lanes::{self, Held};
 use crate::vcd;
 use perch::raw;
 use reading::log::{self, Fault, Item, Line};
-use reading::{MEMORY, dwell, flags, fold, moment, number, play, salvage, trace, wave};
+use reading::{MEMORY, dwell, flags, fold, moment, number, play, recording, salvage, trace, wave};
 use std::io::Write;
 use std::path::{Path, PathBuf};
 
@@ -84,19 +84,47 @@ fn first_lines(log: &[u8], memory: &[u8], bytes: usize) -> Vec<u8> {
     text
 }
 
+/// A recording of these paths, with the sample memory that it is played with.
+fn lent(log: &str, sample: &str) -> Result<(Vec<u8>, Vec<u8>), String> {
+    let log = read(log)?;
+    let memory = recording::memory(&log, &read(sample)?).into_owned();
+    Ok((log, memory))
+}
+
 /// What the player writes for a log, by the reading.
 pub fn text(log: &str, sample: &str) -> Result<String, String> {
-    Ok(play::text(&read(log)?, &read(sample)?))
+    let (log, memory) = lent(log, sample)?;
+    Ok(play::text(&log, &memory))
+}
+
+/// Plays a recording through in the library, and holds each line to the reading's.
+pub fn through(log: &str, sample: &str) -> Result<String, String> {
+    let (log, memory) = lent(log, sample)?;
+    let totals = recording::check(&log).map_err(|fault| format!("{fault:?}"))?;
+    let ours = play::text(&log, &memory);
+    let (mut at, mut player) = (0, perch::Player::new(&log, &memory).map_err(|fault| fault.to_string())?);
+    for piece in player.by_ref() {
+        if !ours.as_bytes()[at..].starts_with(&piece) {
+            return Err(format!("the piece behind byte {at} isn't the reading's"));
+        }
+        at += piece.len();
+    }
+    match player.fault() {
+        None if at == ours.len() => Ok(format!("{} clocks, {at} bytes of text as the reading has them\n", totals.clocks)),
+        fault => Err(format!("{at} bytes of text, by the reading {}; {fault:?}", ours.len())),
+    }
 }
 
 /// What `perch dwell` writes for a log, by the reading.
 pub fn dwell(log: &str, sample: &str) -> Result<String, String> {
-    Ok(dwell::text(&read(log)?, &read(sample)?))
+    let (log, memory) = lent(log, sample)?;
+    Ok(dwell::text(&log, &memory))
 }
 
 /// What `perch interrupts` writes for a log, by the reading.
 pub fn flags(log: &str, sample: &str) -> Result<String, String> {
-    Ok(flags::text(&read(log)?, &read(sample)?))
+    let (log, memory) = lent(log, sample)?;
+    Ok(flags::text(&log, &memory))
 }
 
 /// A number on the command line.
@@ -106,24 +134,28 @@ fn decimal(word: &str) -> Result<u64, String> {
 
 /// What `perch at` writes for a log, by the reading.
 pub fn at(log: &str, sample: &str, clock: &str) -> Result<String, String> {
-    Ok(moment::text(&read(log)?, &read(sample)?, decimal(clock)?))
+    let (log, memory) = lent(log, sample)?;
+    Ok(moment::text(&log, &memory, decimal(clock)?))
 }
 
 /// What `perch vcd` writes for a log, by the reading.
 pub fn vcd(log: &str, sample: &str, from: &str, clocks: &str) -> Result<String, String> {
-    Ok(trace::text(&read(log)?, &read(sample)?, decimal(from)?, decimal(clocks)?))
+    let (log, memory) = lent(log, sample)?;
+    Ok(trace::text(&log, &memory, decimal(from)?, decimal(clocks)?))
 }
 
 /// Writes what `perch wav` writes for a log, by the reading.
 pub fn wav(log: &str, sample: &str, rate: &str) -> Result<(), String> {
-    let file = wave::file(&read(log)?, &read(sample)?, decimal(rate)?);
+    let (log, memory) = lent(log, sample)?;
+    let file = wave::file(&log, &memory, decimal(rate)?);
     std::io::stdout().write_all(&file).map_err(|error| error.to_string())
 }
 
 /// Holds each lane of a VCD to the reading of a window of a log.
 pub fn lanes(vcd: &str, log: &str, sample: &str, from: &str, clocks: &str) -> Result<String, String> {
     let text = String::from_utf8_lossy(&read(vcd)?).into_owned();
-    let held = lanes::hold(&text, &read(log)?, &read(sample)?, decimal(from)?, decimal(clocks)?)?;
+    let (log, memory) = lent(log, sample)?;
+    let held = lanes::hold(&text, &log, &memory, decimal(from)?, decimal(clocks)?)?;
     Ok(match held {
         None => "the log is refused, and nothing else is told\n".into(),
         Some(Held { clocks, accesses, .. }) => {

@@ -1,10 +1,9 @@
 //! What the verbs of `perch` write about the examples (`host/verbs`), by the reading.
 
 use compare::lanes;
-use reading::log::{Item, items, machine, open_at, summed};
+use reading::log::{items, machine, open_at, summed};
 use reading::salvage::Done;
-use reading::why::why;
-use reading::{Chip, Machine, dwell, flags, meter, moment, play, sheet, trace};
+use reading::{Machine, dwell, flags, meter, moment, sheet, trace, why};
 use std::fs::read;
 
 const HOST: &str = concat!(env!("CARGO_MANIFEST_DIR"), "/..");
@@ -26,32 +25,11 @@ fn hold(beginning: &str, expected: impl Fn(&str) -> String) {
     assert!(files > 0, "nothing stored begins with {beginning}");
 }
 
-/// The words of the reasons by number less one.
-const REASONS: [&str; 6] = ["disabled", "length", "period", "sweep", "step", "volume"];
-
-/// The text of `perch why` for a log and a clock.
-fn asked(log: &[u8], memory: &[u8], clock: u64) -> String {
-    let (chip, time) = match moment::reached(log, memory, clock) {
-        Ok(reached) => reached,
-        Err(fault) => return play::refusal(fault).replace("play=1", "why=1"),
-    };
-    let mut text = format!("why=1\nclock={time}\n");
-    for (channel, name) in [(0, "square1"), (1, "square2"), (3, "noise")] {
-        let word = match why(&chip.encode(), channel) >> 8 {
-            5 if channel == 3 => "bit".into(),
-            reason @ 1..=6 => REASONS[reason as usize - 1].to_string(),
-            number => format!("sounds:{}", number - 16),
-        };
-        text += &format!("{name}={word}\n");
-    }
-    text
-}
-
 #[test]
 fn reasons_of_the_examples() {
     hold("why-", |name| {
         let (log, clock) = name.rsplit_once('-').unwrap();
-        asked(&example(&format!("{log}.log")), &example("sample.bin"), clock.parse().unwrap())
+        why::text(&example(&format!("{log}.log")), &example("sample.bin"), clock.parse().unwrap())
     });
 }
 
@@ -98,56 +76,14 @@ fn checks_of_the_examples() {
     hold("check-", |log| checked(&example(&format!("{log}.log"))));
 }
 
-/// The words for levels: the case, the lowest and the highest.
-fn shown(levels: &[u32]) -> String {
-    let answer = meter::meter(levels);
-    let (lowest, highest) = (answer >> 16 & 0xffff, answer >> 32);
-    match answer >> 8 & 0xff {
-        1 => "silent".into(),
-        2 => format!("steady:{lowest}"),
-        _ => format!("moving:{lowest}:{highest}"),
-    }
-}
-
-/// The text of `perch meter` for a log, with a line for each wait where they are asked for. Of a log that is longer than 20,000,000
-/// clocks only these are worked.
-fn metered(log: &[u8], memory: &[u8], each: bool) -> String {
-    if let Err(fault) = play::check(log, memory) {
-        return play::refusal(fault).replace("play=1", "meter=1");
-    }
-    let mut chip = Chip::power_on(machine(log).expect("the log passes"));
-    let (mut time, mut waits) = (0, String::new());
-    let mut all = vec![u32::from(chip.level())];
-    for item in items(log).expect("the log passes") {
-        match item {
-            Item::Wait(clocks) => {
-                let mut levels = vec![u32::from(chip.level())];
-                for _ in 0..clocks {
-                    chip.clock(memory);
-                    levels.push(chip.level().into());
-                }
-                waits += &format!("wait={time}:{clocks}:{}\n", shown(&levels));
-                time += clocks;
-                levels.sort_unstable();
-                levels.dedup();
-                all.extend(levels);
-            }
-            Item::Write(register, value) => chip.write(register, value),
-            Item::Read => drop(chip.read_status()),
-        }
-        all.push(chip.level().into());
-        if time >= 20_000_000 {
-            break;
-        }
-    }
-    format!("meter=1\nall={}\n{}", shown(&all), if each { &waits } else { "" })
-}
+/// Of a log that is longer only so many clocks are worked.
+const MOST_METERED: u64 = 20_000_000;
 
 #[test]
 fn meters_of_the_examples() {
     hold("meter-", |name| {
         let (log, each) = name.strip_prefix("waits-").map_or((name, false), |log| (log, true));
-        metered(&example(&format!("{log}.log")), &example("sample.bin"), each)
+        meter::text(&example(&format!("{log}.log")), &example("sample.bin"), each, MOST_METERED)
     });
 }
 

@@ -34,6 +34,11 @@ impl Ends {
         self.head.is_empty()
     }
 
+    /// How many bytes there were.
+    pub fn length(&self) -> u64 {
+        self.length
+    }
+
     /// The bytes that the head of a RIFF file says it has in all, and those that there were; none of anything else.
     pub fn sound(&self) -> Option<(u64, u64)> {
         let size: [u8; 4] = self.head.strip_prefix(b"RIFF")?.get(..4)?.try_into().ok()?;

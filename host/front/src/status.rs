@@ -41,6 +41,8 @@ pub enum Last {
     Any,
     /// It is a RIFF file, which says its size.
     Sound,
+    /// It is sample memory, 32,768 bytes; a refusal is told beside it.
+    Memory,
 }
 
 /// Whether the text begins with a line `refused=`, behind its first line or not, or ends with one.
@@ -69,11 +71,15 @@ pub fn is_stop(line: &[u8]) -> bool {
     line.strip_prefix(b"stop=").is_some_and(|n| (1..=20).contains(&n.len()) && n.iter().all(u8::is_ascii_digit))
 }
 
+/// The bytes of sample memory.
+const MEMORY: u64 = 32_768;
+
 fn is_whole(text: &Ends, last: Last) -> bool {
     match last {
         Last::Stop => text.last_line().is_some_and(is_stop),
         Last::Any => text.last_line().is_some(),
         Last::Sound => text.sound().is_some_and(|(says, has)| says == has),
+        Last::Memory => text.length() == MEMORY,
     }
 }
 
@@ -81,7 +87,7 @@ fn is_whole(text: &Ends, last: Last) -> bool {
 pub fn status(ended: &Ended, last: Last) -> Status {
     if !ended.whole || failed(&ended.err) {
         Status::NotWhole
-    } else if refused(&ended.err) || refused(&ended.out) && is_whole(&ended.out, Last::Any) {
+    } else if refused(&ended.err) || last != Last::Memory && refused(&ended.out) && is_whole(&ended.out, Last::Any) {
         Status::Refused
     } else if ended.out.is_empty() && !ended.err.is_empty() {
         if refused_in_words(&ended.err) { Status::Refused } else { Status::Words }
@@ -123,6 +129,7 @@ mod tests {
         assert_eq!(any("sheet=1\nrefused=20\n", ""), Status::Refused);
         assert_eq!(stop("", "refused=5:0\nlog longer than 60,000 bytes\n"), Status::Refused);
         assert_eq!(stop("", "perch: no VGM file: it doesn't begin with `Vgm `\n"), Status::Refused);
+        assert_eq!(any("", "perch: a VGM file of more than 512 KiB is not read\n"), Status::Refused);
         assert_eq!(stop("dwell=1\nlevel=3\nrefused=13\n", ""), Status::Refused);
     }
 
@@ -139,6 +146,28 @@ mod tests {
         assert_eq!(sound(b"refused=16:67\n", "value outside its range\n"), Status::Refused);
         assert_eq!(sound(&file, "perch: standard output can't be written\n"), Status::NotWhole);
         assert_eq!(sound(b"", "perch: wav [RATE]\n"), Status::Words);
+    }
+
+    #[test]
+    fn memories() {
+        let memory = |out: &[u8], err: &str| {
+            let [out, err] = [out, err.as_bytes()].map(Ends::of);
+            status(&Ended { out, err, whole: true }, Last::Memory)
+        };
+        // It may hold any bytes.
+        let bytes = [&b"refused=1\n"[..], &[b'\n'; 32_758]].concat();
+        assert_eq!(memory(&bytes, ""), Status::Done);
+        assert_eq!(memory(&bytes[1..], ""), Status::NotWhole);
+        assert_eq!(memory(b"", "refused=34:256\na sample block outside 8000..ffff\n"), Status::Refused);
+        assert_eq!(memory(b"", "perch: a VGM file for two chips\n"), Status::Refused);
+        assert_eq!(memory(&bytes, "perch: standard output can't be written\n"), Status::NotWhole);
+    }
+
+    #[test]
+    fn said_beside_a_log() {
+        let said = "perch: the NES clock at $84 is 1000000: taken as NTSC\n";
+        assert_eq!(stop("log=1\nstop=0\n", said), Status::Done);
+        assert_eq!(stop("log=1\n", said), Status::NotWhole);
     }
 
     #[test]

@@ -21,10 +21,12 @@ const fn verb(name: &'static [&'static str], words: usize, log: bool, last: Last
 }
 
 /// Of two that begin alike the longer stands first.
-const VERBS: [Verb; 13] = [
+const VERBS: [Verb; 15] = [
     verb(&["check"], 0, true, Last::Any),
+    verb(&["play"], 0, true, Last::Stop),
     verb(&["fold"], 0, true, Last::Stop),
     verb(&["import"], 0, true, Last::Stop),
+    verb(&["samples"], 0, true, Last::Memory),
     verb(&["salvage"], 0, true, Last::Stop),
     verb(&["why"], 1, true, Last::Any),
     verb(&["at"], 1, true, Last::Any),
@@ -74,6 +76,8 @@ mod tests {
         assert_eq!(own_of("check"), 1);
         assert_eq!(own_of("check a.log"), 1);
         assert_eq!(own_of("check a.log b.log"), 3);
+        assert_eq!(own_of("play a.vgm"), 1);
+        assert_eq!(own_of("samples a.vgm"), 1);
         assert_eq!(own_of("why 5"), 2);
         assert_eq!(own_of("why 5 a.log"), 2);
         assert_eq!(own_of("at 5 a.log"), 2);

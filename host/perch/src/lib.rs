@@ -83,6 +83,16 @@
 //! ```
 //!
 //! ```
+//! # use perch::Machine::Pal;
+//! let stream = [0x67, 0x66, 0xc2, 3, 0, 0, 0, 0x00, 0xc0, 0x55, 0xb4, 0x11, 0x40, 0x62, 0x66];
+//! let (memory, blocks) = perch::samples(&stream)?;
+//! assert_eq!((blocks, memory[0x4000]), (1, 0x55));
+//! let log = perch::import_for(&stream[10..], Pal)?;
+//! assert_eq!(log, b"log=1\nmachine=pal\nwrite=4011:40\nwait=27710\nstop=27710\n");
+//! # Ok::<(), perch::Fault>(())
+//! ```
+//!
+//! ```
 //! let folded = perch::fold(b"log=1\nwait=9\nwait=9\nwait=9\nwait=9\nwait=9\nstop=45\n")?;
 //! assert_eq!(folded, b"log=1\nloop=5\nwait=9\ndone=loop\nstop=45\n");
 //! # Ok::<(), perch::Fault>(())
@@ -157,8 +167,8 @@ mod why;
 pub use access::{Access, Accessed};
 pub use cursor::{CURSOR, Cursor, Found, all_items};
 pub use log::{
-    Checked, Fault, Item, LOG, PLAYER, Player, Repair, body, check, fold, import, item, items, refusal_text, salvage,
-    turns,
+    Checked, Fault, Item, LOG, PLAYER, Player, Repair, VGM, body, check, fold, import, import_for, item, items,
+    refusal_text, salvage, samples, turns,
 };
 pub use meter::{Meter, meter, meter_records};
 pub use outputs::Outputs;

@@ -1,17 +1,18 @@
 //! Logs and the player.
 
-use crate::{Machine, Refusal, raw};
+use crate::{MEMORY, Machine, Refusal, raw};
 use std::fmt;
 use std::ops::Range;
 
-/// A refusal of a log or of a VGM stream, with its place.
+/// A refusal of a log, of a VGM stream or of a VGM file, with its place.
 #[derive(Clone, Copy, Debug, PartialEq, Eq)]
 pub struct Fault {
     /// The refusal.
     pub refusal: Refusal,
     /// The start of the faulty line for 4, 7 and 8, of the `stop` line for 9 and 10; the first wrong byte for 14 and 15; the
     /// value's first digit for 16; the log's length for 17 and 18; the byte behind the `stop` line for 19; else 0.
-    /// In a stream the first byte at fault for 25 and 26, its length for 27, else 0.
+    /// In a stream the first byte at fault for 25 and 26, of a sample block for 34, its length for 27, else 0. In a VGM file the same,
+    /// with 0x84 for 36.
     pub place: usize,
 }
 
@@ -94,18 +95,39 @@ pub fn body(log: &[u8], offset: u64) -> Result<&[u8], Fault> {
 /// The most bytes of a log.
 pub const LOG: usize = 60_000;
 
-/// The log of a VGM command stream, without its header: the same writes at the same clocks.
-pub fn import(stream: &[u8]) -> Result<Vec<u8>, Fault> {
-    let mut log = vec![0; LOG];
-    let answer = raw::import(stream, &mut log);
+/// The most bytes of a VGM file.
+pub const VGM: usize = 524_288;
+
+/// The value of an answer about a stream, or its fault.
+fn stream_value(answer: u64) -> Result<usize, Fault> {
     let value = (answer >> 8) as usize;
     match answer as u8 {
-        0 => {
-            log.truncate(value);
-            Ok(log)
-        }
+        0 => Ok(value),
         number => Err(Fault { refusal: Refusal(number), place: value }),
     }
+}
+
+/// The log of a VGM command stream, without its header: the same writes at the same clocks, on an NTSC machine.
+pub fn import(stream: &[u8]) -> Result<Vec<u8>, Fault> {
+    let mut log = vec![0; LOG];
+    let length = stream_value(raw::import(stream, &mut log))?;
+    log.truncate(length);
+    Ok(log)
+}
+
+/// The same, on a machine.
+pub fn import_for(stream: &[u8], machine: Machine) -> Result<Vec<u8>, Fault> {
+    let mut log = vec![0; LOG];
+    let length = stream_value(raw::import_for(stream, machine as u8, &mut log))?;
+    log.truncate(length);
+    Ok(log)
+}
+
+/// The sample memory that the sample blocks in front of a VGM command stream hold, 0 elsewhere, and how many blocks they are.
+pub fn samples(stream: &[u8]) -> Result<(Vec<u8>, usize), Fault> {
+    let mut memory = vec![0; MEMORY];
+    let blocks = stream_value(raw::samples(stream, &mut memory))?;
+    Ok((memory, blocks))
 }
 
 /// A log folded: its equal lines in a row are loops; it stands for the same and isn't longer.
@@ -157,12 +179,12 @@ pub fn refusal_text(fault: Fault) -> Vec<u8> {
 }
 
 /// How many bytes a player is.
-pub const PLAYER: usize = 190;
+pub const PLAYER: usize = 198;
 
 /// The first of the four bytes of a player that tell its time.
 const TIME: usize = 5;
 
-/// A log being played: an iterator of pieces of its text, each of whole lines. A copy is a bookmark, which gives the same lines
+/// A recording being played, a log or a VGM file: an iterator of pieces of its text, each of whole lines. A copy is a bookmark, which gives the same lines
 /// again; `bytes` can be stored, for a library of the same version.
 #[derive(Clone, Debug)]
 pub struct Player<'a> {
@@ -176,7 +198,7 @@ pub struct Player<'a> {
 impl<'a> Player<'a> {
     const PIECE: usize = 1 << 16;
 
-    /// A player at the log's beginning.
+    /// A player at the recording's beginning.
     pub fn new(log: &'a [u8], memory: &'a [u8]) -> Result<Self, Fault> {
         let mut bytes = [0; PLAYER];
         value(raw::begin(&mut bytes, log, memory))?;

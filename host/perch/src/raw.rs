@@ -2,18 +2,18 @@
 //!
 //! An answer is number + 256 x value; a run's number + 2^8 x clocks done + 2^32 x records; one about a log number + 2^8 x
 //! place + 2^32 x value; a piece's number + 2^8 x over + 2^32 x bytes written; an import's 2^8 x the log's length, or number +
-//! 2^8 x place; a meter's number + 2^8 x case + 2^16 x lowest + 2^32 x highest; an access's number + 2^8 x byte + 2^16 x
+//! 2^8 x place, and so that of sample blocks; a meter's number + 2^8 x case + 2^16 x lowest + 2^32 x highest; an access's number + 2^8 x byte + 2^16 x
 //! level + 2^32 x differs.
 
 use std::sync::Once;
 
 #[cfg(feature = "standin")]
 use standin::{
-    perch_access, perch_begin, perch_body, perch_check, perch_clock, perch_fold, perch_import, perch_in_range,
-    perch_interrupt_line, perch_item, perch_level, perch_level_fraction, perch_meter, perch_meter_records,
-    perch_next_interrupt, perch_outputs, perch_play_on, perch_player_size, perch_power_on, perch_reason,
-    perch_refusal_text, perch_run, perch_run_plain, perch_salvage, perch_sheet, perch_state_at, perch_state_size,
-    perch_status, perch_wav_begin, perch_wav_on, perch_wav_size, perch_why,
+    perch_access, perch_begin, perch_body, perch_check, perch_clock, perch_fold, perch_import, perch_import_for,
+    perch_in_range, perch_interrupt_line, perch_item, perch_level, perch_level_fraction, perch_meter,
+    perch_meter_records, perch_next_interrupt, perch_outputs, perch_play_on, perch_player_size, perch_power_on,
+    perch_reason, perch_refusal_text, perch_run, perch_run_plain, perch_salvage, perch_samples, perch_sheet,
+    perch_state_at, perch_state_size, perch_status, perch_wav_begin, perch_wav_on, perch_wav_size, perch_why,
 };
 #[cfg(feature = "standin")]
 use standin::{perch_cursor_next, perch_cursor_size, perch_cursor_start, perch_items, perch_turns, perch_version};
@@ -101,6 +101,8 @@ unsafe extern "C" {
     fn perch_refusal_text(number: u8, place: u64, text: *mut u8, t: usize) -> u64;
     fn perch_reason(number: u8, text: *mut u8, t: usize) -> u64;
     fn perch_import(stream: *const u8, n: usize, text: *mut u8, t: usize) -> u64;
+    fn perch_import_for(stream: *const u8, n: usize, machine: u8, text: *mut u8, t: usize) -> u64;
+    fn perch_samples(stream: *const u8, n: usize, memory: *mut u8, m: usize) -> u64;
     fn perch_fold(log: *const u8, n: usize, text: *mut u8, t: usize) -> u64;
     fn perch_salvage(log: *const u8, n: usize, text: *mut u8, t: usize, list: *mut u32, w: usize) -> u64;
     fn perch_next_interrupt(state: *const u8, n: usize, memory: *const u8, m: usize, count: u64, which: u8) -> u64;
@@ -244,7 +246,7 @@ pub fn player_size() -> usize {
     perch_player_size()
 }
 
-/// Makes the bytes a player at the log's beginning.
+/// Makes the bytes a player at the beginning of a recording: a log or a VGM file.
 pub fn begin(player: &mut [u8], log: &[u8], memory: &[u8]) -> u64 {
     same_version();
     unsafe { perch_begin(player.as_mut_ptr(), player.len(), log.as_ptr(), log.len(), memory.as_ptr(), memory.len()) }
@@ -267,7 +269,7 @@ pub fn play_on(player: &mut [u8], log: &[u8], memory: &[u8], text: &mut [u8]) ->
     }
 }
 
-/// Makes the bytes the state at a clock of a log; the value is the clock reached, or the place of a refusal.
+/// Makes the bytes the state at a clock of a recording; the value is the clock reached, or the place of a refusal.
 pub fn state_at(state: &mut [u8], log: &[u8], memory: &[u8], clock: u64) -> u64 {
     same_version();
     unsafe {
@@ -280,7 +282,7 @@ pub fn wav_size() -> usize {
     perch_wav_size()
 }
 
-/// Makes the bytes a WAV file at its beginning; the value is its size in bytes, or the place of a refusal.
+/// Makes the bytes a recording's WAV file at its beginning; the value is its size in bytes, or the place of a refusal.
 pub fn wav_begin(wav: &mut [u8], log: &[u8], memory: &[u8], rate: u32) -> u64 {
     same_version();
     unsafe {
@@ -321,6 +323,19 @@ pub fn reason(number: u8, text: &mut [u8]) -> u64 {
 pub fn import(stream: &[u8], text: &mut [u8]) -> u64 {
     same_version();
     unsafe { perch_import(stream.as_ptr(), stream.len(), text.as_mut_ptr(), text.len()) }
+}
+
+/// The same, for a machine.
+pub fn import_for(stream: &[u8], machine: u8, text: &mut [u8]) -> u64 {
+    same_version();
+    unsafe { perch_import_for(stream.as_ptr(), stream.len(), machine, text.as_mut_ptr(), text.len()) }
+}
+
+/// Makes the bytes the sample memory that the sample blocks in front of a VGM command stream hold; the value is how many they are, or
+/// the place of a refusal.
+pub fn samples(stream: &[u8], memory: &mut [u8]) -> u64 {
+    same_version();
+    unsafe { perch_samples(stream.as_ptr(), stream.len(), memory.as_mut_ptr(), memory.len()) }
 }
 
 /// Writes a log folded; the value is its length.

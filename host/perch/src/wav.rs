@@ -1,10 +1,10 @@
-//! A log as a WAV file, in pieces.
+//! A recording, a log or a VGM file, as a WAV file, in pieces.
 
 use crate::log::{Fault, value};
 use crate::raw;
 
 /// How many bytes a WAV file under way is.
-pub const WAV: usize = 216;
+pub const WAV: usize = 224;
 
 /// What a piece came to.
 #[derive(Clone, Copy, Debug, PartialEq, Eq)]
@@ -15,7 +15,7 @@ pub struct Piece {
     pub over: bool,
 }
 
-/// The WAV file of a log, under way (16 bits, one channel). A copy is a bookmark, which gives the same bytes again; `bytes` can be
+/// The WAV file of a recording, under way (16 bits, one channel). A copy is a bookmark, which gives the same bytes again; `bytes` can be
 /// stored, for a library of the same version.
 #[derive(Clone, Debug)]
 pub struct Wav<'a> {
@@ -25,7 +25,7 @@ pub struct Wav<'a> {
 }
 
 impl<'a> Wav<'a> {
-    /// A log's file at its beginning, with so many samples a second, 8,000 to 192,000; and the size of the whole file in bytes.
+    /// A recording's file at its beginning, with so many samples a second, 8,000 to 192,000; and the size of the whole file in bytes.
     pub fn begin(log: &'a [u8], memory: &'a [u8], rate: u32) -> Result<(Self, u64), Fault> {
         let mut bytes = [0; WAV];
         let size = value(raw::wav_begin(&mut bytes, log, memory, rate))?;

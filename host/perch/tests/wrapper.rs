@@ -158,6 +158,57 @@ fn wavs_refused() {
     assert_eq!((out, other.bytes()), ([b'?'; 60], wav.bytes()));
 }
 
+/// A VGM file of a PAL machine with a sample block, its commands behind it at 0x92.
+fn vgm_file() -> Vec<u8> {
+    let mut file = vec![0; 0x88];
+    for (at, word) in [(0x08, 0x161), (0x34, 0x88 - 0x34), (0x84, 1_662_607u32)] {
+        file[at..at + 4].copy_from_slice(&word.to_le_bytes());
+    }
+    file[..4].copy_from_slice(b"Vgm ");
+    file.extend([0x67, 0x66, 0xc2, 3, 0, 0, 0, 0x00, 0xc0, 0x55]);
+    file.extend([0xb4, 0x11, 0x40, 0x62, 0xb4, 0x11, 0x05, 0x66]);
+    file
+}
+
+#[test]
+fn vgm_files_are_recordings() {
+    let file = vgm_file();
+    let (memory, blocks) = perch::samples(&file[0x88..]).unwrap();
+    assert_eq!((blocks, memory[0x4000], memory.iter().filter(|&&byte| byte > 0).count()), (1, 0x55, 1));
+    let log = perch::import_for(&file[0x92..], Machine::Pal).unwrap();
+    assert_eq!(log, b"log=1\nmachine=pal\nwrite=4011:40\nwait=27710\nwrite=4011:05\nstop=27710\n");
+    let text = |recording| Player::new(recording, &memory).unwrap().flatten().collect::<Vec<u8>>();
+    assert_eq!(text(&file), b"play=1\nlevel=0:8074\nlevel=0:16620\nlevel=27710:8886\nstop=27710\n");
+    assert_eq!(text(&log), text(&file));
+    let sound = |recording| joined(Wav::begin(recording, &memory, 8000).unwrap().0, 100);
+    assert_eq!(sound(&log), sound(&file));
+    let (chip, clock) = Chip::at(&file, &memory, 27709).unwrap();
+    assert_eq!((chip.machine(), chip.outputs().unwrap().dmc, clock), (Machine::Pal, 64, 27709));
+    // A block is no command of a log; the functions of logs take no file.
+    assert_eq!(perch::import_for(&file[0x88..], Machine::Pal), Err(fault(25, 0)));
+    assert_eq!(perch::check(&file), Err(fault(14, 0)));
+}
+
+#[test]
+fn vgm_files_refused() {
+    let memory = vec![0; MEMORY];
+    let refused = |change: &dyn Fn(&mut Vec<u8>)| {
+        let mut file = vgm_file();
+        change(&mut file);
+        let begun = Player::new(&file, &memory).err();
+        assert_eq!(Wav::begin(&file, &memory, 0).err(), begun);
+        assert_eq!(Chip::at(&file, &memory, 0).err(), begun);
+        begun
+    };
+    assert_eq!(refused(&|file| file.resize(524_289, 0)), Some(fault(5, 0)));
+    assert_eq!(refused(&|file| file.truncate(0x3f)), Some(fault(35, 0)));
+    assert_eq!(refused(&|file| file[0x87] |= 0x40), Some(fault(36, 0x84)));
+    assert_eq!(refused(&|file| file[0x90] = 0x7f), Some(fault(34, 0x88)));
+    assert_eq!(refused(&|file| file[0x93] = 0x14), Some(fault(26, 0x93)));
+    assert_eq!(refused(&|file| file.truncate(0x95)), Some(fault(27, 0x95)));
+    assert_eq!(perch::samples(&[0x67, 0x66, 0xc2, 0, 0, 0, 0]), Err(fault(34, 0)));
+}
+
 /// The words of `perch` for a refusal, out of the table that it is built from.
 fn words(table: &str, number: u8) -> Option<&str> {
     let line = table.split_once(&format!("(eqb n {number}) (bytes \""))?.1;

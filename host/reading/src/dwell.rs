@@ -1,18 +1,18 @@
 //! Request 1 over a whole log: after how many clocks the DMC level stood at each of its values.
 
 use crate::chip::Chip;
-use crate::log::{self, Fault, Item};
+use crate::log::{Fault, Item};
 use crate::plain::Dwell;
-use crate::play;
+use crate::{play, recording};
 use std::fmt::Write;
 
 /// The table of a log from power-on, and the log's clocks.
 pub fn table(log: &[u8], memory: &[u8]) -> Result<(Dwell, u64), Fault> {
     play::check(log, memory)?;
-    let mut chip = Chip::power_on(log::machine(log)?);
+    let mut chip = Chip::power_on(recording::machine(log)?);
     let mut dwell: Dwell = [0; 128];
     let mut time = 0;
-    for item in log::items(log)? {
+    for item in recording::items(log)? {
         match item {
             Item::Wait(clocks) => {
                 for _ in 0..clocks {

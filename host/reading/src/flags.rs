@@ -1,8 +1,8 @@
 //! When the two interrupt flags and the interrupt line change in a log, clock by clock and access by access.
 
 use crate::chip::Chip;
-use crate::log::{self, Fault, Item};
-use crate::play;
+use crate::log::{Fault, Item};
+use crate::{play, recording};
 use std::fmt::Write;
 
 /// The names of the flags and of the line, in the order of their lines at one time.
@@ -24,9 +24,9 @@ fn tell(text: &mut String, time: u64, before: [bool; 3], after: [bool; 3]) {
 /// The lines of a log from power-on, and the log's clocks.
 fn changes(log: &[u8], memory: &[u8]) -> Result<(String, u64), Fault> {
     play::check(log, memory)?;
-    let mut chip = Chip::power_on(log::machine(log)?);
+    let mut chip = Chip::power_on(recording::machine(log)?);
     let (mut text, mut time) = (String::new(), 0);
-    for item in log::items(log)? {
+    for item in recording::items(log)? {
         let (times, each) = match item {
             Item::Wait(clocks) => (clocks, 1),
             Item::Write(..) | Item::Read => (1, 0),

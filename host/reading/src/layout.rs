@@ -1,7 +1,8 @@
 //! THE LAYOUT of the bytes that a caller keeps: a cursor's, a player's and those of a WAV file under way. It stands here and nowhere
 //! else in Rust; where the library's changes, change the order of these lines. Every number is low byte first.
 //!
-//! It is the library's choice and no rule of document 01; crates/c_player/specs/Player.antt and crates/c_wav/specs/Wavs.antt define it.
+//! It is the library's choice and no rule of document 01; crates/c_player/specs/Player.antt, crates/c_wav/specs/Wavs.antt and
+//! crates/c_recording/specs/Cursors.antt define it.
 
 /// The header's version: every change of a size, a layout or a function raises it.
 pub const VERSION: u32 = 12;
@@ -74,9 +75,23 @@ pub mod cursor {
     pub const SIZE: usize = LEFT.end();
 }
 
+/// The bytes of a place in a recording: a cursor's, which alone move in a log, and two numbers that move in a VGM file.
+pub mod place {
+    use super::{Part, cursor};
+
+    /// The cursor; its place is that in the file too.
+    pub const CURSOR: Part = Part::first(cursor::SIZE);
+    /// The samples before the place in the file.
+    pub const SAMPLES: Part = CURSOR.then(4);
+    /// The clocks that were given as waits.
+    pub const CLOCK: Part = SAMPLES.then(4);
+    /// How many they are.
+    pub const SIZE: usize = CLOCK.end();
+}
+
 /// A player's bytes.
 pub mod player {
-    use super::{Part, cursor};
+    use super::{Part, place};
     use crate::bytes;
 
     /// 0: `play=1` is due; 1: the first level; 2: what the log says; above: all is over.
@@ -88,7 +103,7 @@ pub mod player {
     /// The level last written.
     pub const LAST: Part = TIME.then(2);
     /// The cursor.
-    pub const CURSOR: Part = LAST.then(cursor::SIZE);
+    pub const CURSOR: Part = LAST.then(place::SIZE);
     /// The chip's state, last, so that a state of another size moves nothing else.
     pub const STATE: Part = CURSOR.then(bytes::SIZE);
     /// How many they are.
@@ -97,7 +112,7 @@ pub mod player {
 
 /// The bytes of a WAV file under way.
 pub mod wav {
-    use super::{Part, cursor};
+    use super::{Part, place};
     use crate::bytes;
 
     /// 1 where its head is written, else 0.
@@ -115,7 +130,7 @@ pub mod wav {
     /// The clocks done.
     pub const TIME: Part = SUM.then(8);
     /// The cursor.
-    pub const CURSOR: Part = TIME.then(cursor::SIZE);
+    pub const CURSOR: Part = TIME.then(place::SIZE);
     /// The chip's state, last, as in a player.
     pub const STATE: Part = CURSOR.then(bytes::SIZE);
     /// How many they are.

@@ -1,6 +1,7 @@
 //! Document 01, with the change requests that have landed, read in plain Rust, clock by clock, from the papers and from
-//! nothing else; but the bytes of a cursor, of a player and of a WAV file under way, which the papers leave free, are the library's
-//! (`layout`), and so is what becomes of those that no log led to (`cursor`, `player`, `wav`).
+//! nothing else, and of VGM files from their format; but the bytes of a cursor, of a player and of a WAV file under way, which the
+//! papers leave free, are the library's (`layout`), and so is what becomes of those that no recording led to (`cursor`, `recording`,
+//! `player`, `wav`).
 //!
 //! The library that this is compared with leaps; this reading never does. It is written to be held against the paper
 //! line by line, so each rule stands in it once and in the paper's words.
@@ -24,10 +25,12 @@ pub mod outputs;
 pub mod plain;
 pub mod play;
 pub mod player;
+pub mod recording;
 pub mod salvage;
 pub mod sheet;
 pub mod trace;
 pub mod vgm;
+pub mod vgm_file;
 pub mod wav;
 pub mod wave;
 pub mod why;
@@ -55,7 +58,7 @@ pub mod number {
     pub const CLOCKS: u8 = 3;
     /// The register is not among $4000..$4013, $4015, $4017.
     pub const REGISTER: u8 = 4;
-    /// The log is longer than 60,000 bytes.
+    /// The log is longer than 60,000 bytes, or the VGM file than 524,288.
     pub const LONG: u8 = 5;
     /// A ninth loop opened inside eight.
     pub const DEPTH: u8 = 7;
@@ -111,4 +114,10 @@ pub mod number {
     pub const FOLD_ROOM: u8 = 32;
     /// A rate outside 8,000..192,000 samples a second.
     pub const RATE: u8 = 33;
+    /// A sample block without an address, or with bytes outside $8000..$FFFF.
+    pub const BLOCK: u8 = 34;
+    /// The header of a VGM file is cut short or points out of the file.
+    pub const HEADER: u8 = 35;
+    /// A VGM file for two chips.
+    pub const TWO_CHIPS: u8 = 36;
 }

@@ -1,6 +1,9 @@
 //! Request 11: a meter for a stretch of levels.
 
-use crate::number;
+use crate::chip::Chip;
+use crate::log::{Fault, Item};
+use crate::{number, play, recording};
+use std::fmt::Write;
 
 /// The highest level there is.
 pub const MOST: u32 = 32_767;
@@ -29,4 +32,68 @@ pub fn meter_records(words: &[u32], start: u64, count: u64, before: u64) -> u64 
     let asked = records.filter(|(_, k)| *k >= start && k - start < count).map(|(level, _)| level);
     let levels: Vec<u32> = u32::try_from(before).into_iter().chain(asked).collect();
     meter(&levels)
+}
+
+/// The lowest and the highest of some levels, one at least.
+#[derive(Clone, Copy)]
+struct Range {
+    lowest: u16,
+    highest: u16,
+}
+
+impl Range {
+    fn of(level: u16) -> Self {
+        Self { lowest: level, highest: level }
+    }
+
+    fn add(&mut self, level: u16) {
+        *self = Self { lowest: self.lowest.min(level), highest: self.highest.max(level) };
+    }
+
+    /// Its words: the case, the lowest and the highest.
+    fn words(self) -> String {
+        match self {
+            Self { highest: 0, .. } => "silent".into(),
+            Self { lowest, highest } if lowest == highest => format!("steady:{lowest}"),
+            Self { lowest, highest } => format!("moving:{lowest}:{highest}"),
+        }
+    }
+}
+
+/// The levels of a recording, and a line for each of its waits. Of one with more clocks only so many, and what is left of the last wait,
+/// are worked.
+fn metered(log: &[u8], memory: &[u8], most: u64) -> Result<(Range, String), Fault> {
+    play::check(log, memory)?;
+    let mut chip = Chip::power_on(recording::machine(log)?);
+    let (mut time, mut waits, mut all) = (0, String::new(), Range::of(chip.level()));
+    for item in recording::items(log)? {
+        match item {
+            Item::Wait(clocks) => {
+                let mut here = Range::of(chip.level());
+                for _ in 0..clocks {
+                    chip.clock(memory);
+                    here.add(chip.level());
+                }
+                let _ = writeln!(waits, "wait={time}:{clocks}:{}", here.words());
+                time += u64::from(clocks);
+                all.add(here.lowest);
+                all.add(here.highest);
+            }
+            Item::Write(register, value) => chip.write(register, value),
+            Item::Read => drop(chip.read_status()),
+        }
+        all.add(chip.level());
+        if time >= most {
+            break;
+        }
+    }
+    Ok((all, waits))
+}
+
+/// All that `perch meter` writes for a recording, of so many clocks at most, with a line for each wait where they are asked for.
+pub fn text(log: &[u8], memory: &[u8], each: bool, most: u64) -> String {
+    match metered(log, memory, most) {
+        Ok((all, waits)) => format!("meter=1\nall={}\n{}", all.words(), if each { &waits } else { "" }),
+        Err(fault) => play::refusal(fault).replace("play=1", "meter=1"),
+    }
 }

@@ -1,18 +1,18 @@
 //! The state at a clock of a log: `perch at` and `perch_state_at`.
 
 use crate::chip::Chip;
-use crate::log::{self, Fault, Item};
+use crate::log::{Fault, Item};
 use crate::machine::Machine;
-use crate::{MEMORY, bytes, number, play, player};
+use crate::{MEMORY, bytes, number, play, player, recording};
 use std::fmt::Write;
 
 /// The state after exactly so many clocks of a log, accesses stamped with the last done, and the clocks; or both at the log's end where
 /// that comes before.
 pub fn reached(log: &[u8], memory: &[u8], clock: u64) -> Result<(Chip, u64), Fault> {
     play::check(log, memory)?;
-    let mut chip = Chip::power_on(log::machine(log)?);
+    let mut chip = Chip::power_on(recording::machine(log)?);
     let mut time = 0;
-    for item in log::items(log)? {
+    for item in recording::items(log)? {
         match item {
             Item::Wait(clocks) => {
                 for _ in 0..clocks {

@@ -1,17 +1,17 @@
-//! The player: what a log sounds like, as lines of text.
+//! The player: what a recording, a log or a VGM file, sounds like, as lines of text.
 
 use crate::chip::Chip;
-use crate::log::{self, Fault, Item};
+use crate::log::{Fault, Item, Totals};
 use crate::machine::Machine;
-use crate::{MEMORY, number};
+use crate::{MEMORY, number, recording};
 use std::fmt::Write;
 
 /// Whether a log plays with this sample memory: the memory first, then the log.
-pub fn check(log: &[u8], memory: &[u8]) -> Result<log::Totals, Fault> {
+pub fn check(log: &[u8], memory: &[u8]) -> Result<Totals, Fault> {
     if memory.len() != MEMORY {
         return Err(Fault { number: number::MEMORY, place: 0 });
     }
-    log::check(log)
+    recording::check(log)
 }
 
 /// The text of a refusal.
@@ -26,7 +26,7 @@ pub(crate) fn refusal_line(number: u8, place: &str) -> String {
 
 /// All that the player writes for a log.
 pub fn text(log: &[u8], memory: &[u8]) -> String {
-    match check(log, memory).and_then(|_| Ok((log::machine(log)?, log::items(log)?))) {
+    match check(log, memory).and_then(|_| Ok((recording::machine(log)?, recording::items(log)?))) {
         Ok((machine, items)) => sounds(machine, &items, memory),
         Err(fault) => refusal(fault),
     }
@@ -40,8 +40,8 @@ pub fn beginning(log: &[u8], memory: &[u8], clocks: u64) -> Result<String, Fault
         Item::Wait(clocks) => left.checked_sub(u64::from(*clocks)).inspect(|rest| left = *rest).is_some(),
         _ => true,
     };
-    let first: Vec<Item> = log::items(log)?.into_iter().take_while(|item| fits(item)).collect();
-    let mut text = sounds(log::machine(log)?, &first, memory);
+    let first: Vec<Item> = recording::items(log)?.into_iter().take_while(|item| fits(item)).collect();
+    let mut text = sounds(recording::machine(log)?, &first, memory);
     // Without the line of the end.
     text.truncate(text.trim_end().rfind('\n').map_or(0, |feed| feed + 1));
     Ok(text)

@@ -4,16 +4,18 @@
 //! pieces; how full a piece gets is free, and here it takes as many lines as fit.
 
 use crate::chip::Chip;
-use crate::cursor::{Cursor, Step};
+use crate::cursor::Step;
 pub use crate::layout::player::SIZE;
 use crate::layout::player::{CURSOR, LAST, PHASE, STATE, TIME, WAIT};
-use crate::log::{self, Fault, Item, MOST_DEPTH};
+use crate::log::{self, Fault, Item};
 use crate::machine::Machine;
 use crate::plain::plain;
+use crate::recording::{self, Place};
 use crate::{MEMORY, MOST_CLOCKS, number, play};
 
+/// A refusal; of a place the low 24 bits.
 pub(crate) fn refused(fault: Fault) -> u64 {
-    u64::from(fault.number) | (fault.place as u64) << 8
+    u64::from(fault.number) | (fault.place as u64 & 0xff_ffff) << 8
 }
 
 fn answer<T>(result: Result<T, Fault>, value: impl FnOnce(T) -> u64) -> u64 {
@@ -59,8 +61,8 @@ pub fn body(log: &[u8], offset: u64) -> u64 {
 /// A player, one small turn at a time. One that its log didn't lead to turns as crates/play_rules/specs/Turns.antt defines it.
 #[derive(Clone, Copy, Debug, PartialEq, Eq)]
 pub struct Player {
-    /// Where it stands in the log.
-    pub cursor: Cursor,
+    /// Where it stands in the recording.
+    pub place: Place,
     /// 0: `play=1` is due; 1: the first level; 2: what the log says; above: all is over.
     pub phase: u8,
     /// Clocks left of a wait under way.
@@ -91,14 +93,7 @@ pub(crate) const LATEST: u64 = 2_000_000_000;
 
 impl Player {
     fn first(machine: Machine) -> Self {
-        Self {
-            cursor: Cursor { at: 0, open: 0, starts: [0; MOST_DEPTH], left: [0; MOST_DEPTH] },
-            phase: 0,
-            wait: 0,
-            time: 0,
-            last: 0,
-            chip: Chip::power_on(machine),
-        }
+        Self { place: Place::default(), phase: 0, wait: 0, time: 0, last: 0, chip: Chip::power_on(machine) }
     }
 
     /// The player as bytes.
@@ -109,7 +104,7 @@ impl Player {
         TIME.put(&mut bytes, self.time.into());
         LAST.put(&mut bytes, self.last.into());
         STATE.of_mut(&mut bytes).copy_from_slice(&self.chip.encode());
-        CURSOR.of_mut(&mut bytes).copy_from_slice(&self.cursor.encode());
+        CURSOR.of_mut(&mut bytes).copy_from_slice(&self.place.encode());
         bytes
     }
 
@@ -119,7 +114,7 @@ impl Player {
             return None;
         }
         Some(Self {
-            cursor: Cursor::decode(CURSOR.of(bytes)),
+            place: Place::decode(CURSOR.of(bytes)),
             phase: PHASE.get(bytes) as u8,
             wait: WAIT.get(bytes) as u32,
             time: TIME.get(bytes) as u32,
@@ -151,9 +146,9 @@ impl Player {
         }
     }
 
-    /// The line that the cursor comes to.
+    /// The line or the command that it comes to.
     fn follow(&mut self, log: &[u8]) -> Said {
-        match self.cursor.step(log) {
+        match self.place.step(log) {
             Err(fault) => return Said::Refused(fault),
             Ok(Step::Moved) => {}
             Ok(Step::End) => {
@@ -197,7 +192,7 @@ impl Player {
     }
 }
 
-/// Makes the bytes a player of the log's machine that has written nothing. Refused: 1, 2 (a player of another length), then the log's.
+/// Makes the bytes a player of the recording's machine that has written nothing. Refused: 1, 2 (a player of another length), then the log's.
 pub fn begin(player: &mut [u8], log: &[u8], memory: &[u8]) -> u64 {
     if memory.len() != MEMORY {
         return number::MEMORY.into();
@@ -205,7 +200,7 @@ pub fn begin(player: &mut [u8], log: &[u8], memory: &[u8]) -> u64 {
     if player.len() != SIZE {
         return number::STATE.into();
     }
-    answer(log::machine(log), |machine| {
+    answer(recording::machine(log), |machine| {
         player.copy_from_slice(&Player::first(machine).encode());
         0
     })

@@ -1,9 +1,9 @@
 //! A window of a log as a trace, clock by clock and access by access, and its text as a VCD (IEEE 1364).
 
 use crate::chip::Chip;
-use crate::log::{self, Fault, Item};
+use crate::log::{Fault, Item};
 use crate::machine::Machine;
-use crate::play;
+use crate::{play, recording};
 use std::fmt::Write;
 
 /// How many lanes show the chip.
@@ -69,7 +69,7 @@ pub fn time(machine: Machine, clock: u64) -> u64 {
 /// log's end where that comes before. Where the log ends before `from` its end is all of the window.
 pub fn walk(log: &[u8], memory: &[u8], from: u64, clocks: u64, mut show: impl FnMut(Moment)) -> Result<(), Fault> {
     play::check(log, memory)?;
-    let machine = log::machine(log)?;
+    let machine = recording::machine(log)?;
     let mut chip = Chip::power_on(machine);
     let (mut clock, mut nth) = (0, 0);
     let mut show = |event: Event, chip: &Chip, clock: u64, nth: u64| {
@@ -79,7 +79,7 @@ pub fn walk(log: &[u8], memory: &[u8], from: u64, clocks: u64, mut show: impl Fn
     if from == 0 {
         show(Event::Begin, &chip, 0, 0);
     }
-    'items: for item in log::items(log)? {
+    'items: for item in recording::items(log)? {
         let times = if let Item::Wait(clocks) = item { clocks } else { 1 };
         for _ in 0..times {
             if clock == from + clocks {

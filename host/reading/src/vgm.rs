@@ -1,19 +1,25 @@
-//! Request 10: the command part of a VGM stream, brought in as a log.
+//! Request 10: the command part of a VGM stream, brought in as a log, or as what it stands for.
 
-use crate::log::{Fault, MOST_BYTES, MOST_CLOCKS, MOST_TURNS};
+use crate::log::{Fault, Item, MOST_BYTES, MOST_CLOCKS, MOST_TURNS};
+use crate::machine::Machine;
 use crate::number;
 use std::fmt::Write;
 
-enum Command {
+/// A command.
+#[derive(Clone, Copy, Debug, PartialEq, Eq)]
+pub enum Command {
+    /// A register and a value.
     Write(u16, u8),
     /// So many samples.
     Wait(u16),
+    /// $66.
     End,
 }
 
-/// The command at a place, and how many bytes it takes.
-fn command(stream: &[u8], at: usize) -> Result<(Command, usize), Fault> {
-    let byte = |i| stream.get(at + i).copied().ok_or(Fault { number: number::STREAM_ENDS, place: stream.len() });
+/// The command at a place, and how many bytes it takes. At a place behind the stream's end it is missing there.
+pub fn command(stream: &[u8], at: usize) -> Result<(Command, usize), Fault> {
+    let missing = Fault { number: number::STREAM_ENDS, place: stream.len().max(at) };
+    let byte = |i| at.checked_add(i).and_then(|at| stream.get(at)).copied().ok_or(missing);
     Ok(match byte(0)? {
         0xb4 => {
             let register = byte(1)?;
@@ -31,9 +37,9 @@ fn command(stream: &[u8], at: usize) -> Result<(Command, usize), Fault> {
     })
 }
 
-/// Where the import stands after so many samples, at 44100 a second.
-fn clocks(samples: u128) -> u128 {
-    samples * 1_789_773 / 44_100
+/// Where a machine stands after so many samples, at 44100 a second.
+pub fn clocks(machine: Machine, samples: u128) -> u128 {
+    samples * u128::from(machine.clocks_a_second()) / 44_100
 }
 
 /// What a stream stands for.
@@ -47,8 +53,14 @@ pub struct Meant {
     pub bytes: usize,
 }
 
-/// Reads the commands up to $66.
+/// Reads the commands up to $66, for an NTSC machine.
 pub fn meant(stream: &[u8]) -> Result<Meant, Fault> {
+    meant_for(Machine::Ntsc, stream)
+}
+
+/// The same for a machine.
+pub fn meant_for(machine: Machine, stream: &[u8]) -> Result<Meant, Fault> {
+    let clocks = |samples| clocks(machine, samples);
     let (mut at, mut samples, mut writes) = (0, 0, Vec::new());
     loop {
         let (command, bytes) = command(stream, at)?;
@@ -61,42 +73,57 @@ pub fn meant(stream: &[u8]) -> Result<Meant, Fault> {
     }
 }
 
-const LONGEST_WAIT: u128 = 1_000_000;
+/// The longest wait of a log.
+pub const LONGEST_WAIT: u128 = 1_000_000;
 
-/// The lines of a gap: waits of 1000000 first, then the rest.
-fn waits(gap: u128) -> String {
-    let mut lines = "wait=1000000\n".repeat((gap / LONGEST_WAIT) as usize);
-    let rest = gap % LONGEST_WAIT;
-    if rest > 0 {
-        let _ = writeln!(lines, "wait={rest}");
-    }
-    lines
+/// The waits of a gap: of 1000000 first, then the rest.
+fn waits(gap: u128) -> impl Iterator<Item = Item> {
+    let whole = (0..gap / LONGEST_WAIT).map(|_| LONGEST_WAIT);
+    let rest = Some(gap % LONGEST_WAIT).filter(|rest| *rest > 0);
+    whole.chain(rest).map(|clocks| Item::Wait(clocks as u32))
 }
 
-/// The stream's log, of any length.
+/// The list of a stream: each gap before a write, the write; at last the gap before the end. 9 where it is over the totals.
+pub fn acts(meant: &Meant) -> Result<Vec<Item>, Fault> {
+    let over = Fault { number: number::TOTALS, place: 0 };
+    if meant.end > MOST_CLOCKS {
+        return Err(over);
+    }
+    let (mut list, mut before) = (Vec::new(), 0);
+    for &(clock, register, value) in &meant.writes {
+        list.extend(waits(clock - std::mem::replace(&mut before, clock)));
+        list.push(Item::Write(register, value));
+    }
+    list.extend(waits(meant.end - before));
+    if list.len() as u128 > MOST_TURNS { Err(over) } else { Ok(list) }
+}
+
+/// The stream's log for an NTSC machine, of any length.
 pub fn log(stream: &[u8]) -> Result<String, Fault> {
-    let Meant { writes, end, .. } = meant(stream)?;
-    // The gap before each write, and before the end.
-    let mut before = 0;
-    let clocks = writes.iter().map(|write| write.0).chain([end]);
-    let gaps: Vec<u128> = clocks.map(|clock| clock - std::mem::replace(&mut before, clock)).collect();
-    let turns = writes.len() as u128 + gaps.iter().map(|gap| gap.div_ceil(LONGEST_WAIT)).sum::<u128>();
-    if end > MOST_CLOCKS || turns > MOST_TURNS {
-        return Err(Fault { number: number::TOTALS, place: 0 });
-    }
+    log_for(Machine::Ntsc, stream)
+}
+
+/// The same for a machine.
+pub fn log_for(machine: Machine, stream: &[u8]) -> Result<String, Fault> {
+    let meant = meant_for(machine, stream)?;
     let mut text = String::from("log=1\n");
-    for ((_, register, value), gap) in writes.iter().zip(&gaps) {
-        text += &waits(*gap);
-        let _ = writeln!(text, "write={register:04x}:{value:02x}");
+    if machine == Machine::Pal {
+        text += "machine=pal\n";
     }
-    text += &waits(gaps[writes.len()]);
-    let _ = writeln!(text, "stop={end}");
+    for item in acts(&meant)? {
+        let _ = match item {
+            Item::Wait(clocks) => writeln!(text, "wait={clocks}"),
+            Item::Write(register, value) => writeln!(text, "write={register:04x}:{value:02x}"),
+            Item::Read => unreachable!("no command reads"),
+        };
+    }
+    let _ = writeln!(text, "stop={}", meant.end);
     Ok(text)
 }
 
 /// Writes the stream's log to the text: its length, or its fault.
-fn import_to(stream: &[u8], text: &mut [u8]) -> Result<usize, Fault> {
-    let log = log(stream)?;
+fn import_to(machine: Machine, stream: &[u8], text: &mut [u8]) -> Result<usize, Fault> {
+    let log = log_for(machine, stream)?;
     if log.len() > text.len() || log.len() > MOST_BYTES {
         return Err(Fault { number: number::ROOM, place: 0 });
     }
@@ -106,7 +133,15 @@ fn import_to(stream: &[u8], text: &mut [u8]) -> Result<usize, Fault> {
 
 /// What a caller in C is answered: 2^8 x the log's length, or number + 2^8 x place.
 pub fn import(stream: &[u8], text: &mut [u8]) -> u64 {
-    match import_to(stream, text) {
+    import_for(stream, Machine::Ntsc as u8, text)
+}
+
+/// The same for a machine's number; 2 where no machine has it.
+pub fn import_for(stream: &[u8], machine: u8, text: &mut [u8]) -> u64 {
+    let Some(machine) = Machine::of(machine) else {
+        return number::STATE.into();
+    };
+    match import_to(machine, stream, text) {
         Ok(length) => (length as u64) << 8,
         Err(fault) => u64::from(fault.number) | (fault.place as u64) << 8,
     }

@@ -1,15 +1,16 @@
-//! A log as a WAV file in pieces, on bytes and numbers: what a caller in C is answered.
+//! A recording as a WAV file in pieces, on bytes and numbers: what a caller in C is answered.
 //!
 //! A file under way is bytes, which the caller keeps between two pieces. What becomes of one that its log didn't lead to is the
 //! library's choice, as crates/play_samples/specs/Stepping.antt and crates/wav_rules/specs/Turns.antt define it.
 
 use crate::chip::Chip;
-use crate::cursor::{Cursor, Step};
+use crate::cursor::Step;
 pub use crate::layout::wav::SIZE;
 use crate::layout::wav::{BEGUN, COUNT, CURSOR, LEFT, RATE, SAMPLE, STATE, SUM, TIME};
-use crate::log::{self, Fault, Item};
+use crate::log::{Fault, Item};
 use crate::machine::Machine;
 use crate::player::{LATEST, MOST_SILENT, refused};
+use crate::recording::{self, Place};
 use crate::wave::{self, HEAD, RATES, Sampler};
 use crate::{MEMORY, MOST_CLOCKS, number};
 
@@ -29,8 +30,8 @@ pub struct Wav {
     pub left: u32,
     /// The clocks done and the sample under way.
     pub sampler: Sampler,
-    /// Where it stands in the log.
-    pub cursor: Cursor,
+    /// Where it stands in the recording.
+    pub place: Place,
     /// The chip's state.
     pub chip: Chip,
 }
@@ -56,7 +57,7 @@ impl Wav {
             count,
             left: 0,
             sampler: Sampler::default(),
-            cursor: Cursor::default(),
+            place: Place::default(),
             chip: Chip::power_on(machine),
         }
     }
@@ -71,7 +72,7 @@ impl Wav {
         SAMPLE.put(&mut bytes, self.sampler.sample);
         SUM.put(&mut bytes, self.sampler.sum);
         TIME.put(&mut bytes, self.sampler.clock);
-        CURSOR.of_mut(&mut bytes).copy_from_slice(&self.cursor.encode());
+        CURSOR.of_mut(&mut bytes).copy_from_slice(&self.place.encode());
         STATE.of_mut(&mut bytes).copy_from_slice(&self.chip.encode());
         bytes
     }
@@ -87,7 +88,7 @@ impl Wav {
             count: COUNT.get(bytes) as u32,
             left: LEFT.get(bytes) as u32,
             sampler: Sampler { clock: TIME.get(bytes), sample: SAMPLE.get(bytes), sum: SUM.get(bytes) },
-            cursor: Cursor::decode(CURSOR.of(bytes)),
+            place: Place::decode(CURSOR.of(bytes)),
             chip: Chip::decode(STATE.of(bytes))?,
         })
     }
@@ -129,9 +130,9 @@ impl Wav {
         sample.map_or(Said::Nothing, Said::Sample)
     }
 
-    /// The line that the cursor comes to.
+    /// The line or the command that it comes to.
     fn follow(&mut self, log: &[u8]) -> Said {
-        match self.cursor.step(log) {
+        match self.place.step(log) {
             Err(fault) => return Said::Refused(fault),
             Ok(Step::End) => return Said::Over,
             Ok(Step::Moved) => {}
@@ -151,7 +152,7 @@ pub fn begin(wav: &mut [u8], log: &[u8], memory: &[u8], rate: u32) -> u64 {
     if wav.len() != SIZE {
         return number::STATE.into();
     }
-    let (machine, totals) = match log::check(log).and_then(|totals| Ok((log::machine(log)?, totals))) {
+    let (machine, totals) = match recording::check(log).and_then(|totals| Ok((recording::machine(log)?, totals))) {
         Ok(checked) => checked,
         Err(fault) => return refused(fault),
     };

@@ -1,9 +1,9 @@
 //! A log as a WAV file (RIFF, PCM, 16 bits, one channel): its levels, added clock by clock.
 
 use crate::chip::Chip;
-use crate::log::{self, Fault, Item};
+use crate::log::{Fault, Item};
 use crate::machine::Machine;
-use crate::play;
+use crate::{play, recording};
 use std::ops::RangeInclusive;
 
 /// The rates that may be asked for, in samples a second.
@@ -56,10 +56,10 @@ impl Sampler {
 /// floor((n + 1) x f / rate), f clocks a second. One whose last clock the log doesn't have is none.
 pub fn samples(log: &[u8], memory: &[u8], rate: u64) -> Result<Vec<u16>, Fault> {
     play::check(log, memory)?;
-    let machine = log::machine(log)?;
+    let machine = recording::machine(log)?;
     let (mut chip, mut sampler) = (Chip::power_on(machine), Sampler::default());
     let mut samples = Vec::new();
-    for item in log::items(log)? {
+    for item in recording::items(log)? {
         match item {
             Item::Wait(count) => {
                 for _ in 0..count {

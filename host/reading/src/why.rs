@@ -1,7 +1,8 @@
 //! Request 6: why a square or the noise channel is silent.
 
 use crate::chip::{Chip, DUTIES, Noise, Square, Which};
-use crate::number;
+use crate::{moment, number, play};
+use std::fmt::Write;
 
 /// 1 to 6 by the first reason that is true; where it sounds 16 + its number.
 fn first(reasons: [bool; 6], number: u16) -> u64 {
@@ -40,4 +41,25 @@ pub fn why(state: &[u8], channel: u64) -> u64 {
         _ => return number::CHANNEL.into(),
     };
     value << 8
+}
+
+/// The words of the reasons by number less one.
+const REASONS: [&str; 6] = ["disabled", "length", "period", "sweep", "step", "volume"];
+
+/// All that `perch why` writes for a recording and a clock.
+pub fn text(log: &[u8], memory: &[u8], clock: u64) -> String {
+    let (chip, time) = match moment::reached(log, memory, clock) {
+        Ok(reached) => reached,
+        Err(fault) => return play::refusal(fault).replace("play=1", "why=1"),
+    };
+    let mut text = format!("why=1\nclock={time}\n");
+    for (channel, name) in [(0, "square1"), (1, "square2"), (3, "noise")] {
+        let word = match why(&chip.encode(), channel) >> 8 {
+            5 if channel == 3 => "bit".into(),
+            reason @ 1..=6 => REASONS[reason as usize - 1].to_string(),
+            number => format!("sounds:{}", number - 16),
+        };
+        let _ = writeln!(text, "{name}={word}");
+    }
+    text
 }

@@ -35,6 +35,9 @@ pub fn words(number: u8) -> &'static str {
         31 => "the list has no room",
         32 => "buffer shorter than the log",
         33 => "rate outside 8000..192000",
+        34 => "a sample block outside 8000..ffff",
+        35 => "the header of the VGM file says no place for commands",
+        36 => "a VGM file for two chips",
         _ => "refused",
     }
 }

@@ -75,7 +75,7 @@ fn beginnings_refused() {
         answer
     };
     let (size, wrong) = (layout::SIZE, b"log=1\nwait=5\nstop=6\n");
-    assert_eq!(size, 216);
+    assert_eq!(size, 224);
     assert_eq!(refused(size - 1, wrong, &MEMORY_0[1..], 0), 1);
     assert_eq!(refused(size - 1, wrong, &MEMORY_0, 0), 2);
     assert_eq!(refused(size, wrong, &MEMORY_0, 0), 10 | 13 << 8);

@@ -10,7 +10,7 @@
 
 use reading::{
     access, boundary, cursor as cursors, fold, interrupt, layout, meter, mixer, moment, outputs, player as pieces,
-    salvage, sheet, vgm, wav as wavs, why, words,
+    salvage, sheet, vgm, vgm_file, wav as wavs, why, words,
 };
 use std::slice::{from_raw_parts, from_raw_parts_mut};
 
@@ -202,6 +202,16 @@ pub unsafe extern "C" fn perch_reason(number: u8, text: *mut u8, t: usize) -> u6
 #[cfg_attr(feature = "export", unsafe(no_mangle))]
 pub unsafe extern "C" fn perch_import(stream: *const u8, n: usize, text: *mut u8, t: usize) -> u64 {
     unsafe { vgm::import(from_raw_parts(stream, n), from_raw_parts_mut(text, t)) }
+}
+
+#[cfg_attr(feature = "export", unsafe(no_mangle))]
+pub unsafe extern "C" fn perch_import_for(stream: *const u8, n: usize, machine: u8, text: *mut u8, t: usize) -> u64 {
+    unsafe { vgm::import_for(from_raw_parts(stream, n), machine, from_raw_parts_mut(text, t)) }
+}
+
+#[cfg_attr(feature = "export", unsafe(no_mangle))]
+pub unsafe extern "C" fn perch_samples(stream: *const u8, n: usize, memory: *mut u8, m: usize) -> u64 {
+    unsafe { vgm_file::samples(from_raw_parts(stream, n), from_raw_parts_mut(memory, m)) }
 }
 
 #[cfg_attr(feature = "export", unsafe(no_mangle))]

@@ -1,4 +1,4 @@
-//! One log of a batch.
+//! One log of a batch, or one VGM file.
 
 use super::file::{self, Part};
 use super::kept::is_kept;
@@ -12,13 +12,28 @@ use std::fs::File;
 use std::io::{self, Read, Write};
 use std::path::Path;
 
-/// A byte more than a log may have, so that a longer one is seen.
-const MOST: u64 = perch::LOG as u64 + 1;
+/// A byte more than a VGM file may have, so that a longer one is seen, and a longer log.
+const MOST: u64 = perch::VGM as u64 + 1;
 
 fn read(path: &Path) -> io::Result<Vec<u8>> {
     let mut log = Vec::new();
     File::open(path)?.take(MOST).read_to_end(&mut log)?;
     Ok(log)
+}
+
+/// Four bytes, low byte first; past the end there are zeros.
+fn word(file: &[u8], at: usize) -> u32 {
+    u32::from_le_bytes(std::array::from_fn(|i| file.get(at + i).copied().unwrap_or(0)))
+}
+
+/// The sample memory that a VGM file brings along; none where it has no sample blocks, and in a log. Where its blocks begin its header
+/// says: at $40 before version 1.50 and where that is left open.
+fn own_memory(file: &[u8]) -> Option<Vec<u8>> {
+    let offset = word(file, 0x34) as usize;
+    let start = if word(file, 0x08) < 0x150 || offset == 0 { 0x40 } else { 0x34 + offset };
+    let stream = file.strip_prefix(b"Vgm ").and_then(|_| file.get(start..))?;
+    let (memory, blocks) = perch::samples(stream).ok()?;
+    (blocks > 0).then_some(memory)
 }
 
 /// The level lines of a piece, counted by their `v`: no other line of a text (`play=`, `read=`, `stop=`) has that letter. The sum,
@@ -68,7 +83,8 @@ pub fn play(asked: &Asked, log: &Log, memory: &[u8]) -> Outcome {
         Ok(bytes) => bytes,
         Err(error) => return failed(error),
     };
-    match Player::new(&bytes, memory) {
+    let own = own_memory(&bytes);
+    match Player::new(&bytes, own.as_deref().unwrap_or(memory)) {
         Ok(player) => to_file(player, &asked.folder, log).unwrap_or_else(failed),
         Err(fault) => Outcome::Refused(fault),
     }
@@ -85,6 +101,25 @@ mod tests {
         let outcome = write(Player::new(log, &[0; perch::MEMORY]).unwrap(), &mut text).unwrap();
         assert_eq!(text, b"play=1\nlevel=0:8074\nlevel=0:16620\nread=10:00\nstop=10\n");
         assert_eq!(outcome, Outcome::Played { clocks: 10, levels: 2, bytes: text.len() as u64 });
+    }
+
+    #[test]
+    fn samples_of_files() {
+        let file = |version: u8, offset: u8, start: usize| {
+            let mut file = vec![0; start];
+            file[..4].copy_from_slice(b"Vgm ");
+            (file[0x08], file[0x09], file[0x34]) = (version, 1, offset);
+            file.extend([0x67, 0x66, 0xc2, 3, 0, 0, 0, 0x02, 0x80, 0x55, 0x66]);
+            file
+        };
+        for file in [file(0x61, 0x54, 0x88), file(0x50, 0, 0x40), file(0x4f, 0x54, 0x40), file(0x50, 0x0c, 0x40)] {
+            assert_eq!(own_memory(&file).unwrap()[..4], [0, 0, 0x55, 0]);
+            assert_eq!(own_memory(&file[1..]), None);
+        }
+        assert_eq!(own_memory(&file(0x61, 0x54, 0x80)), None);
+        assert_eq!(own_memory(&file(0x61, 0xff, 0x88)), None);
+        assert_eq!(own_memory(b"Vgm "), None);
+        assert_eq!(own_memory(b"log=1\nstop=0\n"), None);
     }
 
     #[test]
