@@ -31,7 +31,7 @@
  *   refusal_text, reason 32..63 PERCH_WRITTEN
  *   any other            8..63 PERCH_VALUE
  *
- * A call takes 6.5 KB of stack at most, measured, and no heap.
+ * A call takes 12 KB of stack at most, measured, and no heap.
  *
  * A state is PERCH_STATE_SIZE bytes: the fields in the order in which document 01, "State, ranges and power-on", names
  * them, then the machine. Period, timer, shift register, address, remaining and clock number take two bytes, low first,

@@ -181,6 +181,11 @@ batch() {
   diff <(cut -f 1,2 "$work/out") <(printf '%s\n' played$'\t'00{0,2} kept$'\t'004 'batch=1 played=2 refused=0 failed=0 kept=1')
   touch 002.log
   diff -r "$work/due" "$work/listed"
+  # a VGM file, with the sample memory that it brings along
+  mkdir "$work/vgm"
+  "$examples/../host/vgm-example" 2 pal >"$work/drum.vgm"
+  ends 0 perch batch -o "$work/vgm" "$work/drum.vgm" >/dev/null
+  cmp "$work/vgm/drum.vgm.play" <("$PERCH_LIBEXEC/perch" play <"$work/drum.vgm")
   # a short sample memory is refused with each log
   ends 1 perch batch -s "$work/short.bin" -o "$work/listed" 000.log 001.log | cmp - <(
     printf "refused\t%s\t1:0\tsample memory isn't 32,768 bytes\n" 000 001; echo batch=1 played=0 refused=2 failed=0 kept=0)

@@ -19,9 +19,9 @@ fn tell(log: &[u8]) -> bool {
     program_io::write_all(STDOUT_FILENO, &out[..n])
 }
 
-// A byte more than a log may have, so that a longer one is seen.
+// A byte more than a VGM file may have, so that a longer one is seen, and a longer log.
 pub(crate) fn check() -> bool {
-    let mut log = [0u8; 60001];
+    let mut log = [0u8; 524289];
     let r = program_io::read_input(b"perch", &mut log);
     if r.failed {
         return true;

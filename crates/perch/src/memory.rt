@@ -1,4 +1,6 @@
 // The sample memory for a recording: that of its own sample blocks, where it is a VGM file with some, else the file sample.bin.
+ghost use Prim.Native.Nat.{_≤_};
+ghost use lib.ListN.{length};
 ghost use Rattle.io.specs.Counts.{Counts};
 use program_io::Input;
 use vgm_file::Part;
@@ -33,7 +35,8 @@ fn is_long(recording: &[u8]) -> bool {
 }
 
 // Into a byte more than sample memory has, so that a longer one is seen.
-pub(crate) fn read_for(recording: &[u8], memory: &mut [u8; 32769]) -> Input
+pub(crate) fn read_for(recording: &[u8], memory: &mut [u8]) -> Input
+    requires { ⌜ 32769 ≤ length (now memory) ⌝ }
     ensures { λ r. ⌜ Counts (r .count) (now (memory .exit)) ⌝ }
 {
     if is_long(recording) {

@@ -122,7 +122,10 @@ fn sound(recording: &[u8], memory: &[u8], rate: u32) -> Result<Vec<u8>, String> 
     let (mut bytes, mut joined) = (vec![0; wav_layout::SIZE], Vec::new());
     let begun = raw::wav_begin(&mut bytes, recording, memory, rate);
     let mut out = [0; 10_000];
-    while begun as u8 == 0 {
+    if begun as u8 != 0 {
+        return Err(format!("the WAV file's beginning answers {begun:#x}"));
+    }
+    loop {
         let answer = raw::wav_on(&mut bytes, recording, memory, &mut out);
         if answer as u8 != 0 {
             return Err(format!("a piece of the WAV file answers {answer:#x}"));
@@ -132,7 +135,6 @@ fn sound(recording: &[u8], memory: &[u8], rate: u32) -> Result<Vec<u8>, String> 
             return Ok(joined);
         }
     }
-    Err(format!("the WAV file's beginning answers {begun:#x}"))
 }
 
 /// "Where the import succeeds, playing the file and playing the imported log say the same": the text, and the WAV file at a rate.

@@ -110,7 +110,9 @@ pub fn through(log: &str, sample: &str) -> Result<String, String> {
         at += piece.len();
     }
     match player.fault() {
-        None if at == ours.len() => Ok(format!("{} clocks, {at} bytes of text as the reading has them\n", totals.clocks)),
+        None if at == ours.len() => {
+            Ok(format!("{} clocks, {at} bytes of text as the reading has them\n", totals.clocks))
+        }
         fault => Err(format!("{at} bytes of text, by the reading {}; {fault:?}", ours.len())),
     }
 }

@@ -344,7 +344,9 @@ pub(crate) fn piece(bytes: &mut [u8], log: &[u8], memory: &[u8], size: usize) ->
             return wrong("refused, and something changed".into());
         }
         return match refused {
-            Some((fault, _)) if (fault.number, fault.place as u64 & 0xff_ffff) == (number, low) => Ok(number.to_string()),
+            Some((fault, _)) if (fault.number, fault.place as u64 & 0xff_ffff) == (number, low) => {
+                Ok(number.to_string())
+            }
             _ => wrong(format!("the machine comes to {refused:?}")),
         };
     }

@@ -179,7 +179,14 @@ fn damage(random: &mut Random, drawn: &mut Drawn) -> Vec<u8> {
             let at = random.within(from..=(front - 1).max(from)) as usize;
             file[at] = random.byte();
         }
-        // One of the words of the header that count, or where it begins.
+        // One of the words of the header that count, at its edges, or a byte of it, or of where it begins.
+        3 if random.one_in(2) => {
+            let behind = file.len() as u32 - 0x34;
+            let offset = random.pick(&[1, 2, 3, 4, 5, behind - 1, behind, behind + 1, u32::MAX]);
+            let version = random.pick(&[0x14f, 0x150, 0x160, 0x161]);
+            let (at, word) = random.pick(&[(0x34, offset), (0x34, offset), (0x08, version)]);
+            put(&mut file, at, word);
+        }
         3 => {
             let word = random.pick(&[0x00, 0x08, 0x34, 0x34, 0x84, 0x84]);
             let at = (word + random.within(0..=3) as usize).min(file.len() - 1);
