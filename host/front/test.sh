@@ -61,7 +61,7 @@ verbs() {
   head -c 100 scale.vgm >"$work/cut.vgm"
   for verb in check play import samples wav; do as 1 "$work/cut.vgm" perch $verb; done
   as 1 /dev/null perch sheet 128 c000 20
-  for words in nothing "nothing first.log" "check a b" why "why 05" "why first.log" at "at 05" "vcd 5" "vcd 0 0" "vcd 0 first.log" "wav 08000" "wav 8000 1" "sheet 64 C000 20" "sheet 64 c000 20 1"; do
+  for words in nothing "nothing first.log" "check a b" why "why 05" "why first.log" at "at 05" "vcd 5" "vcd 0 0" "vcd 0 first.log" "wav 08000" "sheet 64 C000 20" "sheet 64 c000 20 1"; do
     as 2 first.log perch $words
   done
   as 3 . player
