@@ -29,6 +29,7 @@ pub mod reasons;
 pub mod riff;
 pub mod salvages;
 pub mod sheets;
+pub mod spectra;
 pub mod stamped;
 pub mod stored;
 pub mod traces;

@@ -26,6 +26,7 @@ compare at LOG SAMPLE CLOCK                             write what perch at writ
 compare vcd LOG SAMPLE FROM CLOCKS                      write what perch vcd writes for a log, by the reading
 compare carried VCD OTHER FEWEST                        hold each lane of another VCD to the lane of its name, so many at least
 compare wav LOG SAMPLE [RATE]                           write what perch wav writes for a log, by the reading
+compare spectra WAV OTHER LEAST                         hold the frequencies of a sound to another's: their cosine, and the strongest
 compare edges N PERCH [--seed N]                        hold what a built perch interrupts writes for N logs drawn near edges to the reading
 compare lanes VCD LOG SAMPLE FROM CLOCKS                hold each lane of a VCD at each clock and each access to the reading
 compare files N PERCH [--seed N]                        hold what the verbs of a built perch write for N drawn VGM files to the reading
@@ -283,6 +284,7 @@ fn main() -> ExitCode {
             stored::lanes(vcd, log, sample, from, clocks).map(|told| print!("{told}"))
         }
         ["carried", vcd, other, fewest] => stored::carried(vcd, other, fewest).map(|told| print!("{told}")),
+        ["spectra", sound, other, least] => stored::spectra(sound, other, least).map(|told| print!("{told}")),
         ["edges", count, program] => run_program(&asked, edges::compare, count, program),
         ["files", count, program] => run_program(&asked, file_verbs::compare, count, program),
         ["moments", count, program] => run_program(&asked, moments::compare, count, program),

@@ -1,7 +1,7 @@
 //! What the programs of the crates `test_logs` and `test_plays` print about their stored logs, by the reading.
 
 use crate::lanes::{self, Held};
-use crate::vcd;
+use crate::{spectra, vcd};
 use perch::raw;
 use reading::log::{self, Fault, Item, Line};
 use reading::{MEMORY, dwell, flags, fold, moment, number, play, recording, salvage, trace, wave};
@@ -176,6 +176,12 @@ pub fn carried(vcd: &str, other: &str, fewest: &str) -> Result<String, String> {
         both if both as u64 >= decimal(fewest)? => Ok(format!("{both} lanes as they were\n")),
         both => Err(format!("{both} lanes only")),
     }
+}
+
+/// Holds the spectrum of a WAV file to that of another.
+pub fn spectra(sound: &str, other: &str, least: &str) -> Result<String, String> {
+    let least = least.parse().map_err(|_| format!("{least}: no cosine"))?;
+    spectra::compare(&read(sound)?, &read(other)?, least)
 }
 
 /// What `crates/test_logs/stdout` holds: of each log the check, some items, some bodies, a cursor's way, the log folded, and the
