@@ -13,19 +13,8 @@ fn answer(log: &[u8], out: &mut [u8; 700]) -> usize
     perch_check::report(log, out)
 }
 
-fn tell(log: &[u8]) -> bool {
+pub(crate) fn tell(log: &[u8]) -> bool {
     let mut out = [0u8; 700];
     let n = answer(log, &mut out);
     program_io::write_all(STDOUT_FILENO, &out[..n])
-}
-
-// A byte more than a VGM file may have, so that a longer one is seen, and a longer log.
-pub(crate) fn check() -> bool {
-    let mut log = [0u8; 524289];
-    let r = program_io::read_input(b"perch", &mut log);
-    if r.failed {
-        return true;
-    }
-    let n = r.count;
-    tell(&log[..n])
 }

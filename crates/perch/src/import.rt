@@ -1,4 +1,5 @@
 // `perch import`: a VGM file on standard input, the log for its machine on standard output, and nothing else there.
+use super::memory::is_long;
 use super::refused::refuse;
 use libc::STDERR_FILENO;
 use libc::STDOUT_FILENO;
@@ -18,7 +19,8 @@ fn warn(file: &[u8]) {
     }
 }
 
-fn tell(file: &[u8]) -> bool {
+// What a file brings.
+fn bring(file: &[u8]) -> bool {
     let mut log = [0u8; 60000];
     let b = perch_import::import_file(file, &mut log);
     match b {
@@ -43,17 +45,10 @@ fn tell(file: &[u8]) -> bool {
     true
 }
 
-// A byte more than is read of a file, so that a longer one is seen.
-pub(crate) fn import() -> bool {
-    let mut file = [0u8; 524289];
-    let r = program_io::read_input(b"perch", &mut file);
-    if r.failed {
+// A file that is too long is said to be.
+pub(crate) fn tell(file: &[u8]) -> bool {
+    if is_long(file) {
         return true;
     }
-    if 524288 < r.count {
-        program_io::say(b"perch: a VGM file of more than 512 KiB is not read\n");
-        return true;
-    }
-    let n = r.count;
-    tell(&file[..n])
+    bring(file)
 }

@@ -3,7 +3,6 @@ ghost use Prim.Native.Nat.{_+_, _-_, _≤_};
 ghost use lib.ListN.{length};
 ghost use Rattle.text_print.specs.Printed.{Put};
 ghost use Rattle.perch_interrupts.specs.Text.{nextText};
-use super::memory::read_for;
 use super::pieces::poured;
 use super::refused::explain;
 use libc::STDOUT_FILENO;
@@ -56,7 +55,7 @@ fn changes(log: &[u8], memory: &[u8]) -> bool {
     pour(log, memory, &mut out)
 }
 
-fn tell(log: &[u8], memory: &[u8]) -> bool {
+pub(crate) fn tell(log: &[u8], memory: &[u8]) -> bool {
     let mut out = [0u8; 16];
     let h = perch_interrupts::head(&mut out, 0);
     if !program_io::write_front(STDOUT_FILENO, &out, h) {
@@ -67,26 +66,4 @@ fn tell(log: &[u8], memory: &[u8]) -> bool {
         return refused(b.number, b.place);
     }
     changes(log, memory)
-}
-
-// With the sample memory: a byte more than it has, so that a longer one is seen.
-fn with_sample(log: &[u8]) -> bool {
-    let mut memory = [0u8; 32769];
-    let r = read_for(log, &mut memory);
-    if r.failed {
-        return true;
-    }
-    let n = r.count;
-    tell(log, &memory[..n])
-}
-
-// A byte more than a VGM file may have, so that a longer one is seen, and a longer log.
-pub(crate) fn interrupts() -> bool {
-    let mut log = [0u8; 524289];
-    let r = program_io::read_input(b"perch", &mut log);
-    if r.failed {
-        return true;
-    }
-    let n = r.count;
-    with_sample(&log[..n])
 }

@@ -9,6 +9,7 @@ mod memory;
 mod meters;
 mod pieces;
 mod playing;
+mod recordings;
 mod refused;
 mod salvage;
 mod samples;
@@ -21,6 +22,8 @@ mod why;
 
 use libc::STDERR_FILENO;
 use libc::STDOUT_FILENO;
+use recordings::Asked;
+use recordings::Played;
 
 // Runs a verb that is given as many words as it asks for, the program's name and the verb among them.
 fn run(verb: &[u8], words: usize) -> bool {
@@ -34,22 +37,22 @@ fn run(verb: &[u8], words: usize) -> bool {
         return usage::version();
     }
     if arith::both_of(words == 2, text::exact(verb, b"check")) {
-        return check::check();
+        return recordings::answer(Asked::Check);
     }
     if arith::both_of(words == 2, text::exact(verb, b"fold")) {
         return fold::fold();
     }
     if arith::both_of(words == 2, text::exact(verb, b"import")) {
-        return import::import();
+        return recordings::answer(Asked::Import);
     }
     if arith::both_of(words == 2, text::exact(verb, b"salvage")) {
         return salvage::salvage();
     }
     if arith::both_of(words == 2, text::exact(verb, b"samples")) {
-        return samples::samples();
+        return recordings::answer(Asked::Samples);
     }
     if arith::both_of(words == 2, text::exact(verb, b"play")) {
-        return playing::play();
+        return recordings::play(Played::Play);
     }
     if arith::both_of(words == 3, text::exact(verb, b"why")) {
         return why::why();
@@ -73,10 +76,10 @@ fn run(verb: &[u8], words: usize) -> bool {
         return meters::asked();
     }
     if arith::both_of(words == 2, text::exact(verb, b"interrupts")) {
-        return interrupts::interrupts();
+        return recordings::play(Played::Interrupts);
     }
     if arith::both_of(words == 2, text::exact(verb, b"dwell")) {
-        return dwells::dwell();
+        return recordings::play(Played::Dwell);
     }
     if text::exact(verb, b"sheet") {
         return sheet::sheet(words);

@@ -27,7 +27,7 @@ pub(crate) fn of_blocks(file: &[u8], memory: &mut [u8]) -> usize {
 }
 
 // Whether bytes are a VGM file that is too long; that is said.
-fn is_long(recording: &[u8]) -> bool {
+pub(crate) fn is_long(recording: &[u8]) -> bool {
     if arith::both_of(524288 < recording.len(), recording::is_file(recording)) {
         return program_io::say(b"perch: a VGM file of more than 512 KiB is not read\n");
     }

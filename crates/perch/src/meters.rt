@@ -5,8 +5,9 @@ ghost use lib.ListN.{length, take};
 ghost use Rattle.io.specs.Counts.{Counts};
 ghost use Rattle.text_print.specs.Printed.{Put};
 ghost use Rattle.perch_meter.specs.Text.{meterText, nextText};
-use super::memory::read_for;
 use super::pieces::poured;
+use super::recordings;
+use super::recordings::Played;
 use super::refused::explain;
 use super::refused::unplayed;
 use libc::STDOUT_FILENO;
@@ -20,7 +21,7 @@ fn answer(log: &[u8], memory: &[u8], out: &mut [u8; 64]) -> usize
     perch_meter::answer(log, memory, out)
 }
 
-fn tell(log: &[u8], memory: &[u8]) -> bool {
+fn total(log: &[u8], memory: &[u8]) -> bool {
     let mut out = [0u8; 64];
     let n = answer(log, memory, &mut out);
     program_io::write_all(STDOUT_FILENO, &out[..n])
@@ -65,8 +66,8 @@ fn waits(log: &[u8], memory: &[u8]) -> bool {
 }
 
 // A log that is refused has no waits, and the reason is said.
-fn tell_all(log: &[u8], memory: &[u8], each: bool) -> bool {
-    if !tell(log, memory) {
+pub(crate) fn tell(log: &[u8], memory: &[u8], each: bool) -> bool {
+    if !total(log, memory) {
         return false;
     }
     let number = unplayed(log, memory);
@@ -80,26 +81,9 @@ fn tell_all(log: &[u8], memory: &[u8], each: bool) -> bool {
     true
 }
 
-// With the sample memory: a byte more than it has, so that a longer one is seen.
-fn with_sample(log: &[u8], each: bool) -> bool {
-    let mut memory = [0u8; 32769];
-    let r = read_for(log, &mut memory);
-    if r.failed {
-        return true;
-    }
-    let n = r.count;
-    tell_all(log, &memory[..n], each)
-}
-
-// A byte more than a VGM file may have, so that a longer one is seen, and a longer log.
 pub(crate) fn meter(each: bool) -> bool {
-    let mut log = [0u8; 524289];
-    let r = program_io::read_input(b"perch", &mut log);
-    if r.failed {
-        return true;
-    }
-    let n = r.count;
-    with_sample(&log[..n], each)
+    let p = Played::Meter(each);
+    recordings::play(p)
 }
 
 // A word that is longer than any right one reads as an empty one.

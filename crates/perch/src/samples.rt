@@ -1,4 +1,5 @@
 // `perch samples`: a VGM file on standard input, and on standard output the sample memory that the data blocks in front of its commands hold.
+use super::memory::is_long;
 use super::memory::of_blocks;
 use super::refused::refuse;
 use libc::STDOUT_FILENO;
@@ -11,7 +12,7 @@ fn write(file: &[u8]) -> bool {
 }
 
 // A file with a sample block at fault is refused; what else its check finds is no matter here.
-fn tell(file: &[u8]) -> bool {
+fn checked(file: &[u8]) -> bool {
     let c = recording::check(file);
     if c.number == 34 {
         refuse(c.number, c.place);
@@ -23,7 +24,7 @@ fn tell(file: &[u8]) -> bool {
 fn of_file(file: &[u8]) -> bool {
     let p = vgm_file::start(file);
     match p {
-        Part::From(_) => tell(file),
+        Part::From(_) => checked(file),
         Part::NoVgm => {
             program_io::say(b"perch: no VGM file: it doesn't begin with `Vgm `\n");
             true
@@ -43,17 +44,10 @@ fn of_file(file: &[u8]) -> bool {
     }
 }
 
-// A byte more than is read of a file, so that a longer one is seen.
-pub(crate) fn samples() -> bool {
-    let mut file = [0u8; 524289];
-    let r = program_io::read_input(b"perch", &mut file);
-    if r.failed {
+// A file that is too long is said to be.
+pub(crate) fn tell(file: &[u8]) -> bool {
+    if is_long(file) {
         return true;
     }
-    if 524288 < r.count {
-        program_io::say(b"perch: a VGM file of more than 512 KiB is not read\n");
-        return true;
-    }
-    let n = r.count;
-    of_file(&file[..n])
+    of_file(file)
 }

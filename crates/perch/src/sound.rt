@@ -1,9 +1,10 @@
 // `perch wav [RATE]`: a log on standard input, and on standard output what it sounds like as a WAV file, RATE samples a second.
-use super::memory::read_for;
+use super::recordings;
+use super::recordings::Played;
 use super::refused::explain;
 use text::Number;
 
-fn tell(log: &[u8], memory: &[u8], rate: u32) -> bool {
+pub(crate) fn tell(log: &[u8], memory: &[u8], rate: u32) -> bool {
     let t = wav_stdout::write(log, memory, rate);
     if t.number != 0 {
         explain(t.number);
@@ -11,26 +12,9 @@ fn tell(log: &[u8], memory: &[u8], rate: u32) -> bool {
     t.written
 }
 
-// With the sample memory: a byte more than it has, so that a longer one is seen.
-fn with_sample(log: &[u8], rate: u32) -> bool {
-    let mut memory = [0u8; 32769];
-    let r = read_for(log, &mut memory);
-    if r.failed {
-        return true;
-    }
-    let n = r.count;
-    tell(log, &memory[..n], rate)
-}
-
-// A byte more than a VGM file may have, so that a longer one is seen, and a longer log.
 pub(crate) fn at_rate(rate: u32) -> bool {
-    let mut log = [0u8; 524289];
-    let r = program_io::read_input(b"perch", &mut log);
-    if r.failed {
-        return true;
-    }
-    let n = r.count;
-    with_sample(&log[..n], rate)
+    let p = Played::Wav(rate);
+    recordings::play(p)
 }
 
 // A word that is longer than any rate reads as an empty one.

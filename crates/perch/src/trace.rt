@@ -3,8 +3,9 @@ ghost use Prim.Native.Nat.{_+_, _-_, _≤_};
 ghost use lib.ListN.{length};
 ghost use Rattle.text_print.specs.Printed.{Put};
 ghost use Rattle.perch_vcd.specs.Text.{nextText};
-use super::memory::read_for;
 use super::pieces::poured;
+use super::recordings;
+use super::recordings::Played;
 use super::refused::explain;
 use libc::STDOUT_FILENO;
 use play_trace::Next;
@@ -63,7 +64,7 @@ fn traced(log: &[u8], memory: &[u8], from: u64, until: u64) -> bool {
     pour(log, memory, from, until, &mut out)
 }
 
-fn tell(log: &[u8], memory: &[u8], from: u64, until: u64) -> bool {
+pub(crate) fn tell(log: &[u8], memory: &[u8], from: u64, until: u64) -> bool {
     let b = play_begin::begin(log, memory);
     if b.number != 0 {
         return refused(b.number, b.place);
@@ -71,26 +72,9 @@ fn tell(log: &[u8], memory: &[u8], from: u64, until: u64) -> bool {
     traced(log, memory, from, until)
 }
 
-// With the sample memory: a byte more than it has, so that a longer one is seen.
-fn with_sample(log: &[u8], from: u64, until: u64) -> bool {
-    let mut memory = [0u8; 32769];
-    let r = read_for(log, &mut memory);
-    if r.failed {
-        return true;
-    }
-    let n = r.count;
-    tell(log, &memory[..n], from, until)
-}
-
-// A byte more than a VGM file may have, so that a longer one is seen, and a longer log.
 fn window(from: u64, until: u64) -> bool {
-    let mut log = [0u8; 524289];
-    let r = program_io::read_input(b"perch", &mut log);
-    if r.failed {
-        return true;
-    }
-    let n = r.count;
-    with_sample(&log[..n], from, until)
+    let p = Played::Vcd(from, until);
+    recordings::play(p)
 }
 
 // A word that is longer than any clock reads as an empty one.
