@@ -1,23 +1,9 @@
 // `perch import`: a VGM file on standard input, the log for its machine on standard output, and nothing else there.
+use super::machine::warn;
 use super::memory::is_long;
 use super::refused::refuse;
-use libc::STDERR_FILENO;
 use libc::STDOUT_FILENO;
 use perch_import::Brought;
-
-// What is said of a clock that no machine has.
-fn say_clock(clock: u32) {
-    let mut text = [0u8; 64];
-    let n = perch_import::clock_line(&mut text, 0, clock);
-    program_io::write_front(STDERR_FILENO, &text, n);
-}
-
-// Nothing is said of a clock that is known.
-fn warn(file: &[u8]) {
-    if !vgm_file::is_known(file) {
-        say_clock(vgm_file::clock_of(file));
-    }
-}
 
 // What a file brings.
 fn bring(file: &[u8]) -> bool {

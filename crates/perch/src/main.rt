@@ -5,6 +5,7 @@ mod dwells;
 mod fold;
 mod import;
 mod interrupts;
+mod machine;
 mod memory;
 mod meters;
 mod pieces;

@@ -4,6 +4,7 @@ use super::check;
 use super::dwells;
 use super::import;
 use super::interrupts;
+use super::machine::warn;
 use super::memory::read_for;
 use super::meters;
 use super::playing;
@@ -54,13 +55,17 @@ fn with_sample(p: Played, log: &[u8]) -> bool {
     if r.failed {
         return true;
     }
+    warn(log);
     let n = r.count;
     tell(p, log, &memory[..n])
 }
 
 fn about(a: Asked, log: &[u8]) -> bool {
     match a {
-        Asked::Check => check::tell(log),
+        Asked::Check => {
+            warn(log);
+            check::tell(log)
+        }
         Asked::Import => import::tell(log),
         Asked::Samples => samples::tell(log),
         Asked::Play(p) => with_sample(p, log),
