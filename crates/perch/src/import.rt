@@ -1,12 +1,10 @@
 // `perch import`: a VGM file on standard input, the log for its machine on standard output, and nothing else there.
 use super::machine::warn;
-use super::memory::is_long;
 use super::refused::refuse;
 use libc::STDOUT_FILENO;
 use perch_import::Brought;
 
-// What a file brings.
-fn bring(file: &[u8]) -> bool {
+pub(crate) fn tell(file: &[u8]) -> bool {
     let mut log = [0u8; 60000];
     let b = perch_import::import_file(file, &mut log);
     match b {
@@ -29,12 +27,4 @@ fn bring(file: &[u8]) -> bool {
         }
     }
     true
-}
-
-// A file that is too long is said to be.
-pub(crate) fn tell(file: &[u8]) -> bool {
-    if is_long(file) {
-        return true;
-    }
-    bring(file)
 }

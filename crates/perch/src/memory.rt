@@ -26,25 +26,11 @@ pub(crate) fn of_blocks(file: &[u8], memory: &mut [u8]) -> usize {
     }
 }
 
-// Whether bytes are a VGM file that is too long; that is said.
-pub(crate) fn is_long(recording: &[u8]) -> bool {
-    if arith::both_of(524288 < recording.len(), recording::is_file(recording)) {
-        return program_io::say(b"perch: a VGM file of more than 512 KiB is not read\n");
-    }
-    false
-}
-
 // Into a byte more than sample memory has, so that a longer one is seen.
 pub(crate) fn read_for(recording: &[u8], memory: &mut [u8]) -> Input
     requires { ⌜ 32769 ≤ length (now memory) ⌝ }
     ensures { λ r. ⌜ Counts (r .count) (now (memory .exit)) ⌝ }
 {
-    if is_long(recording) {
-        return Input {
-            count: 0,
-            failed: true,
-        };
-    }
     if 0 < of_blocks(recording, &mut memory[..32768]) {
         return Input {
             count: 32768,

@@ -60,7 +60,19 @@ fn with_sample(p: Played, log: &[u8]) -> bool {
     tell(p, log, &memory[..n])
 }
 
+// Whether bytes are a VGM file that is too long; that is said.
+fn is_long(log: &[u8]) -> bool {
+    if arith::both_of(524288 < log.len(), recording::is_file(log)) {
+        program_io::say(b"perch: a VGM file of more than 512 KiB is not read\n");
+        return true;
+    }
+    false
+}
+
 fn about(a: Asked, log: &[u8]) -> bool {
+    if is_long(log) {
+        return true;
+    }
     match a {
         Asked::Check => {
             warn(log);

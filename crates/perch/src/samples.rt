@@ -1,5 +1,4 @@
 // `perch samples`: a VGM file on standard input, and on standard output the sample memory that the data blocks in front of its commands hold.
-use super::memory::is_long;
 use super::memory::of_blocks;
 use super::refused::refuse;
 use libc::STDOUT_FILENO;
@@ -21,7 +20,7 @@ fn checked(file: &[u8]) -> bool {
     write(file)
 }
 
-fn of_file(file: &[u8]) -> bool {
+pub(crate) fn tell(file: &[u8]) -> bool {
     let p = vgm_file::start(file);
     match p {
         Part::From(_) => checked(file),
@@ -42,12 +41,4 @@ fn of_file(file: &[u8]) -> bool {
             true
         }
     }
-}
-
-// A file that is too long is said to be.
-pub(crate) fn tell(file: &[u8]) -> bool {
-    if is_long(file) {
-        return true;
-    }
-    of_file(file)
 }

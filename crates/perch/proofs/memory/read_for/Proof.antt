@@ -14,15 +14,14 @@ counts : (n : ℕ) (l : List ℕ) → n ≤ length l → Counts n l
 counts n l h = (h, sym (length-take-le n l h))
 
 slice-aggregate-of-blocks : tie.Need-slice-aggregate-of-blocks
-slice-aggregate-of-blocks c =
-    sym (length-take-le 32768 (c .before .before .before .before .before .args .memory .now) (omega (arith, c .before .before .before .before .before .pre)))
+slice-aggregate-of-blocks c = sym (length-take-le 32768 (c .before .before .before .args .memory .now) (omega (arith, c .before .before .before .pre)))
 
 same-length : tie.Need-same-length
 same-length c = search needs
 
-returns-2 : tie.Need-returns-2
-returns-2 c =
-    let s = c .before .before .before .before .before .before .before .before .before in
+returns : tie.Need-returns
+returns c =
+    let s = c .before .before .before .before .before .before .before in
     let m = s .args .memory .now in
     let went = c .before .before .before .of-blocks in
     let front = length-take-le 32768 m (omega (arith, s .pre)) in
@@ -32,13 +31,11 @@ pub read-for-spec : {M : Type 1} → statement M
 read-for-spec =
     tie.close
     (tie.spec
-    (λ c κs. search needs)
-    (λ c. search needs)
     (λ c. search needs)
     slice-aggregate-of-blocks
     (λ c κs. search needs)
     same-length
-    returns-2
+    returns
     (λ c. search needs)
     (λ c κs. search needs)
     (λ c. search needs)
