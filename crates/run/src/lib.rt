@@ -3,14 +3,18 @@ ghost use mathlib.Core.Path.{_≡_};
 ghost use mathlib.Core.Bool.{true};
 ghost use Prim.Native.Nat.{ℕ, _+_, _-_, _/_, _≤_, _<_};
 ghost use lib.Dec.{eqb};
-ghost use lib.ListN.{length};
+ghost use lib.ListN.{length, getD};
 ghost use Rattle.arith.specs.Pick.{pick};
 ghost use Rattle.leap_law.specs.Frame.{beforeStep};
 ghost use Rattle.chip.specs.Range.{inRange};
 ghost use Rattle.arith.specs.Over.{over};
+ghost use Rattle.reading.specs.Counting.{raise};
+ghost use Rattle.reading.proofs.CountingLaws.{tallied};
 ghost use Rattle.run_answer.specs.Run.{uncountedAnswer, answered, uncountedLent, readBy, flat, stored};
 ghost use Rattle.run_dwell.specs.Dwell.{dwellLimit, countsWithin, dwellBy, runAnswered, runAnswer, runLent};
-ghost use Rattle.run_walk.specs.Walk.{Open, Walked};
+ghost use Rattle.run_dwell.specs.Kept.{dwellPlaces};
+ghost use Rattle.run_walk.specs.Walk.{Open};
+ghost use Rattle.run_walk.specs.Settle.{Roomy};
 ghost use Rattle.run_loops.specs.Leap.{stretchEnd};
 ghost use Rattle.run_loops.specs.Stretch.{Standing, Worked, Stretched};
 use chip::State;
@@ -18,7 +22,6 @@ use leap_stretch::Lags;
 use run_answer::Ran;
 use run_dwell::Counted;
 use run_loops::Stretch;
-use run_walk::Dwell;
 
 // The channels after some events, and the records written so far.
 pub struct Part {
@@ -55,6 +58,7 @@ fn voices_on(
 ) -> Part
     requires { ⌜ Standing (now memory) s end base (now words) first records ⌝ }
     ensures { λ r. ⌜ Worked (now (memory .entry)) s end base (first .now) records (now (words .entry)) (now (words .exit)) (r .lags) (r .records) ⌝ }
+    ensures { λ r. ⌜ r .lags .dmc ≡ first .dmc ⌝ }
 {
     let room = words.len() / 2;
     let until = run_loops::voices_until(first, end);
@@ -90,6 +94,7 @@ fn sounds_on(
 ) -> Part
     requires { ⌜ Standing (now memory) s end base (now words) first records ⌝ }
     ensures { λ r. ⌜ Worked (now (memory .entry)) s end base (first .now) records (now (words .entry)) (now (words .exit)) (r .lags) (r .records) ⌝ }
+    ensures { λ r. ⌜ r .lags .dmc ≡ first .dmc ⌝ }
 {
     let room = words.len() / 2;
     let mut l = first;
@@ -120,7 +125,19 @@ fn brink(end: u32, next: u64) -> u32
     end
 }
 
-// The clocks up to `end`, none of which brings a frame step, event by event.
+// The table with so many clocks more at one level of the DMC.
+fn settle(table: &mut [u32; 128], level: u8, clocks: u32)
+    requires { ⌜ level ≤ 127 ⌝ }
+    requires { ⌜ getD (now table) level 0 + clocks ≤ dwellLimit ⌝ }
+    ensures { λ r. ⌜ now (table .exit) ≡ raise level clocks (now (table .entry)) ⌝ }
+{
+    let place = level as usize;
+    let dwelt = table[place];
+    table[place] = dwelt + clocks;
+}
+
+// The clocks up to `end`, none of which brings a frame step, event by event. The DMC's level stands from event to event of its own, so the table is
+// settled there: `settled` clocks are counted.
 fn stretch_on(
     s: State,
     memory: &[u8],
@@ -128,18 +145,24 @@ fn stretch_on(
     base: u32,
     words: &mut [u32],
     records: u32,
+    table: &mut [u32; 128],
 ) -> Stretch
     requires { ⌜ inRange s ≡ true ⌝ }
     requires { ⌜ end ≤ beforeStep s ⌝ }
     requires { ⌜ base + end ≤ 1000000 ⌝ }
     requires { ⌜ (records ≤ base) × (records ≤ length (now words) / 2) ⌝ }
+    requires { ⌜ Roomy (now memory) s (now table) end ⌝ }
     ensures { λ r. ⌜ Stretched (now (memory .entry)) s end base records (now (words .entry)) (now (words .exit)) r ⌝ }
+    ensures { λ r. ⌜ now (table .exit) ≡ tallied (dwellPlaces (now (memory .entry)) s) (r .clocks) (now (table .entry)) ⌝ }
 {
     let room = words.len() / 2;
     let mut l = leap_stretch::lags_of(s);
     let mut n = records;
+    let mut settled: u32 = 0;
     while run_loops::goes(l.next, end as u64 + 1, n, room) {
         let e = l.next as u32;
+        settle(table, l.dmc.out, e - 1 - settled);
+        settled = e - 1;
         let r = leap_stretch::renew(l, memory, e);
         let m = mark(words, n, base + e, r.level, l.level);
         let p = sounds_on(s, memory, r, end, base, words, m);
@@ -147,6 +170,7 @@ fn stretch_on(
         n = p.records;
     }
     let stop = brink(end, l.next);
+    settle(table, l.dmc.out, stop - settled);
     let last = leap_stretch::state_at(s, l, stop);
     Stretch {
         state: last,
@@ -164,35 +188,42 @@ fn next_stretch(
     base: u32,
     words: &mut [u32],
     records: u32,
+    table: &mut [u32; 128],
 ) -> Stretch
     requires { ⌜ inRange s ≡ true ⌝ }
     requires { ⌜ (1 ≤ left) × (base + left ≤ 1000000) ⌝ }
     requires { ⌜ (records ≤ base) × (records ≤ length (now words) / 2) ⌝ }
+    requires { ⌜ Roomy (now memory) s (now table) left ⌝ }
     ensures { λ r. ⌜ Stretched (now (memory .entry)) s (stretchEnd left s) base records (now (words .entry)) (now (words .exit)) r ⌝ }
+    ensures { λ r. ⌜ now (table .exit) ≡ tallied (dwellPlaces (now (memory .entry)) s) (r .clocks) (now (table .entry)) ⌝ }
 {
     let end = arith::least_u32(left - 1, leap_law::before_step(s));
-    stretch_on(s, memory, end, base, words, records)
+    stretch_on(s, memory, end, base, words, records, table)
 }
 
-// A run that nothing refuses: stretch by stretch, and the clock behind each, which may bring a frame step, by itself.
-fn run_on(s: State, memory: &[u8], count: u32, words: &mut [u32]) -> Ran
+// A run that nothing refuses, with its counts: stretch by stretch, and the clock behind each, which may bring a frame step, by itself.
+fn run_on(s: State, memory: &[u8], count: u32, words: &mut [u32], table: &mut [u32; 128]) -> Ran
     requires { ⌜ inRange s ≡ true ⌝ }
     requires { ⌜ count ≤ 1000000 ⌝ }
+    requires { ⌜ Roomy (now memory) s (now table) count ⌝ }
     ensures { λ r. ⌜ r ≡ answered 0 s (readBy (now (memory .entry)) s count (now (words .entry))) ⌝ }
     ensures { λ r. ⌜ now (words .exit) ≡ over (flat (readBy (now (memory .entry)) s count (now (words .entry)) .marks)) (now (words .entry)) ⌝ }
+    ensures { λ r. ⌜ now (table .exit) ≡ tallied (dwellPlaces (now (memory .entry)) s) (r .done) (now (table .entry)) ⌝ }
 {
     let room = words.len() / 2;
     let mut state = s;
     let mut done: u32 = 0;
     let mut n: u32 = 0;
     while done < count {
-        let g = next_stretch(state, memory, count - done, done, words, n);
+        let g = next_stretch(state, memory, count - done, done, words, n, table);
         let from = g.state;
         let at = done + g.clocks;
         let m = g.records;
         let next = from.clocked(memory);
         let after = next.level();
+        let dmc = next.dmc.output.level;
         if after == g.level {
+            settle(table, dmc, 1);
             state = next;
             done = at + 1;
             n = m;
@@ -207,6 +238,7 @@ fn run_on(s: State, memory: &[u8], count: u32, words: &mut [u32]) -> Ran
                 };
             }
             run_answer::put(words, place, at + 1, after as u32);
+            settle(table, dmc, 1);
             state = next;
             done = at + 1;
             n = m + 1;
@@ -220,7 +252,7 @@ fn run_on(s: State, memory: &[u8], count: u32, words: &mut [u32]) -> Ran
     }
 }
 
-// A run whose counts nobody asks for, leaping wherever nothing can change: by the chip without counts.
+// A run whose counts nobody asks for, leaping wherever nothing can change: by the chip without counts. Its table is dropped.
 pub fn uncounted(s: State, memory: &[u8], count: u64, words: &mut [u32]) -> Ran
     ensures { λ r. ⌜ r ≡ uncountedAnswer (now (memory .entry)) s count (now (words .entry)) ⌝ }
     ensures { λ r. ⌜ now (words .exit) ≡ uncountedLent (now (memory .entry)) s count (now (words .entry)) ⌝ }
@@ -229,15 +261,16 @@ pub fn uncounted(s: State, memory: &[u8], count: u64, words: &mut [u32]) -> Ran
     if number != 0 {
         return run_answer::refuse(number, s);
     }
-    run_on(s, memory, count as u32, words)
+    let mut table = [0u32; 128];
+    run_on(s, memory, count as u32, words, &mut table)
 }
 
-// The table after so many clocks, or after those before one that a count stops: the DMC goes by itself, and its level stands from change to change.
-fn dwell(s: State, memory: &[u8], counts: [u32; 128], count: u32) -> Dwell
+// The clocks before one that a count stops, or all: the DMC goes by itself, and its level stands from change to change.
+fn walk(s: State, memory: &[u8], counts: [u32; 128], count: u32) -> u32
     requires { ⌜ inRange s ≡ true ⌝ }
     requires { ⌜ count ≤ 1000000 ⌝ }
     requires { ⌜ countsWithin dwellLimit counts ≡ true ⌝ }
-    ensures { λ r. ⌜ Walked (now (memory .entry)) s counts count r ⌝ }
+    ensures { λ r. ⌜ Open (now (memory .entry)) s counts count r ⌝ }
 {
     let period = chip_tables::dmc_period(s.pal, s.dmc.registers.index);
     let mut table = counts;
@@ -253,20 +286,14 @@ fn dwell(s: State, memory: &[u8], counts: [u32; 128], count: u32) -> Dwell
         table[place] = dwelt + g;
         walked += g;
         if g < left {
-            return Dwell {
-                clocks: walked,
-                counts: table,
-            };
+            return walked;
         }
         let brink = leap_dmc::at_brink(d);
         let timed = brink.timed(period);
         d = timed.fed(memory);
         at = last + 1;
     }
-    Dwell {
-        clocks: walked,
-        counts: table,
-    }
+    walked
 }
 
 // The clocks of a run that no count stops: all of them where no count can reach the limit.
@@ -279,8 +306,7 @@ fn open_clocks(s: State, memory: &[u8], counts: [u32; 128], count: u32) -> u32
     if run_dwell::within(counts, 4000000000 - count) {
         return count;
     }
-    let w = dwell(s, memory, counts, count);
-    w.clocks
+    walk(s, memory, counts, count)
 }
 
 // A run with its counts that nothing refuses: the clocks that no count stops, and the table after those that were done.
@@ -298,12 +324,11 @@ fn run_counted(
     ensures { λ r. ⌜ now (words .exit) ≡ over (flat (dwellBy (now (memory .entry)) s counts count (now (words .entry)) .marks)) (now (words .entry)) ⌝ }
 {
     let most = open_clocks(s, memory, counts, count);
-    let ran = run_on(s, memory, most, words);
-    let w = dwell(s, memory, counts, ran.done);
-    let after = w.counts;
+    let mut table = counts;
+    let ran = run_on(s, memory, most, words, &mut table);
     Counted {
         ran: ran,
-        counts: after,
+        counts: table,
     }
 }
 

@@ -1,9 +1,9 @@
 -- The DMC goes by itself, and what a walk along its changes holds. Assumes nothing.
 --
--- Main definitions: none; a walk is defined in specs/Walk (`Walking`, `Walked`, `Open`).
+-- Main definitions: none; a walk is defined in specs/Walk (`Walking`, `Open`).
 -- Main statements: `dmc-alone`, the chip's DMC after k clocks is the DMC clocked k times by itself; `walk-start`, `walk-on`, `walk-full`, `walk-end`, what
 -- a walk holds at its beginning, at the next change, where a count is full, and at its end; `open-all`, where no count can reach the limit every clock is
--- open; `opened`, a run without counts of the open clocks and a walk of those that it did give what the run with counts answers.
+-- open; `opened`, a run without counts of the open clocks and the table after those that it did are what the run with counts answers.
 use Prim.Native.Nat.{ℕ, zero, suc, _+_, _-_, _*_, _≤_, _<_, min}
 use mathlib.Core.Path.{_≡_, refl, sym, ap, _∙_}
 use mathlib.Core.Bool.{Bool, true, false, not}
@@ -13,7 +13,7 @@ use native.Mathlib.Nat.{mul-le-mul-right}
 use native.Mathlib.Omega.{arith}
 use lib.Dec.{leb, ltb}
 use lib.ListN.{length, getD, set}
-use borrow.Author.Tests.{leb-true, leb-false, ltb-true, ltb-false}
+use borrow.Author.Tests.{leb-true, leb-false, ltb-false}
 use Rattle.arith.specs.Iterate.{iterate}
 use Rattle.arith.specs.Pick.{pick, both}
 use Rattle.arith.proofs.IterateLaws.{iterate-zero, iterate-add, iterate-keeps}
@@ -42,8 +42,7 @@ use Rattle.run_answer.specs.declared.Ran.{Ran}
 use Rattle.run_dwell.specs.Dwell.{dwellLimit, dwellBy, runAnswered}
 use Rattle.run_dwell.proofs.DwellLaws.{Given, Owed, owed-free, owed-full}
 use Rattle.run_dwell.specs.Kept.{dwellPlaces}
-use Rattle.run_walk.specs.Walk.{lastAt, dmcAfter, Walking, Open, Walked}
-use Rattle.run_walk.specs.declared.Dwell.{Dwell}
+use Rattle.run_walk.specs.Walk.{lastAt, dmcAfter, Walking, Open}
 
 -- THE DMC GOES BY ITSELF
 
@@ -257,7 +256,7 @@ module _ (memory : List ℕ) (bytes : Bytes memory) (s : State) (r : StateRanged
 
         -- or up to where the count is full
         pub walk-full : g < last - done → getD table (d .output .level) 0 + g ≡ dwellLimit
-            → Walked memory s counts count (record { clocks = done + g; counts = set table (d .output .level) (getD table (d .output .level) 0 + g) })
+            → Open memory s counts count (done + g)
         unfolding Full raise
         walk-full z q =
             let a = walk-last in
@@ -265,49 +264,33 @@ module _ (memory : List ℕ) (bytes : Bytes memory) (s : State) (r : StateRanged
             let here : dwellPlaces memory s (suc (done + g)) ≡ d .output .level = level-at (suc (done + g)) (omega arith) (omega arith) in
             let top : getD (tallied (dwellPlaces memory s) (done + g) counts) (d .output .level) 0 ≡ dwellLimit =
             ap (λ (x : List ℕ). getD x (d .output .level) 0) (sym walk-table) ∙ raise-same (d .output .level) g table (omega (arith, walk-size)) ∙ q in
-            record {
-              open-to = record { most = omega arith; free = walk-free; end = inr (rw (here, top) (omega arith)) };
-              is = walk-table;
-            }
+            record { most = omega arith; free = walk-free; end = inr (rw (here, top) (omega arith)) }
 
   -- the end of a walk
   pub walk-end : (counts : List ℕ) (count : ℕ) (table : List ℕ) (d : Dmc) (at done : ℕ) → Walking memory s counts count table d at done → count ≤ done
-      → Walked memory s counts count (record { clocks = done; counts = table })
-  walk-end counts count table d at done w h =
-      record { open-to = record { most = w .most; free = w .free; end = inl (let m = w .most in omega arith) }; is = w .is }
+      → Open memory s counts count done
+  walk-end counts count table d at done w h = record { most = w .most; free = w .free; end = inl (let m = w .most in omega arith) }
 
 -- WHERE NO COUNT CAN REACH THE LIMIT, every clock is open
 pub open-all : (memory : List ℕ) (s : State) (counts : List ℕ) (count : ℕ) → ((i : ℕ) → getD counts i 0 + count ≤ dwellLimit) → Open memory s counts count count
 open-all memory s counts count h =
     record { most = omega arith; free = free-few dwellLimit (dwellPlaces memory s) count counts h; end = inl refl }
 
--- a walk of clocks that no count stops goes to its end
-pub walked-all : (memory : List ℕ) (s : State) (counts : List ℕ) (k : ℕ) → Free dwellLimit (dwellPlaces memory s) k counts → (r : Dwell) → Walked memory s counts k r
-    → r .counts ≡ tallied (dwellPlaces memory s) k counts
-unfolding Free Full
-walked-all memory s counts k f r w =
-    w .is ∙ ap (λ (x : ℕ). tallied (dwellPlaces memory s) x counts) (⊎-elim (λ e. e) (λ e. go (ltb (r .clocks) k) refl e) (w .open-to .end))
-  where
-    go : (t : Bool) → ltb (r .clocks) k ≡ t → Full dwellLimit (dwellPlaces memory s) (r .clocks) counts → r .clocks ≡ k
-    go true e g = absurd (omega (arith, f (r .clocks) (ltb-true (r .clocks) k e), g))
-    go false e g = let m = w .open-to .most in omega (arith, ltb-false (r .clocks) k e)
+-- A RUN OF THE OPEN CLOCKS, WITH THE TABLE AFTER THOSE THAT IT DID
 
--- A RUN WITHOUT COUNTS OF THE OPEN CLOCKS, AND A WALK OF THOSE THAT IT DID
-
-pub ran-most : (memory : List ℕ) (s : State) (k : ℕ) (words : List ℕ) (ran : Ran) → ran ≡ answered 0 s (readBy memory s k words) → ran .done ≤ k
+ran-most : (memory : List ℕ) (s : State) (k : ℕ) (words : List ℕ) (ran : Ran) → ran ≡ answered 0 s (readBy memory s k words) → ran .done ≤ k
 unfolding answered readBy plain
 ran-most memory s k words ran e = rw e (let h = reading-done (chipClockwork memory) k (start (roomOf words) s) in omega arith)
 
 pub opened : (memory : List ℕ) (s : State) (counts : List ℕ) (count : ℕ) (words : List ℕ) (k : ℕ) → Open memory s counts count k
     → (ran : Ran) (after : List ℕ) → ran ≡ answered 0 s (readBy memory s k words) → after ≡ over (flat (readBy memory s k words .marks)) words
-    → (r : Dwell) → Walked memory s counts (ran .done) r
-    → (record { ran = ran; counts = r .counts } ≡ runAnswered 0 s counts (dwellBy memory s counts count words))
+    → (table : List ℕ) → table ≡ tallied (dwellPlaces memory s) (ran .done) counts
+    → (record { ran = ran; counts = table } ≡ runAnswered 0 s counts (dwellBy memory s counts count words))
     × (after ≡ over (flat (dwellBy memory s counts count words .marks)) words)
 unfolding Given Owed
-opened memory s counts count words k o ran after a l r w =
+opened memory s counts count words k o ran after a l table t =
     let free = free-less dwellLimit (dwellPlaces memory s) k (ran .done) counts (ran-most memory s k words ran a) (o .free) in
-    let t = walked-all memory s counts (ran .done) free r w in
     ⊎-elim
-    (λ e. owed-free memory s counts count words ran (r .counts) after (rw (← e) (a, l, t)) free)
-    (λ full. owed-full memory s counts count words k (o .most) ran (r .counts) after (a, l, t) (o .free) full)
+    (λ e. owed-free memory s counts count words ran table after (rw (← e) (a, l, t)) free)
+    (λ full. owed-full memory s counts count words k (o .most) ran table after (a, l, t) (o .free) full)
     (o .end)

@@ -1,4 +1,4 @@
--- Between crates: what the run's walk for the dwell table holds between two changes of the DMC; proved to be the plain reading's table (proofs/WalkLaws).
+-- Between crates: the clocks of a run that no count stops, and what the walk that finds them holds between two changes of the DMC (proofs/WalkLaws).
 use Prim.Native.Nat.{ℕ, _+_, _≤_, _<_, min}
 use mathlib.Core.Path.{_≡_}
 use mathlib.Core.Logic.{_⊎_}
@@ -15,7 +15,6 @@ use Rattle.chip_dmc.specs.declared.Dmc.{Dmc}
 use Rattle.chip_tables.specs.Table.{dmcPeriod}
 use Rattle.run_dwell.specs.Dwell.{dwellLimit}
 use Rattle.run_dwell.specs.Kept.{dwellPlaces}
-use Rattle.run_walk.specs.declared.Dwell.{Dwell}
 
 -- the last clock up to `count` before the DMC's next change, `still` clocks behind clock `at`; one that is still for ever has none
 unfoldable pub lastAt : ℕ → ℕ → ℕ → ℕ
@@ -40,8 +39,3 @@ pub record Open (memory : List ℕ) (s : State) (counts : List ℕ) (count k : �
   pub most : k ≤ count
   pub free : Free dwellLimit (dwellPlaces memory s) k counts
   pub end : (k ≡ count) ⊎ Full dwellLimit (dwellPlaces memory s) k counts
-
--- what a walk of at most `count` clocks promises
-pub record Walked (memory : List ℕ) (s : State) (counts : List ℕ) (count : ℕ) (r : Dwell) : Type 0 where
-  pub open-to : Open memory s counts count (r .clocks)
-  pub is : r .counts ≡ tallied (dwellPlaces memory s) (r .clocks) counts

@@ -16,11 +16,11 @@ returns c =
     open-all (a .memory .now) (a .s) (a .counts) (a .count)
     (λ i. omega (arith, p .1 .0, within-most (4000000000 - a .count) (a .counts) (sym (c .before .within .ensures) ∙ c .if1 .taken) i))
 
-dwell-requires : tie.Need-dwell-requires
-dwell-requires c κs = c .before .before .before .pre
+walk-requires : tie.Need-walk-requires
+walk-requires c κs = c .before .before .before .pre
 
 returns-2 : tie.Need-returns-2
-returns-2 c = c .dwell .ensures .open-to
+returns-2 c = c .walk .ensures
 
 pub open-clocks-spec : {M : Type 1} → statement M
-open-clocks-spec = tie.close (tie.spec sub-within (λ c κs. tt) returns dwell-requires returns-2)
+open-clocks-spec = tie.close (tie.spec sub-within (λ c κs. tt) returns walk-requires returns-2)

@@ -1,8 +1,9 @@
 -- The loop's invariant is `Worked`; a turn is an event of noise, squares or triangle, and then the loop of squares and triangle alone. Assumes nothing.
-use Prim.Native.Nat.{_+_, _-_}
+use Prim.Native.Nat.{ℕ, _+_, _-_}
 use mathlib.Core.Path.{_≡_, refl, ap, _∙_}
 use native.Mathlib.Omega.{arith}
 use Rattle.chip.specs.Range.{Bytes}
+use Rattle.leap_stretch.specs.Lagged.{lagsAt, renewedWith, soundsRenewed}
 use Rattle.leap_stretch.specs.declared.Lags.{Lags}
 use Rattle.leap_stretch.proofs.WaitLaws.{sounds-renewed}
 use Rattle.run_answer.specs.Run.{roomOf}
@@ -11,9 +12,13 @@ use Rattle.run_loops.proofs.StretchLaws.{worked-none, worked-on, worked-event, 
 use Rattle.run.proofs.sounds_on.Statement.{statement}
 use Rattle.run.proofs.sounds_on.Tie as tie
 
+sounds-dmc : (l : Lags) (e : ℕ) → soundsRenewed l e .dmc ≡ l .dmc
+unfolding soundsRenewed renewedWith lagsAt
+sounds-dmc l e = refl
+
 abbrev Inv-loop : tie.InvT-loop
 Inv-loop s memory end base words₀ records room l₀ n₀ words l n =
-    Worked memory s end base (l₀ .now) records words₀ words l n × (room ≡ roomOf words₀)
+    Worked memory s end base (l₀ .now) records words₀ words l n × (room ≡ roomOf words₀) × (l .dmc ≡ l₀ .dmc)
 
 abbrev μ-loop : tie.MeasureT-loop
 μ-loop s memory end base words₀ records room l₀ n₀ words l n = end + 1 - l .next
@@ -21,7 +26,7 @@ abbrev μ-loop : tie.MeasureT-loop
 loop-holds : tie.Need-loop-holds Inv-loop μ-loop
 loop-holds c =
     let a = c .before .before .args in
-    (worked-none (a .memory .now) (a .s) (a .end) (a .base) (a .words .now) (a .first) (a .records) (c .before .before .pre), refl)
+    (worked-none (a .memory .now) (a .s) (a .end) (a .base) (a .words .now) (a .first) (a .records) (c .before .before .pre), refl, refl)
 
 sounds-until-requires : tie.Need-sounds-until-requires Inv-loop μ-loop
 sounds-until-requires c κs = tt
@@ -84,12 +89,12 @@ loop-less c =
     let u = c .before .before .before .before .before .before .before .before .before .before .before .before .before .sounds-until .ensures .1 in
     let bytes : Bytes (a .memory .now) = λ k. omega (arith, c .before .before .before .before .before .before .before .before .before .before .before .before .before .before .before .before .shared-slice-known .given k) in
     let v = worked-event (a .memory .now) bytes (a .s) (a .end) (a .base) (a .first .now) (a .records) (a .words .now) (i .words) (i .l) (i .n) w (omega (arith, t .0, u .1)) (omega (arith, t .1, i .inv .1, w .same-length)) _ (c .before .before .before .before .before .before .before .before .before .renew-sounds .ensures ∙ sounds-renewed (a .memory .now) (i .l) (i .l .next) (omega (arith, t .0, u .0))) _ _ (c .before .before .before .before .before .before .before .mark .ensures .0) (c .before .before .before .before .before .before .before .mark .ensures .1) in
-    let x = worked-on (a .memory .now) (a .s) (a .end) (a .base) (a .first .now) (a .records) (a .words .now) _ _ _ _ _ _ v (c .before .before .before .voices-on .ensures) in
+    let x = worked-on (a .memory .now) (a .s) (a .end) (a .base) (a .first .now) (a .records) (a .words .now) _ _ _ _ _ _ v (c .before .before .before .voices-on .ensures .0) in
     let q = past (a .memory .now) bytes (a .s) (a .end) (a .base) (a .first .now) (a .records) (a .words .now) _ _ _ x in
     let z : c .before .before .before .before .before .before .before .before .before .renew-sounds .result .now ≡ i .l .next =
     ap (λ (x : Lags). x .now) (c .before .before .before .before .before .before .before .before .before .renew-sounds .ensures ∙ sounds-renewed (a .memory .now) (i .l) (i .l .next) (omega (arith, t .0, u .0))) ∙ event-now (a .memory .now) (i .l) (i .l .next)
     in
-    omega (arith, t .0, u .1, z, q, c .before .before .before .voices-on .ensures .on)
+    omega (arith, t .0, u .1, z, q, c .before .before .before .voices-on .ensures .0 .on)
 
 loop-again : tie.Need-loop-again Inv-loop μ-loop
 loop-again c =
@@ -101,7 +106,7 @@ loop-again c =
     let u = c .before .before .before .before .before .before .before .before .before .before .before .before .before .sounds-until .ensures .1 in
     let bytes : Bytes (a .memory .now) = λ k. omega (arith, c .before .before .before .before .before .before .before .before .before .before .before .before .before .before .before .before .shared-slice-known .given k) in
     let v = worked-event (a .memory .now) bytes (a .s) (a .end) (a .base) (a .first .now) (a .records) (a .words .now) (i .words) (i .l) (i .n) w (omega (arith, t .0, u .1)) (omega (arith, t .1, i .inv .1, w .same-length)) _ (c .before .before .before .before .before .before .before .before .before .renew-sounds .ensures ∙ sounds-renewed (a .memory .now) (i .l) (i .l .next) (omega (arith, t .0, u .0))) _ _ (c .before .before .before .before .before .before .before .mark .ensures .0) (c .before .before .before .before .before .before .before .mark .ensures .1) in
-    (worked-on (a .memory .now) (a .s) (a .end) (a .base) (a .first .now) (a .records) (a .words .now) _ _ _ _ _ _ v (c .before .before .before .voices-on .ensures), i .inv .1)
+    (worked-on (a .memory .now) (a .s) (a .end) (a .base) (a .first .now) (a .records) (a .words .now) _ _ _ _ _ _ v (c .before .before .before .voices-on .ensures .0), i .inv .1, c .before .before .before .voices-on .ensures .1 ∙ ap (λ (x : Lags). x .dmc) (c .before .before .before .before .before .before .before .before .before .renew-sounds .ensures) ∙ sounds-dmc (i .l) (i .l .next) ∙ i .inv .2)
 
 same-length : tie.Need-same-length Inv-loop μ-loop
 same-length c =
@@ -117,7 +122,7 @@ returns c =
     let p = c .before .before .before .before .before .before .pre in
     let i = c .before .before .before .loop in
     let w = i .inv .0 in
-    w
+    (w, i .inv .2)
 
 pub sounds-on-spec : {M : Type 1} → statement M
 sounds-on-spec =

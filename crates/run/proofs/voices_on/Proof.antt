@@ -106,12 +106,13 @@ same-length c =
     w .same-length
 
 returns : tie.Need-returns Inv-loop μ-loop
+unfolding lagsWith
 returns c =
     let a = c .before .before .before .before .before .before .before .before .before .before .args in
     let p = c .before .before .before .before .before .before .before .before .before .before .pre in
     let i = c .before .before .before .loop in
     let w = i .inv .0 (a .s) p in
-    rw (c .lags-with .ensures) w
+    rw (c .lags-with .ensures) (w, refl)
 
 pub voices-on-spec : {M : Type 1} → statement M
 voices-on-spec =

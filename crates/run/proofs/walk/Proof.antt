@@ -13,8 +13,8 @@ use Rattle.run_dwell.specs.Dwell.{dwellLimit}
 use Rattle.run_dwell.proofs.WithinLaws.{within-most}
 use Rattle.run_walk.specs.Walk.{lastAt, Walking}
 use Rattle.run_walk.proofs.WalkLaws.{turned-by, walk-start, walk-place, walk-low, walk-last, walk-on, walk-full, walk-end}
-use Rattle.run.proofs.dwell.Statement.{statement}
-use Rattle.run.proofs.dwell.Tie as tie
+use Rattle.run.proofs.walk.Statement.{statement}
+use Rattle.run.proofs.walk.Tie as tie
 
 abbrev Inv-loop : tie.InvT-loop
 Inv-loop memory count period table₀ d₀ at₀ done₀ table d at done =
@@ -199,8 +199,8 @@ returns-2 c =
     let bytes : Bytes (a .memory .now) = λ k. omega (arith, c .before .before .before .before .shared-slice-known .given k) in
     walk-end (a .memory .now) bytes (a .s) (state-in (a .s) (c .before .before .before .before .before .pre .0)) (a .counts) (a .count) (i .table) (i .d) (i .at) (i .walked) (i .inv (a .s) (c .before .before .before .before .before .pre .0) refl (c .before .before .before .dmc-period .ensures)) (c .loop-test .left)
 
-pub dwell-spec : {M : Type 1} → statement M
-dwell-spec =
+pub walk-spec : {M : Type 1} → statement M
+walk-spec =
     tie.close
     (tie.spec
     Inv-loop
