@@ -1,15 +1,17 @@
 -- A square as a stretch keeps it, at its next change: with the other number it is what is kept of the square turned. Assumes nothing.
-use Prim.Native.Nat.{ℕ, _+_, _/_, _%_, _≤_}
+use Prim.Native.Nat.{ℕ, _+_, _-_, _*_, _/_, _%_, _≤_}
 use mathlib.Core.Path.{_≡_, refl, sym, ap, _∙_}
 use native.Mathlib.Omega.{arith}
+use lib.Dec.{eqb}
 use borrow.Author.Tests.{eq-eqb, ne-eqb}
+use Rattle.arith.specs.Pick.{pick}
 use Rattle.leap_still.specs.Forever.{forever}
 use Rattle.leap_square.specs.Leap.{squareStill, beatGives, beatTurned}
 use Rattle.leap_square.specs.Lag.{squareSpan, runWord, squareKept, squareLag, squareLagOut, runThen, squareRenewed}
 use Rattle.leap_square.specs.declared.Beat.{Beat}
 use Rattle.leap_square.specs.declared.lag.SquareLag.{SquareLag}
 use Rattle.leap_square.proofs.LeapLaws.{BeatRanged, square-still-most, gives-most}
-use Rattle.leap_square.proofs.RoundLaws.{turned-again, gives-again}
+use Rattle.leap_square.proofs.RoundLaws.{turned-again, gives-again, gives-other, stills-round}
 
 -- what the field holds of a span is all of it
 span-is : (row amount : ℕ) (b : Beat) → BeatRanged b → squareSpan row amount b ≡ squareStill row amount b + 1
@@ -45,6 +47,26 @@ other : (x y : ℕ) → x ≤ 18446744073709551615 → y ≤ 1844674407370955161
 unfolding runThen
 other x y h m = omega arith
 
+-- a run's clocks, from those of the round and of the other run
+rest : (s t : ℕ) → (s + t + 4294967296 - s % 4294967296) % 4294967296 ≡ t % 4294967296
+rest s t = omega arith
+
+-- the sum of the two numbers, from the amount and the clocks of one run
+pub both-of : (row amount : ℕ) (b : Beat)
+    → (runWord amount (squareSpan row amount (beatTurned row b))
+    + (pick (eqb amount 0) 200002 (pick (eqb (b .n) 0) 2 (16 * b .n)) + 4294967296 - squareSpan row amount (beatTurned row b)) % 4294967296)
+    % 18446744073709551616
+    ≡ (squareKept row amount b + squareKept row amount (beatTurned row b)) % 18446744073709551616
+unfolding squareKept runWord squareSpan
+both-of row amount b =
+    let x = squareStill row amount (beatTurned row b) + 1 in
+    let y = squareStill row amount (beatTurned row (beatTurned row b)) + 1 in
+    let e = stills-round row b amount in
+    let f : (pick (eqb amount 0) 200002 (pick (eqb (b .n) 0) 2 (16 * b .n)) + 4294967296 - x % 4294967296) % 4294967296 ≡ y % 4294967296 =
+    ap (λ (k : ℕ). (k + 4294967296 - x % 4294967296) % 4294967296) (sym e) ∙ rest x y
+    in
+    ap (λ (k : ℕ). k % 18446744073709551616) (omega (arith, f, gives-other row b amount))
+
 -- what is kept gives what the square gives
 pub kept-gives : (row amount : ℕ) (b : Beat) (at : ℕ) → squareLagOut (squareLag row amount b at) ≡ beatGives row amount b
 unfolding squareLagOut squareLag squareKept
@@ -63,7 +85,7 @@ same-lag p q r = rw (p, q, r) refl
 module _ (row amount : ℕ) (few : amount ≤ 4294967295) (b : Beat) (r : BeatRanged b) where
   again : squareKept row amount (beatTurned row (beatTurned row b)) ≡ squareKept row amount b
   unfolding squareKept
-  again = rw (gives-again row b (r .steps) amount, turned-again row b (r .steps)) refl
+  again = rw (gives-again row b amount, turned-again row b) refl
 
   ends : (e : ℕ) → e + squareKept row amount b % 4294967296 ≡ e + squareStill row amount (beatTurned row b) + 1
   unfolding squareKept

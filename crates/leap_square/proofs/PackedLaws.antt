@@ -1,55 +1,92 @@
--- The packed tables are the tables: two computed tests. Assumes nothing.
-use Prim.Native.Nat.{ℕ, _+_, _*_, _/_, _%_, _^_}
-use mathlib.Core.Path.{_≡_, ap, _∙_}
-use mathlib.Core.Bool.{Bool}
+-- The packed table is the tables: one computed test. Assumes nothing.
+use Prim.Native.Nat.{ℕ, zero, suc, _+_, _-_, _*_, _/_, _%_, _≤_}
+use mathlib.Core.Path.{_≡_, refl, ap}
+use mathlib.Core.Bool.{Bool, true, false}
 use native.Mathlib.Omega.{arith}
-use lib.Dec.{T, eqb, eqb→eq}
-use lib.ListN.{getD}
+use lib.Dec.{T, leb, eqb}
+use borrow.Author.Tests.{eqb-true, leb-true}
+use Rattle.arith.specs.Pick.{pick, both}
 use Rattle.arith.specs.Table.{every}
+use Rattle.arith.proofs.PickLaws.{both-left, both-right}
 use Rattle.arith.proofs.TableLaws.{at}
-use Rattle.chip_square.specs.Sequencer.{duties, dutyBit}
-use Rattle.leap_square.specs.Leap.{turnTable, dutyTurns}
-use Rattle.leap_square.specs.Packed.{turnsWord, bitsWord}
+use Rattle.chip_square.specs.Sequencer.{dutyBit}
+use Rattle.leap_still.specs.Forever.{forever}
+use Rattle.leap_square.specs.Leap.{dutyTurns, squareStill, beatGives, beatTurned}
+use Rattle.leap_square.specs.Lag.{squareSpan}
+use Rattle.leap_square.specs.Packed.{runsTable, runsAt}
+use Rattle.leap_square.specs.declared.Beat.{Beat}
+use Rattle.leap_square.proofs.PlaceLaws.{on, place, few, turns-here, turns-once, bit-here}
+use Rattle.leap_square.proofs.TurnLaws.{turns-most}
 
-abbrev word-right : ℕ → ℕ → Bool
-word-right k x = eqb (turnsWord k / 2 ^ (4 * (k % 16)) % 16) x
+-- an entry is the turns of its place, those of the run behind it and the duty bit, which is 0 or 1
+abbrev packs : ℕ → ℕ → Bool
+packs k x = eqb x (dutyTurns k (k % 16) + 16 * dutyTurns k (on k (k % 16)) + 256 * dutyBit (k / 16) (k % 16 / 2))
 
-words : T (every word-right 0 turnTable)
-unfolding turnsWord
-words = tt
+abbrev bit : ℕ → Bool
+bit k = leb (dutyBit (k / 16) (k % 16 / 2)) 1
 
-same-word : (row k : ℕ) → k / 16 % 4 ≡ row / 16 % 4 → turnsWord k ≡ turnsWord row
-unfolding turnsWord
-same-word row k e = rw e
+abbrev right : ℕ → ℕ → Bool
+right k x = both (packs k x) (bit k)
 
-pub turns-word : (row steps : ℕ) → turnsWord row / 2 ^ (4 * (steps % 16)) % 16 ≡ dutyTurns row steps
-unfolding dutyTurns
-turns-word row steps =
-    let k : ℕ = row / 16 % 4 * 16 + steps % 16 in
-    let w : turnsWord k ≡ turnsWord row = same-word row k (omega arith) in
-    let s : k % 16 ≡ steps % 16 = omega arith in
-    let e : turnsWord k / 2 ^ (4 * (k % 16)) % 16 ≡ getD turnTable k 0 = eqb→eq _ _ (at word-right turnTable words k (omega arith)) in
-    rw (w, s) at e
+all : T (every right 0 runsTable)
+unfolding dutyBit dutyTurns
+all = tt
 
--- the duty bits are tested at each place of a table, which is that of turns
-abbrev bit-right : ℕ → ℕ → Bool
-bit-right k x = eqb (bitsWord / 2 ^ k % 2) (dutyBit (k / 16) (k % 16 / 2))
+holds : (b : Bool) → T b → b ≡ true
+holds true t = refl
+holds false t = absurd t
 
-bits : T (every bit-right 0 turnTable)
-unfolding bitsWord dutyBit
-bits = tt
+module _ (row s : ℕ) where
+  right-here : right (place row s) (runsAt row s) ≡ true
+  unfolding runsAt
+  right-here = holds _ (at right runsTable all (place row s) (omega (arith, few row s)))
 
-same-bit : (row k p : ℕ) → k / 16 % 4 ≡ row / 16 % 4 → dutyBit (k / 16) p ≡ dutyBit (row / 16) p
-unfolding dutyBit
-same-bit row k p e = ap (λ (d : ℕ). getD duties (d * 8 + p % 8) 0) e
+  packed : runsAt row s ≡ dutyTurns row s + 16 * dutyTurns row (on row s) + 256 * dutyBit (row / 16) (s / 2)
+  packed =
+      let k : ℕ = place row s in
+      let e : runsAt row s ≡ dutyTurns k (k % 16) + 16 * dutyTurns k (on k (k % 16)) + 256 * dutyBit (k / 16) (k % 16 / 2) =
+      eqb-true _ _ (both-left (packs k (runsAt row s)) (bit k) right-here)
+      in
+      omega (arith, e, turns-here row s, turns-once row s, bit-here row s)
 
-same-place : (duty p q : ℕ) → p % 8 ≡ q % 8 → dutyBit duty p ≡ dutyBit duty q
-unfolding dutyBit
-same-place duty p q e = ap (λ (r : ℕ). getD duties (duty % 4 * 8 + r) 0) e
+  bit-most : dutyBit (row / 16) (s / 2) ≤ 1
+  bit-most =
+      let k : ℕ = place row s in
+      let e : dutyBit (k / 16) (k % 16 / 2) ≤ 1 = leb-true _ _ (both-right (packs k (runsAt row s)) (bit k) right-here) in
+      omega (arith, e, bit-here row s)
 
-pub bits-word : (row steps : ℕ) → bitsWord / 2 ^ (row / 16 % 4 * 16 + steps % 16) % 2 ≡ dutyBit (row / 16) (steps / 2)
-bits-word row steps =
-    let k : ℕ = row / 16 % 4 * 16 + steps % 16 in
-    eqb→eq (bitsWord / 2 ^ k % 2) (dutyBit (k / 16) (k % 16 / 2)) (at bit-right turnTable bits k (omega arith))
-    ∙ same-bit row k (k % 16 / 2) (omega arith)
-    ∙ same-place (row / 16) (k % 16 / 2) (steps / 2) (omega arith)
+  runs-turns : runsAt row s % 16 ≡ dutyTurns row s
+  runs-turns = omega (arith, packed, turns-most row s)
+
+  runs-behind : runsAt row s / 16 % 16 ≡ dutyTurns row (on row s)
+  runs-behind = omega (arith, packed, turns-most row s, turns-most row (on row s))
+
+  runs-bit : runsAt row s / 256 ≡ dutyBit (row / 16) (s / 2)
+  runs-bit = omega (arith, packed, turns-most row s, turns-most row (on row s))
+
+  pub bit-fits : runsAt row s / 256 ≤ 1
+  bit-fits = omega (arith, runs-bit, bit-most)
+
+-- what it gives, by a product
+pub product : (amount bit : ℕ) → bit ≤ 1 → amount * bit ≡ pick (eqb bit 1) amount 0
+product amount zero h = omega arith
+product amount (suc k) h = let z : k ≡ 0 = omega arith in rw z (omega arith)
+
+-- WHAT A SQUARE IS BY THE TABLE
+module _ (row amount : ℕ) (b : Beat) where
+  pub still-by : pick (eqb amount 0) forever (b .count - 1 + runsAt row (b .steps) % 16 * b .n) ≡ squareStill row amount b
+  unfolding squareStill
+  still-by = rw (runs-turns row (b .steps))
+
+  pub gives-by : pick (eqb (runsAt row (b .steps) / 256) 1) amount 0 ≡ beatGives row amount b
+  unfolding beatGives
+  gives-by = rw (runs-bit row (b .steps))
+
+  pub behind-by : pick (eqb amount 0) forever (b .n - 1 + runsAt row (b .steps) / 16 % 16 * b .n) ≡ squareStill row amount (beatTurned row b)
+  unfolding squareStill beatTurned
+  behind-by = rw (runs-behind row (b .steps))
+
+  pub span-by : (pick (eqb amount 0) forever (b .n - 1 + runsAt row (b .steps) / 16 % 16 * b .n) + 1) % 4294967296
+      ≡ squareSpan row amount (beatTurned row b)
+  unfolding squareSpan
+  span-by = ap (λ (k : ℕ). (k + 1) % 4294967296) behind-by

@@ -1,32 +1,32 @@
--- A duty's row has two runs, so two turns on a square is where it was: one computed test. Assumes nothing.
-use Prim.Native.Nat.{ℕ, _+_, _*_, _/_, _%_, _≤_}
-use mathlib.Core.Path.{_≡_, refl, sym, ap, _∙_}
+-- A duty's row has two runs, sixteen outputs in all, and each change is to the other duty bit: one computed test. So two changes on a square is
+-- where it was. Assumes nothing.
+use Prim.Native.Nat.{ℕ, zero, suc, _+_, _-_, _*_, _/_, _%_}
+use mathlib.Core.Path.{_≡_, refl, ap}
 use mathlib.Core.Bool.{Bool, true, false}
+use native.Mathlib.Nat.{add-mul}
 use native.Mathlib.Omega.{arith}
 use lib.Dec.{T, eqb}
-use lib.ListN.{getD}
-use borrow.Author.Tests.{eqb-true}
+use borrow.Author.Tests.{eqb-true, eqb-false}
 use Rattle.arith.specs.Pick.{pick, both}
 use Rattle.arith.specs.Table.{every}
-use Rattle.arith.proofs.PickLaws.{both-left, both-right}
+use Rattle.arith.proofs.PickLaws.{both-left, both-right, pick-each}
 use Rattle.arith.proofs.TableLaws.{at}
-use Rattle.chip_square.specs.Sequencer.{duties, dutyBit}
-use Rattle.leap_square.specs.Leap.{turnTable, dutyTurns, beatGives, beatTurned}
+use Rattle.leap_still.specs.Forever.{forever}
+use Rattle.chip_square.specs.Sequencer.{dutyBit}
+use Rattle.leap_square.specs.Leap.{turnTable, dutyTurns, squareStill, beatGives, beatTurned}
 use Rattle.leap_square.specs.declared.Beat.{Beat}
+use Rattle.leap_square.proofs.PlaceLaws.{on, place, few, turns-once, turns-twice, bit-here, bit-once}
 
--- the steps at the next change
-abbrev on : ℕ → ℕ → ℕ
-on row steps = (steps + (dutyTurns row steps + 1)) % 16
+-- at place k of the table: the two runs behind the next change are sixteen outputs (one of each run changes the bit), and that change is to the
+-- other duty bit
+abbrev sixteen : ℕ → Bool
+sixteen k = eqb (dutyTurns k (on k (k % 16)) + dutyTurns k (on k (on k (k % 16)))) 14
 
--- at place k of the table: two changes behind a change are that change's steps, and two changes on the duty bit is the same
-abbrev begins : ℕ → Bool
-begins k = eqb (on k (on k (on k (k % 16)))) (on k (k % 16))
-
-abbrev gives : ℕ → Bool
-gives k = eqb (dutyBit (k / 16) (on k (on k (k % 16)) / 2)) (dutyBit (k / 16) (k % 16 / 2))
+abbrev changes : ℕ → Bool
+changes k = eqb (dutyBit (k / 16) (k % 16 / 2) + dutyBit (k / 16) (on k (k % 16) / 2)) 1
 
 abbrev right : ℕ → ℕ → Bool
-right k x = both (begins k) (gives k)
+right k x = both (sixteen k) (changes k)
 
 all : T (every right 0 turnTable)
 unfolding dutyBit dutyTurns
@@ -36,66 +36,76 @@ holds : (b : Bool) → T b → b ≡ true
 holds true t = refl
 holds false t = absurd t
 
-entry : (k : ℕ) → k ≤ 63 → both (begins k) (gives k) ≡ true
-entry k h = holds _ (at right turnTable all k (omega arith))
+module _ (row s : ℕ) where
+  right-here : both (sixteen (place row s)) (changes (place row s)) ≡ true
+  right-here = holds _ (at right turnTable all (place row s) (omega (arith, few row s)))
 
-same-row : (row k s : ℕ) → k / 16 % 4 ≡ row / 16 % 4 → dutyTurns k s ≡ dutyTurns row s
-unfolding dutyTurns
-same-row row k s e = rw e
+  turns-round : dutyTurns row (on row s) + dutyTurns row (on row (on row s)) ≡ 14
+  turns-round =
+      let k : ℕ = place row s in
+      let e : dutyTurns k (on k (k % 16)) + dutyTurns k (on k (on k (k % 16))) ≡ 14 = eqb-true _ _ (both-left (sixteen k) (changes k) right-here) in
+      omega (arith, e, turns-once row s, turns-twice row s)
 
-same-bit : (row k p : ℕ) → k / 16 % 4 ≡ row / 16 % 4 → dutyBit (k / 16) p ≡ dutyBit (row / 16) p
-unfolding dutyBit
-same-bit row k p e = ap (λ (d : ℕ). getD duties (d * 8 + p % 8) 0) e
+  bit-changes : dutyBit (row / 16) (s / 2) + dutyBit (row / 16) (on row s / 2) ≡ 1
+  bit-changes =
+      let k : ℕ = place row s in
+      let e : dutyBit (k / 16) (k % 16 / 2) + dutyBit (k / 16) (on k (k % 16) / 2) ≡ 1 = eqb-true _ _ (both-right (sixteen k) (changes k) right-here) in
+      omega (arith, e, bit-here row s, bit-once row s)
 
-module _ (row : ℕ) (b : Beat) (h : b .steps ≤ 15) where
-  place : ℕ
-  place = row / 16 % 4 * 16 + b .steps
+-- of two bits that are not the same one gives
+one-gives : (x y amount : ℕ) → x + y ≡ 1 → pick (eqb x 1) amount 0 + pick (eqb y 1) amount 0 ≡ amount
+one-gives zero y amount e = let q : y ≡ 1 = omega arith in rw q (omega arith)
+one-gives (suc x) y amount e =
+    let p : x ≡ 0 = omega arith in
+    let q : y ≡ 0 = omega arith in
+    rw (p, q) (omega arith)
 
-  row-of : place / 16 % 4 ≡ row / 16 % 4
-  unfolding place
-  row-of = omega arith
-
-  steps-of : place % 16 ≡ b .steps
-  unfolding place
-  steps-of = omega arith
-
-  few : place ≤ 63
-  unfolding place
-  few = omega arith
-
-  moved : (s : ℕ) → on place s ≡ on row s
-  moved s = ap (λ (t : ℕ). (s + (t + 1)) % 16) (same-row row place s row-of)
-
-  three : on row (on row (on row (b .steps))) ≡ on row (b .steps)
-  three =
-      let e : on place (on place (on place (place % 16))) ≡ on place (place % 16) =
-      eqb-true _ _ (both-left (begins place) (gives place) (entry place few))
-      in
-      let x : on place (place % 16) ≡ on row (b .steps) = ap (on place) steps-of ∙ moved (b .steps) in
-      let y : on place (on place (place % 16)) ≡ on row (on row (b .steps)) = ap (on place) x ∙ moved (on row (b .steps)) in
-      let z : on place (on place (on place (place % 16))) ≡ on row (on row (on row (b .steps))) =
-      ap (on place) y ∙ moved (on row (on row (b .steps)))
-      in
-      sym z ∙ e ∙ x
-
-  two : dutyBit (row / 16) (on row (on row (b .steps)) / 2) ≡ dutyBit (row / 16) (b .steps / 2)
-  two =
-      let e : dutyBit (place / 16) (on place (on place (place % 16)) / 2) ≡ dutyBit (place / 16) (place % 16 / 2) =
-      eqb-true _ _ (both-right (begins place) (gives place) (entry place few))
-      in
-      let x : on place (place % 16) ≡ on row (b .steps) = ap (on place) steps-of ∙ moved (b .steps) in
-      let y : on place (on place (place % 16)) ≡ on row (on row (b .steps)) = ap (on place) x ∙ moved (on row (b .steps)) in
-      sym (ap (λ (s : ℕ). dutyBit (place / 16) (s / 2)) y ∙ same-bit row place (on row (on row (b .steps)) / 2) row-of)
-      ∙ e
-      ∙ ap (λ (s : ℕ). dutyBit (place / 16) (s / 2)) steps-of
-      ∙ same-bit row place (b .steps / 2) row-of
-
+module _ (row : ℕ) (b : Beat) where
   -- two changes behind a change it is as it was there
   pub turned-again : beatTurned row (beatTurned row (beatTurned row b)) ≡ beatTurned row b
   unfolding beatTurned
-  turned-again = ap (λ (s : ℕ). record { n = b .n; count = b .n; steps = s }) three
+  turned-again =
+      let e = turns-round row (b .steps) in
+      ap (λ (s : ℕ). record { n = b .n; count = b .n; steps = s }) (omega (arith, e))
 
   -- two changes on it gives the same
   pub gives-again : (amount : ℕ) → beatGives row amount (beatTurned row (beatTurned row b)) ≡ beatGives row amount b
   unfolding beatGives beatTurned
-  gives-again amount = ap (λ (x : ℕ). pick (eqb x 1) amount 0) two
+  gives-again amount =
+      let e = bit-changes row (b .steps) in
+      let f = bit-changes row (on row (b .steps)) in
+      let g : dutyBit (row / 16) (on row (on row (b .steps)) / 2) ≡ dutyBit (row / 16) (b .steps / 2) = omega (arith, e, f) in
+      ap (λ (x : ℕ). pick (eqb x 1) amount 0) g
+
+  -- what it gives and what it gives at its next change are the amount and 0, or 0 and the amount
+  pub gives-other : (amount : ℕ) → beatGives row amount b + beatGives row amount (beatTurned row b) ≡ amount
+  unfolding beatGives beatTurned
+  gives-other amount =
+      one-gives (dutyBit (row / 16) (b .steps / 2)) (dutyBit (row / 16) (on row (b .steps) / 2)) amount (bit-changes row (b .steps))
+
+  -- THE CLOCKS OF TWO RUNS
+  pub stills-round : (amount : ℕ)
+      → squareStill row amount (beatTurned row b) + 1 + (squareStill row amount (beatTurned row (beatTurned row b)) + 1)
+      ≡ pick (eqb amount 0) 200002 (pick (eqb (b .n) 0) 2 (16 * b .n))
+  unfolding squareStill beatTurned
+  stills-round amount = go (eqb amount 0)
+    where
+      x : ℕ
+      x = dutyTurns row (on row (b .steps))
+
+      y : ℕ
+      y = dutyTurns row (on row (on row (b .steps)))
+
+      moves : b .n - 1 + x * b .n + 1 + (b .n - 1 + y * b .n + 1) ≡ pick (eqb (b .n) 0) 2 (16 * b .n)
+      moves =
+          let d : (x + y) * b .n ≡ x * b .n + y * b .n = add-mul x y (b .n) in
+          let f : (x + y) * b .n ≡ 14 * b .n = ap (λ (k : ℕ). k * b .n) (turns-round row (b .steps)) in
+          pick-each (λ (k : ℕ). b .n - 1 + x * b .n + 1 + (b .n - 1 + y * b .n + 1) ≡ k) (eqb (b .n) 0)
+          (λ e. let z : b .n ≡ 0 = eqb-true _ _ e in omega (arith, d, f))
+          (λ e. let z : b .n ≡ 0 → ⊥ = eqb-false _ _ e in omega (arith, d, f))
+
+      go : (t : Bool)
+          → pick t forever (b .n - 1 + x * b .n) + 1 + (pick t forever (b .n - 1 + y * b .n) + 1)
+          ≡ pick t 200002 (pick (eqb (b .n) 0) 2 (16 * b .n))
+      go true = refl
+      go false = moves
