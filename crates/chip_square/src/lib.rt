@@ -25,47 +25,15 @@ pub struct Square {
     pub length: Length,
 }
 
-const DUTIES: [u8; 32] = [
-    0,
-    1,
-    0,
-    0,
-    0,
-    0,
-    0,
-    0,
-    0,
-    1,
-    1,
-    0,
-    0,
-    0,
-    0,
-    0,
-    0,
-    1,
-    1,
-    1,
-    1,
-    0,
-    0,
-    0,
-    1,
-    0,
-    0,
-    1,
-    1,
-    1,
-    1,
-    1,
-];
+// The four duties, eight bits each: bit duty * 8 + position is the duty bit.
+const DUTIES: u32 = 0xF91E0602;
 
 // The duty bit at a position.
 pub fn duty_bit(duty: u8, position: u8) -> u8
     ensures { λ r. ⌜ r ≡ dutyBit duty position ⌝ }
 {
-    let i = (duty % 4 * 8 + position % 8) as usize;
-    DUTIES[i]
+    let i = (duty % 4 * 8 + position % 8) as u32;
+    ((DUTIES >> i) % 2) as u8
 }
 
 fn position_after(position: u8) -> u8

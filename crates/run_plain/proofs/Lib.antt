@@ -1,0 +1,3 @@
+pub mod CalmLaws
+pub mod GoingLaws
+pub mod HeardLaws
