@@ -1,4 +1,15 @@
 // A stretch of clocks between two frame steps, each channel brought up only when what it gives may change.
+//
+// In a stretch a channel is kept as its lag: the clock of its next event, at which what it gives may change, and what it gives up to then. A square and the
+// triangle need no more, since what comes behind an event follows from the event's clock; noise and DMC keep their state at their last event too. `Lags` are all
+// five, with the clock of the next event of any and the level.
+//
+// `lags_of` makes them from a state. At an event `renew` brings up whoever is due and mixes the level; `renew_sounds` is the same where the DMC isn't due. Squares
+// and triangle have most of the events: `Voices` are those two by themselves, and `Others` what noise and DMC add to the level meanwhile, so that the innermost
+// loop of a run keeps little. `lags_with` puts them back. `state_at` is the whole state at any clock before the next event: squares and triangle g clocks on from
+// the stretch's first state by quotients and remainders, noise and DMC from their last event.
+//
+// Tables stand as matches, which the compiler makes a load of: the triangle's part in the level, and, while the DMC gives 0, the whole of it (`leap_calm`).
 ghost use mathlib.Core.Path.{_≡_};
 ghost use lib.ListN.{getD};
 ghost use Rattle.leap_law.specs.Between.{stateWith};

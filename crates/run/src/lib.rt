@@ -1,4 +1,16 @@
 // The leaping run: from frame step to frame step, each channel brought up only when what it gives may change.
+//
+// A run goes stretch by stretch (`run_on`): the clocks before the next frame step, or all that are left but the last (`next_stretch`). In a stretch only timers
+// move, and what hangs on them, so for each channel the clock of its next event, at which what it gives may change, has a closed form. `stretch_on` goes from
+// event to event. Whoever is due is brought up to its clock, the level is mixed anew, and where it differs a record is written.
+//
+// Most events are of squares and triangle, so three loops stand one in the other: `voices_on` has those events, `sounds_on` the noise's around them, and
+// `stretch_on` the DMC's. An inner loop ends where an outer channel is due, at the stretch's end, or before an event for whose record there may be no room.
+// What the inner loop keeps stands in registers. Each loop has one caller, so that the compiler makes one function of them.
+//
+// At its end the whole state is made by closed forms: a stretch without an event is passed in one leap, by the law of the leap. The clock behind it, which may
+// bring a frame step, is worked as it stands. The dwell table is settled at the DMC's events and at a stretch's end, since its level stands in between; only
+// where a count might reach its limit the DMC is walked first (`walk`), for the clocks that no count stops.
 ghost use mathlib.Core.Path.{_≡_};
 ghost use mathlib.Core.Bool.{true};
 ghost use Prim.Native.Nat.{ℕ, _+_, _-_, _/_, _≤_, _<_};
@@ -180,7 +192,7 @@ fn stretch_on(
     }
 }
 
-// The clocks up to the next frame step, or but one of those left.
+// The clocks before the next frame step, or all that are left but the last, which `run_on` works by itself.
 fn next_stretch(
     s: State,
     memory: &[u8],
