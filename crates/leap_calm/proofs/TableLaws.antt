@@ -1,19 +1,28 @@
--- The table's entries are B: one computed test over the table, and one law. Assumes nothing.
+-- The tables' entries are A and B: one computed test over each table, and one law. Assumes nothing.
 use Prim.Native.Nat.{ℕ, _+_, _*_, _/_, _%_, _≤_}
-use mathlib.Core.Path.{_≡_, refl, sym, _∙_}
+use mathlib.Core.Path.{_≡_, refl, _∙_}
 use mathlib.Core.Bool.{Bool}
-use native.Mathlib.Nat.{add-zero}
 use native.Mathlib.Omega.{arith}
 use lib.Dec.{T, eqb, eqb→eq}
 use lib.ListN.{getD}
 use Rattle.arith.specs.Table.{every}
 use Rattle.arith.proofs.TableLaws.{at}
 use Rattle.chip_mixer.specs.Mixer.{squaresLevel}
-use Rattle.chip_mixer.specs.Parts.{triangleWeight, othersWeight, restBy, mixedBy}
-use Rattle.chip_mixer.proofs.LevelLaws.{mixed-most}
-use Rattle.chip_mixer.proofs.PartsLaws.{parts}
+use Rattle.chip_mixer.specs.Parts.{triangleWeight, othersWeight, restBy}
 use Rattle.chip_triangle.specs.Triangle.{triangleAt}
-use Rattle.leap_calm.specs.Table.{restTable}
+use Rattle.leap_calm.specs.Table.{squaresTable, restTable}
+
+-- an entry is A of its place
+abbrev right-sum : ℕ → ℕ → Bool
+right-sum s a = eqb a (squaresLevel s)
+
+test-sums : T (every right-sum 0 squaresTable)
+unfolding squaresLevel
+test-sums = tt
+
+-- EVERY ENTRY IS A
+pub squares-is : (s : ℕ) → getD squaresTable (s % 32) 0 ≡ squaresLevel (s % 32)
+squares-is s = eqb→eq (getD squaresTable (s % 32) 0) (squaresLevel (s % 32)) (at right-sum squaresTable test-sums (s % 32) (omega arith))
 
 -- B of an output of the noise and a position of the triangle
 abbrev share : ℕ → ℕ → ℕ
@@ -39,23 +48,9 @@ unfolding othersWeight
 same-noise n = omega arith
 
 -- EVERY ENTRY IS B
-share-is : (n p : ℕ) → getD restTable (n % 16 * 32 + p % 32) 0 ≡ share n p
+pub share-is : (n p : ℕ) → getD restTable (n % 16 * 32 + p % 32) 0 ≡ restBy (triangleWeight (triangleAt p) + othersWeight n 0 % 17179869184)
 share-is n p =
     let row : (n % 16 * 32 + p % 32) / 32 ≡ n % 16 = omega arith in
     let place : (n % 16 * 32 + p % 32) % 32 ≡ p % 32 = omega arith in
     entry-is (n % 16 * 32 + p % 32) (omega arith)
     ∙ rw (row, place, same-position p, same-noise n) refl
-
--- A is the level of the squares alone
-squares-alone : (a b : ℕ) → mixedBy a b 0 0 ≡ squaresLevel (a % 16 + b % 16)
-unfolding mixedBy restBy
-squares-alone a b = add-zero (squaresLevel (a % 16 + b % 16))
-
--- THE LEVEL BY THE TABLE
-pub calm-is : (a b p n : ℕ)
-    → mixedBy a b 0 0 + getD restTable (n % 16 * 32 + p % 32) 0 ≡ mixedBy a b (triangleWeight (triangleAt p)) (othersWeight n 0)
-unfolding mixedBy
-calm-is a b p n = rw (squares-alone a b, share-is n p) refl
-
-pub calm-most : (a b p n : ℕ) → mixedBy a b (triangleWeight (triangleAt p)) (othersWeight n 0) ≤ 32767
-calm-most a b p n = rw (sym (parts a b (triangleAt p) n 0)) (mixed-most a b (triangleAt p) n 0)

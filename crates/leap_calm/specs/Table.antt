@@ -1,6 +1,14 @@
--- Helper: the table that the code looks B up in while the DMC gives 0. That every entry is B is proved (proofs/TableLaws).
+-- Helper: the tables that the code looks A up in, and B while the DMC gives 0. That every entry is A or B is proved (proofs/TableLaws).
 use Prim.Native.Nat.{ℕ}
 use mathlib.Core.List.{List, [], _∷_}
+
+-- A for the sums 0 to 31
+abbrev pub squaresTable : List ℕ
+squaresTable =
+    0 ∷ 381 ∷ 754 ∷ 1118 ∷ 1473 ∷ 1820 ∷ 2159 ∷ 2491 ∷
+    2815 ∷ 3132 ∷ 3441 ∷ 3745 ∷ 4041 ∷ 4332 ∷ 4616 ∷ 4894 ∷
+    5167 ∷ 5434 ∷ 5696 ∷ 5952 ∷ 6204 ∷ 6450 ∷ 6692 ∷ 6929 ∷
+    7162 ∷ 7390 ∷ 7614 ∷ 7834 ∷ 8049 ∷ 8261 ∷ 8469 ∷ 8674 ∷ []
 
 -- B for each output of the noise, 0 to 15, with each position of the triangle, 0 to 31
 abbrev pub restTable : List ℕ

@@ -1,9 +1,60 @@
-// The level while the DMC gives 0: B out of a table, by what the noise gives and the triangle's position.
+// The level by the sum of what the squares give: A out of a table and, while the DMC gives 0, B too.
 ghost use mathlib.Core.Path.{_≡_};
 ghost use lib.ListN.{getD};
-ghost use Rattle.chip_mixer.specs.Parts.{triangleWeight, othersWeight, mixedBy};
+ghost use Prim.Native.Nat.{_%_};
+ghost use Rattle.chip_mixer.specs.Mixer.{squaresLevel};
+ghost use Rattle.chip_mixer.specs.Parts.{triangleWeight, othersWeight};
 ghost use Rattle.chip_triangle.specs.Triangle.{triangleAt};
-ghost use Rattle.leap_calm.specs.Table.{restTable};
+ghost use Rattle.leap_calm.specs.Level.{summedBy};
+ghost use Rattle.leap_calm.specs.Table.{squaresTable, restTable};
+
+// A for each sum of what the squares give, and for 31 too, so that a sum is looked up by five bits with no test. A match becomes one load.
+fn squares_entry(sum: u64) -> u16
+    ensures { λ r. ⌜ r ≡ getD squaresTable sum 0 ⌝ }
+{
+    match sum {
+        0 => 0,
+        1 => 381,
+        2 => 754,
+        3 => 1118,
+        4 => 1473,
+        5 => 1820,
+        6 => 2159,
+        7 => 2491,
+        8 => 2815,
+        9 => 3132,
+        10 => 3441,
+        11 => 3745,
+        12 => 4041,
+        13 => 4332,
+        14 => 4616,
+        15 => 4894,
+        16 => 5167,
+        17 => 5434,
+        18 => 5696,
+        19 => 5952,
+        20 => 6204,
+        21 => 6450,
+        22 => 6692,
+        23 => 6929,
+        24 => 7162,
+        25 => 7390,
+        26 => 7614,
+        27 => 7834,
+        28 => 8049,
+        29 => 8261,
+        30 => 8469,
+        31 => 8674,
+        _ => 0,
+    }
+}
+
+// A, by five bits of the sum.
+fn squares(sum: u64) -> u16
+    ensures { λ r. ⌜ r ≡ squaresLevel (sum % 32) ⌝ }
+{
+    squares_entry(sum % 32)
+}
 
 // B for each output of the noise with each position of the triangle. A match becomes one load.
 fn rest_entry(place: u32) -> u16
@@ -526,11 +577,29 @@ fn rest_entry(place: u32) -> u16
     }
 }
 
-// The level, from what the squares and the noise give and the triangle's position. A is the level of the squares alone.
-pub fn mix(a: u32, b: u32, position: u32, n: u32) -> u16
-    ensures { λ r. ⌜ r ≡ mixedBy a b (triangleWeight (triangleAt position)) (othersWeight n 0) ⌝ }
+// The level while the DMC gives 0, from the squares' sum, the triangle's position and what the noise gives.
+pub fn mix(sum: u64, position: u32, n: u32) -> u16
+    ensures { λ r. ⌜ r ≡ summedBy sum (triangleWeight (triangleAt position)) (othersWeight n 0) ⌝ }
 {
-    let squares = chip_mixer::mix_by(a, b, 0, 0);
-    let rest = rest_entry(n % 16 * 32 + position % 32);
-    squares + rest
+    let a = squares(sum);
+    let b = rest_entry(n % 16 * 32 + position % 32);
+    a + b
+}
+
+// The level, from the squares' sum and the parts of N. B is the level with no squares.
+pub fn mix_by(sum: u64, t: u32, others: u64) -> u16
+    ensures { λ r. ⌜ r ≡ summedBy sum t others ⌝ }
+{
+    let a = squares(sum);
+    let b = chip_mixer::mix_by(0, 0, t, others);
+    a + b
+}
+
+// The same from what triangle, noise and DMC give.
+pub fn mix_all(sum: u64, t: u32, n: u32, d: u32) -> u16
+    ensures { λ r. ⌜ r ≡ summedBy sum (triangleWeight t) (othersWeight n d) ⌝ }
+{
+    let a = squares(sum);
+    let b = chip_mixer::mix(0, 0, t, n, d);
+    a + b
 }

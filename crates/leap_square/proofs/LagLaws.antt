@@ -24,7 +24,7 @@ span-most : (row amount : ℕ) (b : Beat) → squareSpan row amount b ≤ 429496
 unfolding squareSpan
 span-most row amount b = omega arith
 
-turned-ranged : (row : ℕ) (b : Beat) → BeatRanged b → BeatRanged (beatTurned row b)
+pub turned-ranged : (row : ℕ) (b : Beat) → BeatRanged b → BeatRanged (beatTurned row b)
 unfolding beatTurned
 turned-ranged row b r =
     record { n-from = r .n-from; n-to = r .n-to; count-from = r .n-from; count-to = r .n-to; steps = omega arith }

@@ -6,7 +6,7 @@ ghost use lib.ListN.{getD};
 ghost use Rattle.arith.specs.Pick.{pick};
 ghost use Rattle.leap_still.specs.Forever.{forever};
 ghost use Rattle.leap_square.specs.Packed.{runsTable, runsAt};
-ghost use Rattle.leap_square.specs.Lag.{runWord, runThen, squareLag, squareLagOut, squareRenewed};
+ghost use Rattle.leap_square.specs.Lag.{runWord, runThen, squareLag, squareRenewed};
 use super::Beat;
 
 // A square in a stretch: `next` is the clock of its next possible change. `kept` is what it gives up to then, times 2^32, plus the clocks for which it
@@ -171,13 +171,6 @@ impl SquareLag {
             kept: kept,
             both: both,
         }
-    }
-
-    // What it gives up to its next change.
-    pub fn out(self) -> u32
-        ensures { λ r. ⌜ r ≡ squareLagOut self ⌝ }
-    {
-        (self.kept / 4294967296) as u32
     }
 
     // What takes the place of `kept` at a change.

@@ -1,5 +1,5 @@
 -- A stretch whose channels lag: what is kept is the machine. Assumes nothing.
-use Prim.Native.Nat.{ℕ, _-_, _≤_, _<_, min}
+use Prim.Native.Nat.{ℕ, _+_, _-_, _≤_, _<_, min}
 use mathlib.Core.Path.{_≡_, refl, sym, ap, _∙_}
 use mathlib.Core.Bool.{Bool, true, false}
 use mathlib.Core.List.{List}
@@ -9,6 +9,9 @@ use borrow.Author.Tests.{eqb-false}
 use Rattle.arith.specs.Iterate.{iterate}
 use Rattle.leap_still.specs.Forever.{forever}
 use Rattle.chip_mixer.specs.Mixer.{mixed}
+use Rattle.chip_mixer.specs.Parts.{triangleWeight, othersWeight}
+use Rattle.leap_calm.specs.Level.{summedBy}
+use Rattle.leap_calm.proofs.LevelLaws.{summed-is}
 use Rattle.chip_triangle.specs.Triangle.{triangleAt}
 use Rattle.leap_law.specs.Frame.{beforeStep}
 use Rattle.leap_law.proofs.FrameLaws.{before-step-most}
@@ -21,9 +24,10 @@ use Rattle.chip.proofs.RangeLaws.{StateRanged, noise-period-range, dmc-period-r
 use Rattle.leap_law.specs.Between.{stateWith}
 use Rattle.leap_law.proofs.BetweenLaws.{between}
 use Rattle.leap_square.specs.Lag.{squareLagOut}
-use Rattle.leap_stretch.specs.Lagged.{lagsAt, lagsOf, renewedWith, renewed, stretchState}
+use Rattle.leap_stretch.specs.Lagged.{sumOf, lagsAt, lagsOf, renewedWith, renewed, stretchState}
+use Rattle.leap_square.specs.declared.lag.SquareLag.{SquareLag}
 use Rattle.leap_stretch.specs.declared.Lags.{Lags}
-use Rattle.leap_stretch.proofs.SquareLaws.{SquareKept, square-start, square-kept, square-out, square-at}
+use Rattle.leap_stretch.proofs.SquareLaws.{SquareKept, Halves, square-start, square-halves, square-kept, square-out, square-at}
 use Rattle.leap_stretch.proofs.TriangleLaws.{TriangleKept, triangle-start, triangle-kept, triangle-out, triangle-at}
 use Rattle.leap_stretch.proofs.NoiseLaws.{NoiseKept, noise-start, noise-renewed, noise-out, noise-at}
 use Rattle.leap_stretch.proofs.DmcLaws.{DmcKept, dmc-start, dmc-renewed, dmc-out, dmc-at}
@@ -44,7 +48,19 @@ pub record Lagging (memory : List ℕ) (s : State) (l : Lags) : Type 0 where
   pub dmc : DmcKept memory (dmcPeriod (s .pal) (s .dmc .registers .index)) (s .dmc) (l .now) (l .dmc)
   pub soon : l .soon ≡ min (min (l .square1 .next) (l .square2 .next)) (l .triangle .next)
   pub next : l .next ≡ min (l .soon) (min (l .noise .next) (l .dmc .next))
-  pub level : l .level ≡ mixed (squareLagOut (l .square1)) (squareLagOut (l .square2)) (triangleAt (l .triangle .position)) (l .noise .out) (l .dmc .out)
+  pub level : l .level ≡ summedBy (sumOf (l .square1 .kept) (l .square2 .kept)) (triangleWeight (triangleAt (l .triangle .position))) (othersWeight (l .noise .out) (l .dmc .out))
+
+-- one shift of the sum gives the sum, since there is no carry
+sum-is : (a b : SquareLag) → Halves a → Halves b → sumOf (a .kept) (b .kept) ≡ squareLagOut a + squareLagOut b
+unfolding sumOf squareLagOut
+sum-is a b h q = omega (arith, h .out, h .span, q .out, q .span)
+
+-- the level by the sum is the level
+level-is : (a b : SquareLag) → Halves a → Halves b → (t n d : ℕ)
+    → mixed (squareLagOut a) (squareLagOut b) t n d ≡ summedBy (sumOf (a .kept) (b .kept)) (triangleWeight t) (othersWeight n d)
+level-is a b h q t n d =
+    summed-is (squareLagOut a) (squareLagOut b) t n d (h .out) (q .out)
+    ∙ ap (λ (s : ℕ). summedBy s (triangleWeight t) (othersWeight n d)) (sym (sum-is a b h q))
 
 -- the start of a stretch
 pub lagging-start : (memory : List ℕ) (s : State) → Lagging memory s (lagsOf s)
@@ -155,7 +171,11 @@ module _ (memory : List ℕ) (bytes : Bytes memory) (s : State) (r : StateRanged
         let t = triangle-out (s .triangle) (r .triangle) (l .now) (l .triangle) (g .triangle) k from (omega (arith, m .triangle)) in
         let n = noise-out noise-n (pn .0) (pn .1) (s .noise) (r .noise) (l .now) (l .noise) (g .noise) k from (omega (arith, m .noise)) in
         let d = dmc-out memory bytes dmc-n (pd .0) (pd .1) (s .dmc) (r .dmc) (l .now) (l .dmc) (g .dmc) k from (omega (arith, m .dmc)) in
-        ap stateLevel (between memory s (r .frame) k few) ∙ rw (a, b, t, n, d) (sym (g .level))
+        ap stateLevel (between memory s (r .frame) k few) ∙ rw (a, b, t, n, d)
+        (level-is (l .square1) (l .square2) (square-halves false (s .square1) (r .square1) (l .now) (l .square1) (g .square1))
+        (square-halves true (s .square2) (r .square2) (l .now) (l .square2) (g .square2))
+        (triangleAt (l .triangle .position)) (l .noise .out) (l .dmc .out)
+        ∙ sym (g .level))
 
     -- the state brought to clock k is the machine's
     pub lagging-state : stretchState s l k ≡ iterate (chipClock memory) k s

@@ -1,5 +1,5 @@
 -- A square as a stretch keeps it. Assumes nothing.
-use Prim.Native.Nat.{ℕ, _+_, _-_, _≤_, _<_}
+use Prim.Native.Nat.{ℕ, _+_, _-_, _%_, _≤_, _<_}
 use mathlib.Core.Path.{_≡_, refl, sym, ap, _∙_, subst}
 use mathlib.Core.Bool.{Bool, true, false}
 use native.Mathlib.Omega.{arith}
@@ -16,14 +16,14 @@ use Rattle.leap_stretch.proofs.LagLaws.{lag-start, lag-wait}
 use Rattle.chip_square.specs.Sequencer.{sequencerClock}
 use Rattle.chip_square.specs.Square.{withSequencer, squareAmount, squareOutput}
 use Rattle.leap_square.specs.Leap.{beatOf, withBeat, beatClock, dutyRow, beatGives, squareStill, beatAdvanced, beatTurned}
-use Rattle.leap_square.specs.Lag.{squareLag, squareLagOut, squareRenewed}
+use Rattle.leap_square.specs.Lag.{squareSpan, runWord, squareKept, squareLag, squareLagOut, squareRenewed}
 use Rattle.chip_square.specs.declared.Sequencer.{Sequencer}
 use Rattle.chip_square.specs.declared.Square.{Square}
 use Rattle.leap_square.specs.declared.Beat.{Beat}
 use Rattle.leap_square.specs.declared.lag.SquareLag.{SquareLag}
 use Rattle.chip_square.proofs.RangeLaws.{SquareRanged}
-use Rattle.leap_square.proofs.LeapLaws.{BeatRanged, beat-clocked, beat-ranged, beat-closed, sequencer-beats, square-still, square-turned, square-gives-at}
-use Rattle.leap_square.proofs.LagLaws.{kept-gives, turned-lag, renewed-due, renewed-waits}
+use Rattle.leap_square.proofs.LeapLaws.{BeatRanged, beat-clocked, beat-ranged, beat-closed, sequencer-beats, square-still, square-still-most, gives-most, square-turned, square-gives-at}
+use Rattle.leap_square.proofs.LagLaws.{turned-ranged, kept-gives, turned-lag, renewed-due, renewed-waits}
 use Rattle.leap_stretch.proofs.TurnLaws.{Leaps, held-fine, turned-follows, held-gives}
 
 -- what it gives while the duty bit is 1 is at most 15
@@ -35,6 +35,11 @@ amount-most second q r =
     (pick-both P (lowPeriod (q .sequencer .timer .period)) (omega arith)
     (pick-both P (highTarget second (q .sweep) (q .sequencer .timer .period)) (omega arith) (volume-most (q .envelope) (r .envelope))))
 
+-- the two halves of the number kept: what it gives, and so few clocks that those of two squares add to less than 2 ^ 32
+pub record Halves (l : SquareLag) : Type 0 where
+  pub out : squareLagOut l ≤ 15
+  pub span : l .kept % 4294967296 ≤ 2147483647
+
 -- kept at clock `now` of a stretch that began with the square q: there is a beat, reached at clock `at`, of which it is what is kept
 pub record SquareKept (second : Bool) (q : Square) (now : ℕ) (l : SquareLag) : Type 0 where
   pub beat : Beat
@@ -43,6 +48,13 @@ pub record SquareKept (second : Bool) (q : Square) (now : ℕ) (l : SquareLag) :
   pub follows :
       Follows beatClock (beatGives (dutyRow (q .duty)) (squareAmount second q)) (squareStill (dutyRow (q .duty)) (squareAmount second q))
       (beatOf (q .sequencer)) now beat at (l .next) (squareLagOut l)
+
+kept-halves : (row amount : ℕ) → amount ≤ 15 → (b : Beat) → BeatRanged b → (at : ℕ) → Halves (squareLag row amount b at)
+unfolding squareLag squareLagOut squareKept runWord squareSpan
+kept-halves row amount few b r at =
+    let g = gives-most row amount b in
+    let m : squareStill row amount (beatTurned row b) ≤ forever = square-still-most row amount (beatTurned row b) (turned-ranged row b r) in
+    record { out = omega (arith, g, m); span = omega (arith, g, m) }
 
 leaps : (row amount : ℕ) → Leaps beatClock (beatGives row amount) (squareStill row amount) (beatTurned row) BeatRanged
 leaps row amount =
@@ -74,6 +86,12 @@ module _ (second : Bool) (q : Square) (r : SquareRanged q) (now : ℕ) (l : Squa
 
   fine : BeatRanged (beatOf (q .sequencer))
   fine = beat-ranged (q .sequencer) (r .sequencer)
+
+  -- what is kept of it gives at most 15 and has few clocks
+  pub square-halves : Halves l
+  square-halves =
+      let few = amount-most second q r in
+      subst Halves (sym (g .kept)) (kept-halves row amount few (g .beat) (held-fine (leaps row amount) fine (g .follows)) (g .at))
 
   -- it waits up to its next change
   square-waits : (e : ℕ) → now ≤ e → e < l .next → SquareKept second q e l

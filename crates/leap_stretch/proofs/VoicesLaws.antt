@@ -10,11 +10,8 @@ use Rattle.arith.specs.Pick.{pick}
 use Rattle.arith.specs.Table.{every}
 use Rattle.arith.proofs.TableLaws.{at}
 use Rattle.chip_mixer.specs.Parts.{triangleWeight, othersWeight}
-use Rattle.chip_mixer.proofs.PartsLaws.{parts}
 use Rattle.chip_triangle.specs.Triangle.{triangleAt}
-use Rattle.leap_square.specs.Lag.{squareLagOut, squareRenewed}
 use Rattle.leap_square.proofs.LagLaws.{renewed-waits}
-use Rattle.leap_triangle.specs.Lag.{triangleRenewed}
 use Rattle.leap_stretch.proofs.LaggedLaws.{sooner-most}
 use Rattle.leap_stretch.specs.Lagged.{lagsAt, voicesRenewed}
 use Rattle.leap_stretch.specs.Voices.{weightTable, squaresAt, squaresTurned, squaresAfter, voicesOf, voicesTo, voicesAfter, voicesLevel, othersOf, levelBy, lagsWith}
@@ -115,12 +112,7 @@ module _ (v : Voices) (s : Sound v) (each : Bool) where
       (voicesLevel (voicesTo (squaresTurned (v .squares) (v .next)) v (v .next)) (othersWeight (l .noise .out) (l .dmc .out)))
       ≡ voicesRenewed (lagsWith l v level) (v .next)
   unfolding lagsWith voicesTo voicesLevel squaresTurned squaresAt voicesRenewed lagsAt
-  turned-event l level =
-      let e = v .next in
-      let p = parts (squareLagOut (squareRenewed (v .squares .first) e)) (squareLagOut (squareRenewed (v .squares .second) e))
-      (triangleAt (triangleRenewed (v .triangle) e .position)) (l .noise .out) (l .dmc .out)
-      in
-      rw p refl
+  turned-event l level = refl
 
   -- AN EVENT OF THEIRS
   pub event-of-voices : (l : Lags) (level : ℕ)

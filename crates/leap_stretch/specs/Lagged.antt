@@ -1,13 +1,13 @@
 -- Between crates: what is kept of a stretch; proved to be the chip at each clock (proofs/LaggedLaws).
 -- A stretch between two frame steps, each channel brought up only when what it gives may change. Clocks count from the stretch's start.
-use Prim.Native.Nat.{ℕ, min}
+use Prim.Native.Nat.{ℕ, _+_, _/_, _%_, min}
 use mathlib.Core.Bool.{true, false}
 use mathlib.Core.List.{List}
 use lib.Dec.{eqb}
 use Rattle.arith.specs.Pick.{pick}
 use Rattle.chip_square.specs.Square.{squareAmount}
 use Rattle.leap_square.specs.Leap.{beatOf, withBeat, dutyRow, beatAdvanced}
-use Rattle.leap_square.specs.Lag.{squareLag, squareLagOut, squareRenewed}
+use Rattle.leap_square.specs.Lag.{squareLag, squareRenewed}
 use Rattle.leap_triangle.specs.Leap.{triangleGate, triangleBeatOf, triangleWithBeat, triangleBeatAdvanced}
 use Rattle.leap_triangle.specs.Lag.{triangleLag, triangleRenewed}
 use Rattle.chip_triangle.specs.Triangle.{triangleAt}
@@ -15,7 +15,8 @@ use Rattle.chip_noise.specs.Noise.{noiseAmount}
 use Rattle.leap_noise.specs.Lag.{noiseLag, noiseRenewed, noiseShifterAt}
 use Rattle.leap_dmc.specs.Lag.{dmcLag, dmcRenewed, dmcAt}
 use Rattle.leap_law.specs.Frame.{passedFrame}
-use Rattle.chip_mixer.specs.Mixer.{mixed}
+use Rattle.chip_mixer.specs.Parts.{triangleWeight, othersWeight}
+use Rattle.leap_calm.specs.Level.{summedBy}
 use Rattle.chip_tables.specs.Table.{noisePeriod, dmcPeriod}
 use Rattle.leap_law.specs.Between.{stateWith}
 use Rattle.leap_square.specs.declared.lag.SquareLag.{SquareLag}
@@ -24,6 +25,10 @@ use Rattle.leap_noise.specs.declared.lag.NoiseLag.{NoiseLag}
 use Rattle.leap_dmc.specs.declared.lag.DmcLag.{DmcLag}
 use Rattle.chip.specs.declared.State.{State}
 use Rattle.leap_stretch.specs.declared.Lags.{Lags}
+
+-- the sum of what two squares give, from the numbers kept of them: their sum in 64 bits, less its lower half
+unfoldable pub sumOf : ℕ → ℕ → ℕ
+sumOf a b = (a + b) % 18446744073709551616 / 4294967296
 
 -- the five channels as they are kept at clock `now`: the next event is the soonest change, `soon` that of squares and triangle alone; the level is
 -- made from what they give
@@ -38,7 +43,7 @@ lagsAt a b t n d now =
       now = now;
       soon = min (min (a .next) (b .next)) (t .next);
       next = min (min (min (a .next) (b .next)) (t .next)) (min (n .next) (d .next));
-      level = mixed (squareLagOut a) (squareLagOut b) (triangleAt (t .position)) (n .out) (d .out);
+      level = summedBy (sumOf (a .kept) (b .kept)) (triangleWeight (triangleAt (t .position))) (othersWeight (n .out) (d .out));
     }
 
 -- at the start of a stretch

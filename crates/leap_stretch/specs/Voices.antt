@@ -4,10 +4,12 @@ use mathlib.Core.List.{List, [], _∷_}
 use mathlib.Core.Bool.{Bool}
 use lib.Dec.{eqb}
 use Rattle.arith.specs.Pick.{pick, either}
-use Rattle.leap_square.specs.Lag.{squareLagOut, squareRenewed}
+use Rattle.leap_square.specs.Lag.{squareRenewed}
 use Rattle.leap_triangle.specs.Lag.{triangleRenewed}
 use Rattle.chip_triangle.specs.Triangle.{triangleAt}
-use Rattle.chip_mixer.specs.Parts.{triangleWeight, othersWeight, mixedBy}
+use Rattle.chip_mixer.specs.Parts.{triangleWeight, othersWeight}
+use Rattle.leap_calm.specs.Level.{summedBy}
+use Rattle.leap_stretch.specs.Lagged.{sumOf}
 use Rattle.leap_square.specs.declared.lag.SquareLag.{SquareLag}
 use Rattle.leap_stretch.specs.declared.Squares.{Squares}
 use Rattle.leap_stretch.specs.declared.Voices.{Voices}
@@ -46,7 +48,7 @@ voicesAfter v each e = voicesTo (squaresAfter (v .squares) each e) v e
 -- the level, with the part of noise and DMC
 unfoldable pub voicesLevel : Voices → ℕ → ℕ
 voicesLevel v others =
-    mixedBy (squareLagOut (v .squares .first)) (squareLagOut (v .squares .second)) (triangleWeight (triangleAt (v .triangle .position))) others
+    summedBy (sumOf (v .squares .first .kept) (v .squares .second .kept)) (triangleWeight (triangleAt (v .triangle .position))) others
 
 -- noise and DMC in the level: their part in N, what the noise gives, and whether the DMC gives 0
 unfoldable pub othersOf : Lags → Others

@@ -14,9 +14,10 @@ ghost use mathlib.Core.Path.{_≡_};
 ghost use lib.ListN.{getD};
 ghost use Rattle.leap_law.specs.Between.{stateWith};
 ghost use Rattle.arith.specs.Pick.{pick};
-ghost use Rattle.chip_mixer.specs.Parts.{triangleWeight, othersWeight, mixedBy};
+ghost use Rattle.chip_mixer.specs.Parts.{triangleWeight, othersWeight};
 ghost use Rattle.chip_triangle.specs.Triangle.{triangleAt};
-ghost use Rattle.leap_stretch.specs.Lagged.{lagsAt, lagsOf, renewed, soundsRenewed, stretchState};
+ghost use Rattle.leap_calm.specs.Level.{summedBy};
+ghost use Rattle.leap_stretch.specs.Lagged.{sumOf, lagsAt, lagsOf, renewed, soundsRenewed, stretchState};
 ghost use Rattle.leap_stretch.specs.Voices.{weightTable, squaresAt, squaresTurned, squaresAfter, voicesOf, voicesAfter, othersOf, levelBy, lagsWith};
 use chip::State;
 use leap_dmc::lag::DmcLag;
@@ -38,6 +39,13 @@ pub struct Lags {
     pub level: u16,
 }
 
+// The sum of what the squares give, from the numbers kept of them: one shift, since the clocks in them are too few for a carry.
+fn sum_of(a: u64, b: u64) -> u64
+    ensures { λ r. ⌜ r ≡ sumOf a b ⌝ }
+{
+    std::num::wrapping_add_u64(a, b) / 4294967296
+}
+
 fn lags_at(a: SquareLag, b: SquareLag, t: TriangleLag, n: NoiseLag, d: DmcLag, at: u32) -> Lags
     ensures { λ r. ⌜ r ≡ lagsAt a b t n d at ⌝ }
 {
@@ -45,10 +53,9 @@ fn lags_at(a: SquareLag, b: SquareLag, t: TriangleLag, n: NoiseLag, d: DmcLag, a
     let soon = arith::least_u64(ab, t.next);
     let nd = arith::least_u64(n.next, d.next);
     let next = arith::least_u64(soon, nd);
+    let sum = sum_of(a.kept, b.kept);
     let value = t.gives();
-    let out1 = a.out();
-    let out2 = b.out();
-    let level = chip_mixer::mix(out1, out2, value, n.out as u32, d.out as u32);
+    let level = leap_calm::mix_all(sum, value, n.out as u32, d.out as u32);
     Lags {
         square1: a,
         square2: b,
@@ -223,14 +230,14 @@ fn weight_at(position: u32) -> u32
 }
 
 // The level, by the table where the DMC gives 0.
-fn level_of(a: u32, b: u32, position: u32, others: Others) -> u16
-    ensures { λ r. ⌜ r ≡ mixedBy a b (triangleWeight (triangleAt position)) (pick (others .calm) (othersWeight (others .noise) 0) (others .weight)) ⌝ }
+fn level_of(sum: u64, position: u32, others: Others) -> u16
+    ensures { λ r. ⌜ r ≡ summedBy sum (triangleWeight (triangleAt position)) (pick (others .calm) (othersWeight (others .noise) 0) (others .weight)) ⌝ }
 {
     if others.calm {
-        return leap_calm::mix(a, b, position, others.noise);
+        return leap_calm::mix(sum, position, others.noise);
     }
     let t = weight_at(position);
-    chip_mixer::mix_by(a, b, t, others.weight)
+    leap_calm::mix_by(sum, t, others.weight)
 }
 
 impl Squares {
@@ -274,9 +281,8 @@ impl Voices {
     pub fn level(self, others: Others) -> u16
         ensures { λ r. ⌜ r ≡ levelBy self others ⌝ }
     {
-        let a = self.squares.first.out();
-        let b = self.squares.second.out();
-        level_of(a, b, self.triangle.position, others)
+        let sum = sum_of(self.squares.first.kept, self.squares.second.kept);
+        level_of(sum, self.triangle.position, others)
     }
 }
 
