@@ -9,15 +9,17 @@
 // What the inner loop keeps stands in registers. Each loop has one caller, so that the compiler makes one function of them.
 //
 // At its end the whole state is made by closed forms: a stretch without an event is passed in one leap, by the law of the leap. The clock behind it, which may
-// bring a frame step, is worked as it stands. The dwell table is settled at the DMC's events and at a stretch's end, since its level stands in between; only
-// where a count might reach its limit the DMC is walked first (`walk`), for the clocks that no count stops.
+// bring a frame step, is worked as it stands; its record is written where the next stretch begins, which finds that level anyway. The dwell table is settled at
+// the DMC's events and at a stretch's end, since its level stands in between. Only where a count might reach its limit the DMC is walked first (`walk`), for the
+// clocks that no count stops.
 ghost use mathlib.Core.Path.{_≡_};
-ghost use mathlib.Core.Bool.{true};
+ghost use mathlib.Core.Bool.{true, false, not};
 ghost use Prim.Native.Nat.{ℕ, _+_, _-_, _/_, _≤_, _<_};
-ghost use lib.Dec.{eqb};
+ghost use lib.Dec.{eqb, ltb};
 ghost use lib.ListN.{length, getD};
 ghost use Rattle.arith.specs.Pick.{pick};
 ghost use Rattle.leap_law.specs.Frame.{beforeStep};
+ghost use Rattle.chip.specs.Level.{stateLevel};
 ghost use Rattle.chip.specs.Range.{inRange};
 ghost use Rattle.arith.specs.Over.{over};
 ghost use Rattle.reading.specs.Counting.{raise};
@@ -27,7 +29,7 @@ ghost use Rattle.run_dwell.specs.Dwell.{dwellLimit, countsWithin, dwellBy, runA
 ghost use Rattle.run_dwell.specs.Kept.{dwellPlaces};
 ghost use Rattle.run_walk.specs.Walk.{Open};
 ghost use Rattle.run_walk.specs.Settle.{Roomy};
-ghost use Rattle.run_loops.specs.Leap.{stretchEnd};
+ghost use Rattle.run_loops.specs.Leap.{stretchEnd, markedRecords, markedWords};
 ghost use Rattle.run_loops.specs.Stretch.{Standing, Worked, Stretched};
 use chip::State;
 use leap_stretch::Lags;
@@ -149,10 +151,11 @@ fn settle(table: &mut [u32; 128], level: u8, clocks: u32)
 }
 
 // The clocks up to `end`, none of which brings a frame step, event by event. The DMC's level stands from event to event of its own, so the table is
-// settled there: `settled` clocks are counted.
+// settled there: `settled` clocks are counted. Before the stretch the level was `was`; where it begins with another, that clock's record comes first.
 fn stretch_on(
     s: State,
     memory: &[u8],
+    was: u16,
     end: u32,
     base: u32,
     words: &mut [u32],
@@ -162,14 +165,14 @@ fn stretch_on(
     requires { ⌜ inRange s ≡ true ⌝ }
     requires { ⌜ end ≤ beforeStep s ⌝ }
     requires { ⌜ base + end ≤ 1000000 ⌝ }
-    requires { ⌜ (records ≤ base) × (records ≤ length (now words) / 2) ⌝ }
+    requires { ⌜ (markedRecords records (stateLevel s) was ≤ base) × (markedRecords records (stateLevel s) was ≤ length (now words) / 2) ⌝ }
     requires { ⌜ Roomy (now memory) s (now table) end ⌝ }
-    ensures { λ r. ⌜ Stretched (now (memory .entry)) s end base records (now (words .entry)) (now (words .exit)) r ⌝ }
+    ensures { λ r. ⌜ Stretched (now (memory .entry)) s end base (markedRecords records (stateLevel s) was) (markedWords (now (words .entry)) records base (stateLevel s) was) (now (words .exit)) r ⌝ }
     ensures { λ r. ⌜ now (table .exit) ≡ tallied (dwellPlaces (now (memory .entry)) s) (r .clocks) (now (table .entry)) ⌝ }
 {
-    let room = words.len() / 2;
     let mut l = leap_stretch::lags_of(s);
-    let mut n = records;
+    let mut n = mark(words, records, base, l.level, was);
+    let room = words.len() / 2;
     let mut settled: u32 = 0;
     while run_loops::goes(l.next, end as u64 + 1, n, room) {
         let e = l.next as u32;
@@ -192,10 +195,12 @@ fn stretch_on(
     }
 }
 
-// The clocks before the next frame step, or all that are left but the last, which `run_on` works by itself.
+// The record of the clock before, where it is owed, and the clocks before the next frame step, or all that are left but the last, which `run_on` works by
+// itself.
 fn next_stretch(
     s: State,
     memory: &[u8],
+    was: u16,
     left: u32,
     base: u32,
     words: &mut [u32],
@@ -204,16 +209,28 @@ fn next_stretch(
 ) -> Stretch
     requires { ⌜ inRange s ≡ true ⌝ }
     requires { ⌜ (1 ≤ left) × (base + left ≤ 1000000) ⌝ }
-    requires { ⌜ (records ≤ base) × (records ≤ length (now words) / 2) ⌝ }
+    requires { ⌜ (markedRecords records (stateLevel s) was ≤ base) × (markedRecords records (stateLevel s) was ≤ length (now words) / 2) ⌝ }
     requires { ⌜ Roomy (now memory) s (now table) left ⌝ }
-    ensures { λ r. ⌜ Stretched (now (memory .entry)) s (stretchEnd left s) base records (now (words .entry)) (now (words .exit)) r ⌝ }
+    ensures { λ r. ⌜ Stretched (now (memory .entry)) s (stretchEnd left s) base (markedRecords records (stateLevel s) was) (markedWords (now (words .entry)) records base (stateLevel s) was) (now (words .exit)) r ⌝ }
     ensures { λ r. ⌜ now (table .exit) ≡ tallied (dwellPlaces (now (memory .entry)) s) (r .clocks) (now (table .entry)) ⌝ }
 {
     let end = arith::least_u32(left - 1, leap_law::before_step(s));
-    stretch_on(s, memory, end, base, words, records, table)
+    stretch_on(s, memory, was, end, base, words, records, table)
 }
 
-// A run that nothing refuses, with its counts: stretch by stretch, and the clock behind each, which may bring a frame step, by itself.
+// Whether a clock after which the state is `next` brings another level and there is no room for its record.
+fn stuck(next: State, level: u16, n: u32, room: usize) -> bool
+    ensures { λ r. ⌜ r ≡ pick (ltb n room) false (not (eqb (stateLevel next) level)) ⌝ }
+{
+    if (n as usize) < room {
+        return false;
+    }
+    let after = next.level();
+    after != level
+}
+
+// A run that nothing refuses, with its counts: stretch by stretch, and the clock behind each, which may bring a frame step, by itself. Its record is
+// written where the next stretch begins, whose channels give its level: `level` is that before it.
 fn run_on(s: State, memory: &[u8], count: u32, words: &mut [u32], table: &mut [u32; 128]) -> Ran
     requires { ⌜ inRange s ≡ true ⌝ }
     requires { ⌜ count ≤ 1000000 ⌝ }
@@ -224,43 +241,37 @@ fn run_on(s: State, memory: &[u8], count: u32, words: &mut [u32], table: &mut [u
 {
     let room = words.len() / 2;
     let mut state = s;
+    let mut level = s.level();
     let mut done: u32 = 0;
     let mut n: u32 = 0;
     while done < count {
-        let g = next_stretch(state, memory, count - done, done, words, n, table);
+        let g = next_stretch(state, memory, level, count - done, done, words, n, table);
         let from = g.state;
         let at = done + g.clocks;
         let m = g.records;
         let next = from.clocked(memory);
-        let after = next.level();
-        let dmc = next.dmc.output.level;
-        if after == g.level {
-            settle(table, dmc, 1);
-            state = next;
-            done = at + 1;
-            n = m;
-        } else {
-            let place = m as usize;
-            if room <= place {
-                return Ran {
-                    number: 0,
-                    state: from,
-                    done: at,
-                    records: m,
-                };
-            }
-            run_answer::put(words, place, at + 1, after as u32);
-            settle(table, dmc, 1);
-            state = next;
-            done = at + 1;
-            n = m + 1;
+        let full = stuck(next, g.level, m, room);
+        if full {
+            return Ran {
+                number: 0,
+                state: from,
+                done: at,
+                records: m,
+            };
         }
+        settle(table, next.dmc.output.level, 1);
+        state = next;
+        level = g.level;
+        done = at + 1;
+        n = m;
     }
+    let after = state.level();
+    let written = mark(words, n, done, after, level);
     Ran {
         number: 0,
         state: state,
         done: done,
-        records: n,
+        records: written,
     }
 }
 

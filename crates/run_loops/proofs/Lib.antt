@@ -1,1 +1,2 @@
+pub mod OwingLaws
 pub mod StretchLaws

@@ -1,2 +1,3 @@
 pub mod Leap
+pub mod Owing
 pub mod Stretch
