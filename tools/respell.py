@@ -15,7 +15,7 @@ import re
 import sys
 
 WORDS = {"abbrev", "unfoldable", "opaque", "private", "pub", "field"}
-NAMED = re.compile(r"^( *)((?:(?:abbrev|unfoldable|opaque|private|pub|field) )*)((?:[^\s:(){}|.,;=λ→≡\"]+ )+): ")
+NAMED = re.compile(r"^( *)((?:(?:abbrev|unfoldable|opaque|private|pub|field) )*)((?:[^\s:(){}|.,;=λ→≡\"]+ )+):(?: |$)")
 TYPE = re.compile(r"^( *)(?:(?:abbrev|unfoldable|opaque|private|pub) )*(data|record|ruleset|module) ")
 TOKEN = re.compile(r"[A-Za-z_μ+][\w'′μ+-]*")
 # Lemmas that would fall together with a definition, or with another lemma.
@@ -83,6 +83,11 @@ def generated(name):
     return name[0] in "μ+" or "μ" in name or "-Inv-" in name or name.endswith("-spec") or name[0].isupper()
 
 
+def aliases(text, crates):
+    """The names that a file gives to modules of the repository."""
+    return {new for path, new in re.findall(r"\buse ([\w.·+'-]+) as ([\w'-]+)", text) if path.startswith("Rattle.") and path.split(".")[1] in crates}
+
+
 def foreign(text, crates):
     """The names that a file takes from a library."""
     out = set()
@@ -94,7 +99,7 @@ def foreign(text, crates):
     return out
 
 
-def turned(text, names, fields, kept, kind, said):
+def turned(text, names, fields, kept, modules, kind, said):
     """The text with each name respelled: kind is rt, antt or edit."""
     skip = r"\"(?:[^\"\\\n]|\\.)*\"" if kind == "rt" else r"\"[^\"\n]*\""
     comment = r"//[^\n]*" if kind == "rt" else r"--[^\n]*"
@@ -104,14 +109,17 @@ def turned(text, names, fields, kept, kind, said):
     def one(name, before, inside):
         if name in kept or name not in names or not old(name) or generated(name):
             return name
-        if before == "." and name not in fields:
+        if before == "." and name not in fields and not (module in modules or module[:1].isupper()):
+            return name
+        if kind != "antt" and re.fullmatch("[a-z0-9_]+", name):
+            # A function of src/ that a lemma is named as.
             return name
         if inside and "-" in name and not inside == "`":
             return name
         return new_name(name)
 
     out = []
-    last = ""
+    last = module = ""
     for it in parts.finditer(text):
         word = it.group()
         if word.startswith('"'):
@@ -124,6 +132,7 @@ def turned(text, names, fields, kept, kind, said):
                 ticks[k] = TOKEN.sub(lambda m: one(m.group(), piece[m.start() - 1] if m.start() else "", inside), piece)
             out.append("".join(ticks))
         elif TOKEN.fullmatch(word):
+            module = out[-2] if last == "." and len(out) > 1 else ""
             new = one(word, last[-1:], "")
             if new != word:
                 said.add((word, new))
@@ -165,7 +174,7 @@ def main():
                 at = os.path.join(os.path.dirname(os.path.dirname(path)), file.strip())
                 kept |= foreign(read(at), crates) if os.path.exists(at) else set()
         said = set()
-        new = turned(text, own, fields, kept, kind, said)
+        new = turned(text, own, fields, kept, aliases(text, crates), kind, said)
         for a, b in sorted(said):
             if re.search(r"(?<![\w'.-])" + re.escape(b) + r"(?![\w'-])", text):
                 print("look:", path, a, "->", b)

@@ -1,4 +1,6 @@
 // Total leaves on numbers and flags: each has an answer for every value of its types.
+#![tactic(auto)]
+
 ghost use Rattle.std.specs.Prelude.{◌≡◌, ◌-◌, ◌/◌, ◌^◌, ◌≤◌, min};
 ghost use Rattle.arith.specs.Pick.{pick, both, either};
 ghost use Rattle.arith.specs.Bit.{bit_set};

@@ -1,4 +1,6 @@
 // The chip's clock by itself, for the benchmark: many clocks, with no level and no range test.
+#![tactic(auto)]
+
 ghost use Rattle.std.specs.Prelude.{◌≡◌};
 ghost use Rattle.arith.specs.Iterate.{iterate};
 ghost use Rattle.chip.specs.Clock.{chip_clock};

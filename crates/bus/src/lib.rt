@@ -1,9 +1,11 @@
 // What a log holds and the chip takes: the sound registers, and an access to one.
+#![tactic(auto)]
+
 ghost use Rattle.std.specs.Prelude.{◌≡◌};
 ghost use Rattle.bus.specs.Register.{is_register};
 
 // An access on the bus: a register written with a value, or a read of the status at $4015.
-#[derive(Drop)]
+#[derive(Clone, Copy)]
 pub enum Access {
     Write(u16, u8),
     Read,

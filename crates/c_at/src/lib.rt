@@ -1,5 +1,7 @@
 // The state at a clock of a log, as bytes lent in place (crate `c_state`). The answer is one number: its number, its place
 // and its value.
+#![tactic(auto)]
+
 ghost use Rattle.std.specs.Prelude.{◌≡◌, ◌≤◌};
 ghost use Rattle.c_log.specs.Logs.{log_packed};
 ghost use Rattle.c_at.specs.Packed.{at_answer, at_packed, at_bytes};

@@ -45,7 +45,8 @@ wides_read n (x ∷ xs) b h =
     ap (λ (i : ℕ). wides_of (wide_bytes n x ++ behind) i n (length xs)) place
     ∙ wides_past (wide_bytes n x) behind n 0 n (length xs) (wide_size n x)
     ∙ wides_read n xs b (λ i. h (suc i)) in
-    rw (append_assoc (wide_bytes n x) (wides_bytes n xs) b, wide_read n x behind (h 0), rest)
+    let here : wides_of (wide_bytes n x ++ behind) 0 n (suc (length xs)) ≡ x ∷ xs = rw (wide_read n x behind (h 0), rest) in
+    ap (λ (l : List ℕ). wides_of l 0 n (suc (length xs))) (append_assoc (wide_bytes n x) (wides_bytes n xs) b) ∙ here
 
 -- n bytes each, the last
 pub wides_last : (n m : ℕ) (xs : List ℕ) → length xs ≡ m → ((i : ℕ) → get_or xs i 0 < 256 ^ n) → wides_of (wides_bytes n xs) 0 n m ≡ xs

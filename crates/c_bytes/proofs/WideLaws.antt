@@ -42,14 +42,14 @@ unfolding wide_bytes
 wide_done b at i n x h = let none : n - i ≡ 0 = omega arith in rw none
 
 -- a number stored, and those behind it
-pub wides-step :
+pub wides_step :
     (n : ℕ) (b after xs : List ℕ) (place next k : ℕ)
     → k < length xs
     → next ≡ place + n
     → after ≡ sets b place (wide_bytes n (get_or xs k 0))
     → sets after next (wides_bytes n (drop (k + 1) xs)) ≡ sets b place (wides_bytes n (drop k xs))
 unfolding wides_bytes
-wides-step n b after xs place next k h p e =
+wides_step n b after xs place next k h p e =
     rw (add-one, drop-cons xs k 0 h, p, e)
     (ap (λ (i : ℕ). sets (sets b place (wide_bytes n (get_or xs k 0))) (place + i) (wides_bytes n (drop (suc k) xs))) (sym (wide_size n (get_or xs k 0)))
     ∙ sets_append (wide_bytes n (get_or xs k 0)) (wides_bytes n (drop (suc k) xs)) b place)

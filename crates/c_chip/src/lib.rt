@@ -1,5 +1,7 @@
 // The chip's operations on a state that is bytes lent in place (crate `c_state`). An answer is one 64-bit number: its number, and above
 // its low byte its value, or an access's values. Bytes that are no state in range are refused, and stay.
+#![tactic(auto)]
+
 ghost use Rattle.std.specs.Prelude.{◌≡◌, eqb};
 ghost use Rattle.arith.specs.Pick.{pick};
 ghost use Rattle.c_state.specs.Bytes.{state_in};

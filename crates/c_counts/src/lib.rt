@@ -1,4 +1,6 @@
 // The dwell table at the boundary: 128 lent words.
+#![tactic(auto)]
+
 ghost use Rattle.std.specs.Prelude.{◌≡◌};
 ghost use Rattle.c_counts.specs.Counts.{table_of, counts_after};
 

@@ -69,8 +69,8 @@ module _ {S A : Type 0} (step : S → Turn S A) where
   unfolding next_in ended_by
   first_in_lem m zero h q (goes j e g p) = absurd (omega arith)
   first_in_lem m zero h q (gives j e g p) = absurd (omega arith)
-  first_in_lem m (suc f) h q (goes j e g p) =
-      let r = first_in_lem m f (omega arith) (omega arith) g in
+  first_in_lem {s = s} {a = a} {l = l} {k = j} m (suc f) h q (goes {k = k'} _ e g p) =
+      let r = first_in_lem {s = (step s).state} m f (omega arith) (omega arith) g in
       record { said = rw e r.said; left = rw e r.left }
   first_in_lem m (suc f) h q (gives j e g p) = record { said = rw e; left = rw e (within step m (omega arith) g) }
 
@@ -84,8 +84,8 @@ module _ {S A : Type 0} (step : S → Turn S A) where
   last_in_lem stays m zero h q (ends j e p) = absurd (omega arith)
   last_in_lem stays m zero h q (goes j e g p) = absurd (omega arith)
   last_in_lem stays {s = s} m (suc f) h q (ends j e p) = record { said = rw e; left = rw (e, stays s e) (ends m e (omega arith)) }
-  last_in_lem stays m (suc f) h q (goes j e g p) =
-      let r = last_in_lem stays m f (omega arith) (omega arith) g in
+  last_in_lem stays {s = s} {k = j} m (suc f) h q (goes {k = k'} _ e g p) =
+      let r = last_in_lem stays {s = (step s).state} m f (omega arith) (omega arith) g in
       record { said = rw e r.said; left = rw e r.left }
 
 -- what is told of a step

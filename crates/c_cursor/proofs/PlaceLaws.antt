@@ -18,13 +18,13 @@ cursor_size_lem c s l =
     simp length-append
     (omega (arith, wide_size 8 c.at, wide_size 8 c.depth, wides_size 8 c.starts, wides_size 1 c.left))
 
-pub put-loops :
+pub put_loops :
     (starts left old b₁ b₂ : List ℕ)
     → length starts ≡ 8
     → b₁ ≡ sets old 16 (wides_bytes 8 starts)
     → b₂ ≡ sets b₁ 80 (wides_bytes 1 left)
     → b₂ ≡ sets old 16 (wides_bytes 8 starts ++ wides_bytes 1 left)
-put-loops starts left old b₁ b₂ l e₁ e₂ = put_next (wides_bytes 8 starts) (wides_bytes 1 left) old b₁ b₂ 16 80 (omega (arith, wides_size 8 starts)) e₁ e₂
+put_loops starts left old b₁ b₂ l e₁ e₂ = put_next (wides_bytes 8 starts) (wides_bytes 1 left) old b₁ b₂ 16 80 (omega (arith, wides_size 8 starts)) e₁ e₂
 
 pub put_cursor :
     (c : Cursor) (old b₁ b₂ b₃ : List ℕ)

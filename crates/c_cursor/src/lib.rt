@@ -1,4 +1,6 @@
 // A cursor over a log as 88 bytes, for callers in other languages: its fields in their order, low byte first. Any 88 bytes are a cursor.
+#![tactic(auto)]
+
 ghost use Rattle.std.specs.Prelude.{◌≡◌};
 ghost use Rattle.arith.specs.Pick.{pick};
 ghost use Rattle.log_cursor.specs.Stepping.{is_refused};

@@ -1,4 +1,6 @@
 // A log folded, the answer in one 64-bit number.
+#![tactic(auto)]
+
 ghost use Rattle.std.specs.Prelude.{◌≡◌, ◌/◌, ◌%◌, ◌^◌, take};
 ghost use Rattle.log_fold.specs.Answer.{fold_lent};
 ghost use Rattle.log_fold_rules.specs.Promise.{Folds};

@@ -1,4 +1,6 @@
 // The import of a VGM stream, its answer in one 64-bit number.
+#![tactic(auto)]
+
 ghost use Rattle.std.specs.Prelude.{◌≡◌, false, ◌/◌, ◌%◌, ◌^◌, ◌≤◌, ◌<◌, eqb, length, take};
 ghost use Rattle.vgm_measure.specs.Import.{buffer_of};
 ghost use Rattle.vgm_import.specs.Stamps.{Stands};

@@ -1,4 +1,6 @@
 // When the interrupt line is asserted next, on a state that is bytes: the answer in one number.
+#![tactic(auto)]
+
 ghost use Rattle.std.specs.Prelude.{◌≡◌};
 ghost use Rattle.run_interrupt.specs.Next.{next_interrupt};
 ghost use Rattle.c_state.specs.Bytes.{state_in};

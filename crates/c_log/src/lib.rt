@@ -1,4 +1,6 @@
 // What is asked of a log, each answer in one 64-bit number: whether it passes, its items, and the bodies of its loops.
+#![tactic(auto)]
+
 ghost use Rattle.std.specs.Prelude.{◌≡◌, ◌^◌, ◌%◌, ◌≤◌, ◌<◌};
 ghost use Rattle.log_rules.specs.Tree.{act_clocks};
 ghost use Rattle.log_body.specs.Bodies.{body_check_of};

@@ -1,4 +1,6 @@
 // The meter for C and Rust, each answer one 64-bit number: number + 2^8 x case + 2^16 x lowest + 2^32 x highest.
+#![tactic(auto)]
+
 ghost use Rattle.std.specs.Prelude.{◌≡◌};
 ghost use Rattle.chip_mixer.specs.Fraction.{fraction_of};
 ghost use Rattle.meter.specs.Measure.{measure_of};

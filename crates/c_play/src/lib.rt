@@ -1,5 +1,7 @@
 // The player in pieces, a player being bytes lent in place (crate `c_player`), which the caller keeps between two pieces. Bytes
 // that are no player's are refused, and stay.
+#![tactic(auto)]
+
 ghost use Rattle.std.specs.Prelude.{◌≡◌, ◌≤◌, eqb};
 ghost use Rattle.arith.specs.Pick.{pick};
 ghost use Rattle.text_print.specs.Printed.{printed};

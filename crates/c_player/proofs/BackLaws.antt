@@ -16,10 +16,10 @@ use Rattle.text.proofs.KeyLaws.{exactly_is}
 use Rattle.c_bytes.specs.Fields.{byte_of}
 use Rattle.c_state.specs.Bytes.{is_state}
 use Rattle.c_state.proofs.BackLaws.{alike}
-use Rattle.c_state.proofs.CodeLaws.{exactly_same, read_written as state-written}
+use Rattle.c_state.proofs.CodeLaws.{exactly_same, read_written as state_written}
 use Rattle.c_recording.specs.Cursors.{cursor_size}
 use Rattle.c_bytes.proofs.NumberLaws.{cut, wide_most, wide_kept}
-use Rattle.c_recording.proofs.CodeLaws.{read_fits as cursor-fits, read_written as cursor-written}
+use Rattle.c_recording.proofs.CodeLaws.{read_fits as cursor-fits, read_written as cursor_written}
 use Rattle.c_player.specs.Player.{cursor_place, player_size, cursor_part, state_part, player_bytes, player_at, is_player, PlayerFits}
 use Rattle.c_player.proofs.CodeLaws.{read_told}
 
@@ -49,9 +49,9 @@ module _ (b : List ℕ) (bytes : (i : ℕ) → byte_of b i ≤ 255) where
   unfolding player_bytes player_at
   told_written e =
       let size : length b ≡ player_size = eqb-true (length b) player_size (both_left (eqb (length b) player_size) (is_state (state_part b)) e) in
-      let state = state-written (state_part b) (both_right (eqb (length b) player_size) (is_state (state_part b)) e) in
+      let state = state_written (state_part b) (both_right (eqb (length b) player_size) (is_state (state_part b)) e) in
       let long : length (cursor_part b) ≡ cursor_size = length-take-le cursor_size (drop cursor_place b) (simp length-drop (omega arith)) in
-      let cursor = cursor-written (cursor_part b) (taken cursor_size (drop cursor_place b) (dropped cursor_place)) long in
+      let cursor = cursor_written (cursor_part b) (taken cursor_size (drop cursor_place b) (dropped cursor_place)) long in
       rw (
         wide_kept b bytes 0 1 (omega arith),
         wide_kept b bytes 1 4 (omega arith),

@@ -39,27 +39,27 @@ put_part b part at n h l =
     (sym (sets-eq part b at (omega arith) ∙ ap (λ (k : ℕ). take at b ++ part ++ drop (at + k) b) l))
 
 -- a cursor written to its part, which keeps its length
-pub cursor-written :
+pub cursor_written :
     (c : Cursor) (b part : List ℕ)
     → length b ≡ player_size
     → length part ≡ length (cursor_part b)
     → part ≡ cursor_encoded c (cursor_part b)
     → (take cursor_place b ++ (part ++ drop cursor_size (drop cursor_place b)) ≡ sets b cursor_place (cursor_bytes c)) × (length (cursor_bytes c) ≡ cursor_size)
 unfolding cursor_encoded
-cursor-written c b part h k e =
+cursor_written c b part h k e =
     let size : length (cursor_part b) ≡ cursor_size = length-take-le cursor_size (drop cursor_place b) (simp length-drop (omega arith)) in
     let new : part ≡ cursor_bytes c = e ∙ rw (eq-eqb (length (cursor_part b)) cursor_size size) in
     let long : length (cursor_bytes c) ≡ cursor_size = sym (ap length new) ∙ k ∙ size in
     (rw new (put_part b (cursor_bytes c) cursor_place cursor_size (omega arith) long), long)
 
 -- a state written to its part
-pub state-written :
+pub state_written :
     (s : State) (b part : List ℕ)
     → length b ≡ player_size
     → part ≡ encoded s (take (length b - state_place) (drop state_place b))
     → take state_place b ++ (part ++ drop (length b - state_place) (drop state_place b)) ≡ sets b state_place (state_bytes s)
 unfolding encoded
-state-written s b part h e =
+state_written s b part h e =
     let n : length b - state_place ≡ state_size = omega arith in
     let size : length (take (length b - state_place) (drop state_place b)) ≡ state_size =
     length-take-le (length b - state_place) (drop state_place b) (omega (arith, length-drop state_place b)) ∙ n in

@@ -19,14 +19,14 @@ use Rattle.c_player.specs.Player.{cursor_place, state_place, player_size, player
 abbrev pub numbers : ℕ → ℕ → ℕ → ℕ → List ℕ
 numbers phase wait time last = wide_bytes 1 phase ++ (wide_bytes 4 wait ++ (wide_bytes 4 time ++ wide_bytes 2 last))
 
-pub put-numbers :
+pub put_numbers :
     (phase wait time last : ℕ) (old b₁ b₂ b₃ b₄ : List ℕ)
     → b₁ ≡ sets old 0 (wide_bytes 1 phase)
     → b₂ ≡ sets b₁ 1 (wide_bytes 4 wait)
     → b₃ ≡ sets b₂ 5 (wide_bytes 4 time)
     → b₄ ≡ sets b₃ 9 (wide_bytes 2 last)
     → b₄ ≡ sets old 0 (numbers phase wait time last)
-put-numbers phase wait time last old b₁ b₂ b₃ b₄ e₁ e₂ e₃ e₄ =
+put_numbers phase wait time last old b₁ b₂ b₃ b₄ e₁ e₂ e₃ e₄ =
     put_next (wide_bytes 1 phase) _ old b₁ b₄ 0 1 (omega (arith, wide_size 1 phase)) e₁
     (put_next (wide_bytes 4 wait) _ b₁ b₂ b₄ 1 5 (omega (arith, wide_size 4 wait)) e₂
     (put_next (wide_bytes 4 time) (wide_bytes 2 last) b₂ b₃ b₄ 5 9 (omega (arith, wide_size 4 time)) e₃ e₄))
@@ -53,7 +53,7 @@ whole_size p l =
     simp length-append
     (omega (arith, wide_size 1 p.phase, wide_size 4 p.wait, wide_size 4 p.time, wide_size 2 p.last, state_size_lem p.state))
 
-pub put-player :
+pub put_player :
     (p : Player) (old b₁ b₂ b₃ : List ℕ)
     → length old ≡ player_size
     → length (cursor_bytes p.cursor) ≡ cursor_size
@@ -61,7 +61,7 @@ pub put-player :
     → b₂ ≡ sets b₁ cursor_place (cursor_bytes p.cursor)
     → b₃ ≡ sets b₂ state_place (state_bytes p.state)
     → b₃ ≡ player_bytes p
-put-player p old b₁ b₂ b₃ h l e₁ e₂ e₃ =
+put_player p old b₁ b₂ b₃ h l e₁ e₂ e₃ =
     let n = numbers p.phase p.wait p.time p.last in
     let s = state_bytes p.state in
     let c = cursor_bytes p.cursor in

@@ -1,5 +1,7 @@
 // A player as bytes, for callers in other languages: its fields in their order, low byte first, the cursor as the crate `c_recording` has it, and
 // last the state as the crate `c_state` has it.
+#![tactic(auto)]
+
 ghost use Rattle.std.specs.Prelude.{◌≡◌};
 ghost use Rattle.c_player.specs.Player.{player_size, player_at, is_player, player_in, player_encoded};
 

@@ -1,5 +1,7 @@
 // A probe on a state that is bytes (crate `c_state`): what the channels give, and the status byte. The answer is one number: its number, and
 // above its low byte its value. The bytes stay as they are.
+#![tactic(auto)]
+
 ghost use Rattle.std.specs.Prelude.{◌≡◌};
 ghost use Rattle.c_state.specs.Bytes.{state_in};
 ghost use Rattle.c_probe.specs.Packed.{probed, outputs_in, outputs_packed, status_packed};

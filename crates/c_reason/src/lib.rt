@@ -1,4 +1,6 @@
 // A refusal's number in words, written into lent bytes.
+#![tactic(auto)]
+
 ghost use Rattle.std.specs.Prelude.{◌≡◌};
 ghost use Rattle.text_print.specs.Printed.{printed};
 ghost use Rattle.perch_reasons.specs.Reasons.{reason_text};

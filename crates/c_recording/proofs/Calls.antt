@@ -5,4 +5,4 @@ use Rattle.recording_cursor.specs.Stepping.{beginning}
 use Rattle.c_recording.specs.Cursors.{CursorFits}
 
 pub beginning_fits : CursorFits beginning
-beginning_fits = record { log = log.beginning-fits; samples = omega arith; clock = omega arith }
+beginning_fits = record { log = log.beginning_fits; samples = omega arith; clock = omega arith }

@@ -8,14 +8,14 @@ use Rattle.recording_cursor.specs.declared.Cursor.{Cursor}
 
 -- how many bytes a cursor is
 abbrev pub cursor_size : ℕ
-cursor_size = log.cursorSize + 8
+cursor_size = log.cursor_size + 8
 
 unfoldable pub cursor_bytes : Cursor → List ℕ
-cursor_bytes c = log.cursorBytes c.log ++ (wide_bytes 4 c.samples ++ wide_bytes 4 c.clock)
+cursor_bytes c = log.cursor_bytes c.log ++ (wide_bytes 4 c.samples ++ wide_bytes 4 c.clock)
 
 -- the cursor that bytes stand for
 unfoldable pub cursor_of : List ℕ → Cursor
-cursor_of b = record { log = log.cursorOf (take log.cursorSize b); samples = wide_of b log.cursorSize 4; clock = wide_of b (log.cursorSize + 4) 4 }
+cursor_of b = record { log = log.cursor_of (take log.cursor_size b); samples = wide_of b log.cursor_size 4; clock = wide_of b (log.cursor_size + 4) 4 }
 
 -- what writing a cursor to lent bytes leaves in them: the cursor's bytes; where other than so many bytes are lent, those as they were
 unfoldable pub cursor_encoded : Cursor → List ℕ → List ℕ

@@ -1,4 +1,6 @@
 // A cursor over a recording as 96 bytes, for callers in other languages: its fields in their order, low byte first. Any 96 bytes are a cursor.
+#![tactic(auto)]
+
 ghost use Rattle.std.specs.Prelude.{◌≡◌, length, take};
 ghost use Rattle.std.proofs.lemmas.List.Edits.{sets};
 ghost use Rattle.c_cursor.specs.Cursors.{cursor_size, cursor_bytes};

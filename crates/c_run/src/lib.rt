@@ -1,4 +1,6 @@
 // The two runs on a state that is bytes, with a dwell table that is lent words. Bytes that are no state in range are refused, and stay.
+#![tactic(auto)]
+
 ghost use Rattle.std.specs.Prelude.{◌≡◌, ◌≤◌};
 ghost use Rattle.c_state.specs.Bytes.{state_in};
 ghost use Rattle.c_run.specs.Runs.{ran_packed, no_table, table_answer, table_lent, run_bytes};

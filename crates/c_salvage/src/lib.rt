@@ -1,4 +1,6 @@
 // A damaged log repaired, the answer in one 64-bit number.
+#![tactic(auto)]
+
 ghost use Rattle.std.specs.Prelude.{◌≡◌, ◌/◌, ◌%◌, ◌^◌, length, take};
 ghost use Rattle.log_salvage_rules.specs.Promise.{Mends};
 ghost use Rattle.log_salvage.specs.Answer.{salvage_text, salvage_list};

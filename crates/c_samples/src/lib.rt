@@ -1,4 +1,6 @@
 // The sample memory that the data blocks in front of a VGM stream hold, the answer in one 64-bit number.
+#![tactic(auto)]
+
 ghost use Rattle.std.specs.Prelude.{◌≡◌, ◌<◌, ◌^◌};
 ghost use Rattle.vgm_blocks.specs.Blocks.{samples_left};
 ghost use Rattle.c_samples.specs.Packed.{filled_value, samples_packed};

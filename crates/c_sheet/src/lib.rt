@@ -1,4 +1,6 @@
 // A sheet for a sample, as C and Rust get it: the answer is one number, its number, and above its low byte how many levels were written.
+#![tactic(auto)]
+
 ghost use Rattle.std.specs.Prelude.{◌≡◌};
 ghost use Rattle.chip_sheet.specs.Sheet.{sheet_buffer};
 ghost use Rattle.c_sheet.specs.Packed.{sheet_packed};

@@ -22,11 +22,11 @@ pub flag_wrong : (b : List ℕ) (k at x : ℕ) → k < 33 → at ≡ get_or flag
 flag_wrong b k at x h p e w = flag_next b k h ∙ simp (← p, ← e, lt-leb _ _ w)
 
 -- a flag of 0 or 1
-pub flag-right :
+pub flag_right :
     (b : List ℕ) (k at x : ℕ)
     → k < 33
     → at ≡ get_or flag_places k 0
     → x ≡ byte_of b at
     → x ≤ 1
     → flags_right b (drop k flag_places) ≡ flags_right b (drop (k + 1) flag_places)
-flag-right b k at x h p e w = flag_next b k h ∙ simp (← p, ← e, le-leb _ _ w)
+flag_right b k at x h p e w = flag_next b k h ∙ simp (← p, ← e, le-leb _ _ w)

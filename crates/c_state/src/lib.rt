@@ -1,5 +1,7 @@
 // A state as 91 bytes, for callers in other languages: the fields in document 01's order, low byte first, a flag as 0 or 1. How many they are, and
 // whether bytes are a state's; `c_state_read` reads a state from them and `c_state_write` writes it.
+#![tactic(auto)]
+
 ghost use Rattle.std.specs.Prelude.{◌≡◌, get_or};
 ghost use Rattle.c_state.specs.Bytes.{state_size, is_state};
 ghost use Rattle.c_state.specs.Flags.{flag_places, flags_right};

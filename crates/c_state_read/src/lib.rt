@@ -1,4 +1,6 @@
 // A state read from its bytes (crate `c_state`).
+#![tactic(auto)]
+
 ghost use Rattle.std.specs.Prelude.{◌≡◌};
 ghost use Rattle.c_state.specs.Bytes.{state_of, state_in};
 

@@ -37,7 +37,7 @@ put_six old a b c d e f ho ha hb hc hd he hf =
     (simp (append-nil, append_assoc))
 
 -- the bytes after each part of a state
-pub put-state :
+pub put_state :
     (s : State) (old b₁ b₂ b₃ b₄ b₅ b₆ : List ℕ)
     → length old ≡ state_size
     → b₁ ≡ paste old 0 (square_bytes s.square1) 21
@@ -48,7 +48,7 @@ pub put-state :
     → b₆ ≡ paste b₅ 85 (frame_bytes s.frame s.pal) 6
     → b₆ ≡ state_bytes s
 unfolding square_bytes triangle_bytes noise_bytes dmc_bytes frame_bytes state_bytes
-put-state s old b₁ b₂ b₃ b₄ b₅ b₆ h e₁ e₂ e₃ e₄ e₅ e₆ =
+put_state s old b₁ b₂ b₃ b₄ b₅ b₆ h e₁ e₂ e₃ e₄ e₅ e₆ =
     e₆
     ∙ ap (λ (b : List ℕ). paste b 85 (frame_bytes s.frame s.pal) 6) (e₅
     ∙ ap (λ (b : List ℕ). paste b 67 (dmc_bytes s.dmc) 18) (e₄

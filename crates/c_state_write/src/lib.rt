@@ -1,4 +1,6 @@
 // A state written as its bytes (crate `c_state`).
+#![tactic(auto)]
+
 ghost use Rattle.std.specs.Prelude.{◌≡◌};
 ghost use Rattle.c_state.specs.Encoded.{encoded};
 

@@ -14,10 +14,10 @@ use Rattle.text.proofs.KeyLaws.{exactly_is}
 use Rattle.c_bytes.specs.Fields.{flag_byte, byte_of, flag_of}
 use Rattle.c_bytes.specs.Numbers.{wide_bytes, wide_of}
 use Rattle.c_state.proofs.BackLaws.{alike}
-use Rattle.c_state.proofs.CodeLaws.{exactly_same, read_written as state-written}
+use Rattle.c_state.proofs.CodeLaws.{exactly_same, read_written as state_written}
 use Rattle.c_recording.specs.Cursors.{cursor_size}
 use Rattle.c_bytes.proofs.NumberLaws.{cut, wide_kept}
-use Rattle.c_recording.proofs.CodeLaws.{read_written as cursor-written}
+use Rattle.c_recording.proofs.CodeLaws.{read_written as cursor_written}
 use Rattle.c_wav.specs.Wavs.{cursor_place, wav_size, file_bytes, place_bytes, number_bytes, encoded_wav, cursor_part, state_part, wav_at, is_wav}
 use Rattle.c_wav.proofs.CodeLaws.{told, read_told}
 
@@ -49,9 +49,9 @@ module _ (b : List ℕ) (bytes : (i : ℕ) → byte_of b i ≤ 255) where
       let size : length b ≡ wav_size = eqb-true (length b) wav_size (both_left _ _ e) in
       let more = both_right (eqb (length b) wav_size) _ e in
       let flag : byte_of b 0 ≤ 1 = leb-true (byte_of b 0) 1 (both_left _ _ more) in
-      let state = state-written (state_part b) (both_right (leb (byte_of b 0) 1) _ more) in
+      let state = state_written (state_part b) (both_right (leb (byte_of b 0) 1) _ more) in
       let long : length (cursor_part b) ≡ cursor_size = length-take-le cursor_size (drop cursor_place b) (simp length-drop (omega arith)) in
-      let cursor = cursor-written (cursor_part b) (taken cursor_size (drop cursor_place b) (dropped cursor_place)) long in
+      let cursor = cursor_written (cursor_part b) (taken cursor_size (drop cursor_place b) (dropped cursor_place)) long in
       simp append_assoc (rw (
         flag_back flag (omega arith),
         wide_kept b bytes 1 4 (omega arith),

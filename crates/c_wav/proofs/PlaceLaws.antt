@@ -19,7 +19,7 @@ use Rattle.wav_rules.specs.declared.Wav.{Wav}
 use Rattle.c_wav.specs.Wavs.{cursor_place, state_place, wav_size, file_bytes, place_bytes, number_bytes, encoded_wav}
 
 -- the flag, the rate and the samples in all
-pub put-file :
+pub put_file :
     (begun : Bool) (flag rate count : ℕ) (old b₁ b₂ b₃ : List ℕ)
     → flag ≡ flag_byte begun
     → b₁ ≡ sets old 0 (wide_bytes 1 flag)
@@ -27,13 +27,13 @@ pub put-file :
     → b₃ ≡ sets b₂ 5 (wide_bytes 4 count)
     → b₃ ≡ sets old 0 (file_bytes begun rate count)
 unfolding file_bytes
-put-file begun flag rate count old b₁ b₂ b₃ i e₁ e₂ e₃ =
+put_file begun flag rate count old b₁ b₂ b₃ i e₁ e₂ e₃ =
     rw (← i)
     (put_next (wide_bytes 1 flag) _ old b₁ b₃ 0 1 (omega (arith, wide_size 1 flag)) e₁
     (put_next (wide_bytes 4 rate) (wide_bytes 4 count) b₁ b₂ b₃ 1 5 (omega (arith, wide_size 4 rate)) e₂ e₃))
 
 -- the numbers of a place
-pub put-place :
+pub put_place :
     (p : Place) (old b₁ b₂ b₃ b₄ : List ℕ)
     → b₁ ≡ sets old 9 (wide_bytes 4 p.left)
     → b₂ ≡ sets b₁ 13 (wide_bytes 8 p.sample)
@@ -41,7 +41,7 @@ pub put-place :
     → b₄ ≡ sets b₃ 29 (wide_bytes 8 p.moment.time)
     → b₄ ≡ sets old 9 (place_bytes p)
 unfolding place_bytes
-put-place p old b₁ b₂ b₃ b₄ e₁ e₂ e₃ e₄ =
+put_place p old b₁ b₂ b₃ b₄ e₁ e₂ e₃ e₄ =
     put_next (wide_bytes 4 p.left) _ old b₁ b₄ 9 13 (omega (arith, wide_size 4 p.left)) e₁
     (put_next (wide_bytes 8 p.sample) _ b₁ b₂ b₄ 13 21 (omega (arith, wide_size 8 p.sample)) e₂
     (put_next (wide_bytes 8 p.sum) (wide_bytes 8 p.moment.time) b₂ b₃ b₄ 21 29 (omega (arith, wide_size 8 p.sum)) e₃ e₄))

@@ -1,5 +1,7 @@
 // A log as a WAV file in pieces, the file under way being bytes lent in place, which the caller keeps between two pieces: its fields, low byte first, the
 // cursor as the crate `c_recording` has it, and last the state as the crate `c_state` has it. Bytes that are none of a file under way are refused, and stay.
+#![tactic(auto)]
+
 ghost use Rattle.std.specs.Prelude.{◌≡◌, ◌≤◌, eqb};
 ghost use Rattle.arith.specs.Pick.{pick};
 ghost use Rattle.play_wav.specs.Pieces.{WrittenOn};

@@ -1,5 +1,7 @@
 // Why a channel is silent, asked of a state that is bytes (crate `c_state`). The answer is one number: its number, and above its low
 // byte its value.
+#![tactic(auto)]
+
 ghost use Rattle.std.specs.Prelude.{◌≡◌};
 ghost use Rattle.chip_why.specs.Why.{why_answer};
 ghost use Rattle.c_state.specs.Bytes.{state_in};

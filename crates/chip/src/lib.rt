@@ -1,5 +1,7 @@
 // The whole chip: its state, one clock, interrupt line and level. Every operation here has an answer for every state; the operations
 // that refuse states out of range are the crate `chip_api`.
+#![tactic(auto)]
+
 ghost use Rattle.std.specs.Prelude.{◌≡◌};
 ghost use Rattle.chip.specs.Clock.{timers_clocked, reader_clocked, quarter_frame, half_frame, quarter_if, half_if, stepped, framed, chip_clock};
 ghost use Rattle.chip.specs.Level.{state_level};
@@ -13,7 +15,7 @@ use chip_square::Square;
 use chip_triangle::Triangle;
 
 // `pal` is the machine, PAL or NTSC: fixed at power-on.
-#[derive(Drop)]
+#[derive(Clone, Copy)]
 pub struct State {
     pub square1: Square,
     pub square2: Square,

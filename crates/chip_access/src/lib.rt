@@ -1,5 +1,7 @@
 // One bus access to the chip: a register written or the status read. It has an answer for every state and every register; the
 // customers' operation, which refuses, is `chip_api::access`.
+#![tactic(auto)]
+
 mod registers;
 
 ghost use Rattle.std.specs.Prelude.{true, ◌≡◌};
@@ -10,7 +12,7 @@ use bus::Access;
 use chip::State;
 
 // The byte read, 0 for a write, and the state after the access.
-#[derive(Drop)]
+#[derive(Clone, Copy)]
 pub struct Outcome {
     pub byte: u8,
     pub state: State,

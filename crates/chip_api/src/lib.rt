@@ -1,5 +1,7 @@
 // The chip's operations for customers: each takes any state, refuses by document 01's number, lowest first, and hands the state
 // back as it came where it refuses.
+#![tactic(auto)]
+
 ghost use Rattle.std.specs.Prelude.{◌≡◌};
 ghost use Rattle.chip.specs.Range.{in_range, power_on};
 ghost use Rattle.chip_api.specs.Answer.{moved, allowed, refused_access, done_access, access_answer, line_answer, level_answer, level_f32_answer, clock_answer};
@@ -8,14 +10,14 @@ use bus::Access;
 use chip::State;
 
 // A number and the state.
-#[derive(Drop)]
+#[derive(Clone, Copy)]
 pub struct Moved {
     pub number: u8,
     pub state: State,
 }
 
 // A number, the state, the byte read, the level after, and whether it differs from the level before.
-#[derive(Drop)]
+#[derive(Clone, Copy)]
 pub struct Answered {
     pub number: u8,
     pub state: State,
@@ -25,21 +27,21 @@ pub struct Answered {
 }
 
 // A number, and whether the interrupt line is asserted.
-#[derive(Drop)]
+#[derive(Clone, Copy)]
 pub struct Asserted {
     pub number: u8,
     pub asserted: bool,
 }
 
 // A number and the level.
-#[derive(Drop)]
+#[derive(Clone, Copy)]
 pub struct Mixed {
     pub number: u8,
     pub level: u16,
 }
 
 // A number and the level over 32,768.
-#[derive(Drop)]
+#[derive(Clone, Copy)]
 pub struct Scaled {
     pub number: u8,
     pub fraction: f32,

@@ -1,4 +1,6 @@
 // The sample channel (DMC): its clock, its registers, its output, its range. The timer's period is an argument throughout.
+#![tactic(auto)]
+
 ghost use Rattle.std.specs.Prelude.{◌≡◌};
 ghost use Rattle.chip_dmc.specs.Clock.{dmc_timed, dmc_read, dmc_clock, dmc_output};
 ghost use Rattle.chip_dmc.specs.Write.{dmc_write0, dmc_write1, dmc_write2, dmc_write3, dmc_write, dmc_enabled};
@@ -7,7 +9,7 @@ ghost use Rattle.chip_dmc.specs.Range.{dmc_in, dmc_on};
 use chip_dmc_output::Output;
 use chip_dmc_reader::{Reader, Registers};
 
-#[derive(Drop)]
+#[derive(Clone, Copy)]
 pub struct Dmc {
     pub registers: Registers,
     pub output: Output,

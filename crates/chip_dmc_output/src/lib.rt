@@ -1,10 +1,12 @@
 // The output unit of the sample channel (DMC) with its timer: how the level moves. The timer's period is an argument throughout.
+#![tactic(auto)]
+
 ghost use Rattle.std.specs.Prelude.{◌≡◌, ◌+◌, ◌-◌, ltb};
 ghost use Rattle.arith.specs.Pick.{pick};
 ghost use Rattle.chip_dmc_output.specs.Output.{level_moved, output_step, with_timer, output_clock, output_in};
 
 // The output unit with its timer: the level, the shift byte, the bits left of it, and whether it is silent.
-#[derive(Drop)]
+#[derive(Clone, Copy)]
 pub struct Output {
     pub timer: u16,
     pub level: u8,

@@ -1,10 +1,12 @@
 // The reader of the sample channel (DMC): what its registers hold, the address, the byte fetched, the interrupt flag.
+#![tactic(auto)]
+
 ghost use Rattle.std.specs.Prelude.{◌≡◌};
 ghost use Rattle.arith.specs.Pick.{both};
 ghost use Rattle.chip_dmc_reader.specs.Reader.{emptied, next_address, restarted, flagged, byte_at, fetched, sample_ended, pending, reader_clock, with_interrupt, with_remaining, switched, registers_in, reader_in};
 
 // What the registers hold: interrupt enable, loop, period index, address byte, length byte.
-#[derive(Drop)]
+#[derive(Clone, Copy)]
 pub struct Registers {
     pub enable: bool,
     pub looped: bool,
@@ -14,7 +16,7 @@ pub struct Registers {
 }
 
 // The reader with its buffer and the interrupt flag.
-#[derive(Drop)]
+#[derive(Clone, Copy)]
 pub struct Reader {
     pub address: u16,
     pub remaining: u16,

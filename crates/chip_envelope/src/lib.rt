@@ -1,9 +1,11 @@
 // The volume envelope of a square or the noise.
+#![tactic(auto)]
+
 ghost use Rattle.std.specs.Prelude.{◌≡◌};
 ghost use Rattle.chip_envelope.specs.Envelope.{envelope_started, decayed, envelope_divided, envelope_clock, volume, envelope_set, envelope_begun, envelope_in, envelope_on};
 
 // `looped` is also the halt flag of the channel's length; `n` is the volume or the divider's period less one.
-#[derive(Drop)]
+#[derive(Clone, Copy)]
 pub struct Envelope {
     pub looped: bool,
     pub constant: bool,

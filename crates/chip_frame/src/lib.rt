@@ -1,10 +1,12 @@
 // The frame sequencer: its clock number, its steps, and its interrupt flag. At which clock numbers steps come is an argument.
+#![tactic(auto)]
+
 ghost use Rattle.std.specs.Prelude.{◌≡◌, ◌+◌, leb};
 ghost use Rattle.arith.specs.Pick.{pick};
 ghost use Rattle.chip_frame.specs.Frame.{last_number, frame_moved, step_at, next_step, is_quarter, is_half, frame_stepped, frame_written, frame_read, frame_asserts, frame_in, frame_on};
 
 // The clock numbers at which steps come. Mode 0 has the first four, mode 1 all five; behind the last the clock number is 0 again.
-#[derive(Drop)]
+#[derive(Clone, Copy)]
 pub struct Times {
     pub first: u16,
     pub second: u16,
@@ -14,7 +16,7 @@ pub struct Times {
 }
 
 // `clock` is the clock number: the clocks since the frame began.
-#[derive(Drop)]
+#[derive(Clone, Copy)]
 pub struct Frame {
     pub mode: bool,
     pub disable: bool,

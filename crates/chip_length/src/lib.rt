@@ -1,8 +1,10 @@
 // The length counter of a channel.
+#![tactic(auto)]
+
 ghost use Rattle.std.specs.Prelude.{◌≡◌};
 ghost use Rattle.chip_length.specs.Length.{length_of, length_loaded, length_clock, length_enabled, length_in, length_on};
 
-#[derive(Drop)]
+#[derive(Clone, Copy)]
 pub struct Length {
     pub count: u8,
     pub enabled: bool,

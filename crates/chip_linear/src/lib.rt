@@ -1,9 +1,11 @@
 // The linear counter of the triangle.
+#![tactic(auto)]
+
 ghost use Rattle.std.specs.Prelude.{◌≡◌};
 ghost use Rattle.chip_linear.specs.Linear.{linear_clock, linear_set, linear_halted, linear_in};
 
 // `control` is also the halt flag of the length; `halt` is document 01's linear-halt flag.
-#[derive(Drop)]
+#[derive(Clone, Copy)]
 pub struct Linear {
     pub control: bool,
     pub reload: u8,

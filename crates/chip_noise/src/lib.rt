@@ -1,4 +1,6 @@
 // The noise channel: its clock, its registers, its output, its range. The timer's period is an argument throughout.
+#![tactic(auto)]
+
 ghost use Rattle.std.specs.Prelude.{◌≡◌, ◌-◌, ◌/◌, ◌%◌};
 ghost use Rattle.chip_noise.specs.Shifter.{tap_of, shifted_of, shifter_clock, shifter_in};
 ghost use Rattle.chip_noise.specs.Noise.{noise_timed, noise_enveloped, noise_lengthened, noise_enabled, noise_amount, noise_output, noise_write0, noise_write2, noise_write3, noise_write, noise_in, noise_on};
@@ -7,13 +9,13 @@ use chip_envelope::Envelope;
 use chip_length::Length;
 
 // What the timer moves: its count and the shift register.
-#[derive(Drop)]
+#[derive(Clone, Copy)]
 pub struct Shifter {
     pub timer: u16,
     pub register: u16,
 }
 
-#[derive(Drop)]
+#[derive(Clone, Copy)]
 pub struct Noise {
     pub mode: bool,
     pub index: u8,

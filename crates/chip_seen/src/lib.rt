@@ -1,11 +1,13 @@
 // What a probe sees of the chip: the level, what each channel gives the mixer, the interrupt line and its two flags.
+#![tactic(auto)]
+
 ghost use Rattle.std.specs.Prelude.{◌≡◌};
 ghost use Rattle.chip_seen.specs.Seen.{flag, seen_of, same_seen};
 
 use chip::State;
 
 // The line and the flags are 0 or 1.
-#[derive(Drop)]
+#[derive(Clone, Copy)]
 pub struct Seen {
     pub level: u16,
     pub square1: u8,

@@ -1,10 +1,12 @@
 // A sheet for a sample in memory: the level after each of its bytes, from any start level, without playing it.
+#![tactic(auto)]
+
 ghost use Rattle.std.specs.Prelude.{◌≡◌, ◌≤◌, ◌++◌, length, drop};
 ghost use Rattle.chip_sheet.specs.Byte.{eight_steps};
 ghost use Rattle.chip_sheet.specs.Sheet.{sheet_levels, first_number, sheet_number, sheet_answer, sheet_buffer};
 
 // A number, and how many levels were written.
-#[derive(Drop)]
+#[derive(Clone, Copy)]
 pub struct Written {
     pub number: u8,
     pub length: u16,

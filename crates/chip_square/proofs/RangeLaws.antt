@@ -56,7 +56,7 @@ square_back s h =
 
 -- POWER-ON IS IN RANGE
 pub square_on_lem : square_in square_on ≡ true
-unfolding square_in sequencer_in Rattle.chip_timer.specs.Timer.timerIn Rattle.chip_envelope.specs.Envelope.envelopeIn Rattle.chip_sweep.specs.Sweep.sweepIn Rattle.chip_length.specs.Length.lengthIn
+unfolding square_in sequencer_in Rattle.chip_timer.specs.Timer.timer_in Rattle.chip_envelope.specs.Envelope.envelope_in Rattle.chip_sweep.specs.Sweep.sweep_in Rattle.chip_length.specs.Length.length_in
 square_on_lem = refl
 
 -- CLOCKS KEEP IT

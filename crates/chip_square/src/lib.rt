@@ -1,4 +1,6 @@
 // A square channel. `second` says that it is square 2, which differs from square 1 only in its negated sweep.
+#![tactic(auto)]
+
 ghost use Rattle.std.specs.Prelude.{◌≡◌, ◌+◌, ◌%◌};
 ghost use Rattle.chip_square.specs.Sequencer.{sequencer_clock, duty_bit};
 ghost use Rattle.chip_square.specs.Square.{with_period, square_timed, square_enveloped, square_swept, square_enabled, square_amount, square_output};
@@ -11,14 +13,14 @@ use chip_sweep::Sweep;
 use chip_timer::Timer;
 
 // What the timer moves. `half` is document 01's half flag: position advances at every other output.
-#[derive(Drop)]
+#[derive(Clone, Copy)]
 pub struct Sequencer {
     pub timer: Timer,
     pub half: bool,
     pub position: u8,
 }
 
-#[derive(Drop)]
+#[derive(Clone, Copy)]
 pub struct Square {
     pub duty: u8,
     pub sequencer: Sequencer,

@@ -1,9 +1,11 @@
 // The sweep of a square's period. `second` says that it is square 2's.
+#![tactic(auto)]
+
 ghost use Rattle.std.specs.Prelude.{◌≡◌};
 ghost use Rattle.chip_sweep.specs.Sweep.{target, low_period, high_target, muted, sweeps, swept_period, sweep_clock, sweep_set, sweep_in};
 
 // `period` and `shift` are document 01's P and S, `written` its sweep-written flag.
-#[derive(Drop)]
+#[derive(Clone, Copy)]
 pub struct Sweep {
     pub enable: bool,
     pub negate: bool,

@@ -1,4 +1,6 @@
 // The periods of the noise and the DMC, and the times of the frame's steps, by machine.
+#![tactic(auto)]
+
 ghost use Rattle.std.specs.Prelude.{◌≡◌, get_or};
 ghost use Rattle.chip_tables.specs.Table.{noise_ntsc, noise_pal, dmc_ntsc, dmc_pal, noise_period, dmc_period, noise_top, dmc_top, frame_times};
 

@@ -1,8 +1,10 @@
 // A timer with a period of its own: that of a square or the triangle.
+#![tactic(auto)]
+
 ghost use Rattle.std.specs.Prelude.{◌≡◌};
 ghost use Rattle.chip_timer.specs.Timer.{timer_clock, period_low, period_high, timer_in, timer_on};
 
-#[derive(Drop)]
+#[derive(Clone, Copy)]
 pub struct Timer {
     pub period: u16,
     pub count: u16,

@@ -47,7 +47,7 @@ triangle_back t h =
 
 -- power-on is in range
 pub triangle_on_lem : triangle_in triangle_on ≡ true
-unfolding triangle_in triangle_sequencer_in Rattle.chip_timer.specs.Timer.timerIn Rattle.chip_linear.specs.Linear.linearIn Rattle.chip_length.specs.Length.lengthIn
+unfolding triangle_in triangle_sequencer_in Rattle.chip_timer.specs.Timer.timer_in Rattle.chip_linear.specs.Linear.linear_in Rattle.chip_length.specs.Length.length_in
 triangle_on_lem = refl
 
 sequencer_clocked : (on : Bool) (q : Sequencer) → SequencerRanged q → SequencerRanged (triangle_sequenced on q)

@@ -1,4 +1,6 @@
 // The triangle channel.
+#![tactic(auto)]
+
 ghost use Rattle.std.specs.Prelude.{◌≡◌, ◌+◌, ◌%◌};
 ghost use Rattle.chip_triangle.specs.Triangle.{runs, triangle_sequenced, triangle_timed, triangle_linear, triangle_lengthened, triangle_enabled, triangle_at, triangle_output, triangle_sequencer_in, triangle_in, triangle_on};
 ghost use Rattle.chip_triangle.specs.Write.{with_timer, triangle_write0, triangle_write2, triangle_write3, triangle_write};
@@ -8,13 +10,13 @@ use chip_linear::Linear;
 use chip_timer::Timer;
 
 // What the timer moves.
-#[derive(Drop)]
+#[derive(Clone, Copy)]
 pub struct Sequencer {
     pub timer: Timer,
     pub position: u8,
 }
 
-#[derive(Drop)]
+#[derive(Clone, Copy)]
 pub struct Triangle {
     pub sequencer: Sequencer,
     pub linear: Linear,

@@ -1,4 +1,6 @@
 // Why a channel is silent: the first true reason, or that it sounds, for any state and any channel number.
+#![tactic(auto)]
+
 ghost use Rattle.std.specs.Prelude.{◌≡◌};
 ghost use Rattle.chip_why.specs.Why.{first_reason, square_why, noise_why, channel_why, why_answer};
 ghost use Rattle.chip_why.specs.Value.{reason_number, reason_value, why_number, why_value};
@@ -9,7 +11,7 @@ use chip_square::Square;
 
 // The reasons in the order in which they are asked for; `StepLow` is a square's duty step, or bit 0 of the noise. What sounds has
 // the number that the channel gives.
-#[derive(Drop)]
+#[derive(Clone, Copy)]
 pub enum Reason {
     Refused(u8),
     NotEnabled,

@@ -1,4 +1,6 @@
 // How fast a machine's clock goes, and when a clock stands.
+#![tactic(auto)]
+
 ghost use Rattle.std.specs.Prelude.{◌≡◌};
 ghost use Rattle.clock_rate.specs.Rate.{clock_rate, clock_time};
 

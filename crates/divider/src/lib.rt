@@ -1,4 +1,6 @@
 // Dividers, for any period and any count: one tick, and g ticks in closed form.
+#![tactic(auto)]
+
 ghost use Rattle.std.specs.Prelude.{◌≡◌, ◌-◌, ◌/◌, ◌%◌};
 ghost use Rattle.divider.specs.Divider.{tick, outputs, count_after};
 

@@ -1,4 +1,6 @@
 // When the interrupt flags and the line of a log change, written to standard output.
+#![tactic(auto)]
+
 ghost use Rattle.std.specs.Prelude.{◌≡◌, ◌+◌, ◌≤◌, length};
 ghost use Rattle.text_print.specs.Printed.{Put};
 ghost use Rattle.play_begin.specs.Whole.{play_number};
@@ -10,7 +12,7 @@ use libc::STDOUT_FILENO;
 use play_interrupts::Next;
 
 // The number of the answer, and whether all that there was to write was written.
-#[derive(Drop)]
+#[derive(Clone, Copy)]
 pub struct Told {
     pub number: u8,
     pub written: bool,

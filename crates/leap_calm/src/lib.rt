@@ -1,4 +1,6 @@
 // The level by the sum of what the squares give: A out of a table and, while the DMC gives 0, B too.
+#![tactic(auto)]
+
 ghost use Rattle.std.specs.Prelude.{◌≡◌, get_or, ◌%◌};
 ghost use Rattle.chip_mixer.specs.Mixer.{squares_level};
 ghost use Rattle.chip_mixer.specs.Parts.{triangle_weight, others_weight};

@@ -5,7 +5,7 @@ ghost use Rattle.leap_dmc.specs.Lag.{dmc_lag, dmc_renewed, dmc_at};
 use chip_dmc::Dmc;
 
 // The DMC brought up to clock `at`; `next` is the clock of its next possible change, `out` what it gives up to then. n is its timer's period.
-#[derive(Drop)]
+#[derive(Clone, Copy)]
 pub struct DmcLag {
     pub dmc: Dmc,
     pub n: u16,

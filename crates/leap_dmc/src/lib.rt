@@ -1,4 +1,6 @@
 // The DMC's part in the leap: for how many clocks it surely only counts, the DMC g such clocks on, and at its next change.
+#![tactic(auto)]
+
 ghost use Rattle.std.specs.Prelude.{◌≡◌, ◌+◌, ◌-◌, ◌*◌};
 ghost use Rattle.arith.specs.Pick.{pick};
 ghost use Rattle.leap_still.specs.Forever.{forever};

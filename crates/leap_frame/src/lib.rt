@@ -1,4 +1,6 @@
 // The frame between two steps: how many clocks bring none, and the frame after some of them. At which clock numbers steps come is an argument.
+#![tactic(auto)]
+
 ghost use Rattle.std.specs.Prelude.{◌≡◌, ◌+◌, ◌-◌, ◌%◌};
 ghost use Rattle.leap_frame.specs.Leap.{frame_before, frame_passed};
 

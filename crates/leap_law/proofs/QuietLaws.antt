@@ -70,28 +70,28 @@ square_plain q r g =
 square_goes : (q : Square) → SquareRanged q → (g : ℕ)
     → iterate sequencer_clock g q.sequencer ≡ square_after g q.sequencer
 square_goes q r g =
-    let b = squares.beat-ranged q.sequencer r.sequencer in
-    squares.sequencer-beats q.sequencer r.sequencer g
-    ∙ ap (with_beat q.sequencer) (squares.beat-closed g (beat_of q.sequencer) b.n_from b.count_from b.steps)
+    let b = squares.beat_ranged q.sequencer r.sequencer in
+    squares.sequencer_beats q.sequencer r.sequencer g
+    ∙ ap (with_beat q.sequencer) (squares.beat_closed g (beat_of q.sequencer) b.n_from b.count_from b.steps)
     ∙ square_plain q.sequencer r.sequencer g
 
 -- with no length it gives nothing, wherever its sequencer is
-no_amount : (second : Bool) (q : Square) → q.length.count ≡ 0 → square.squareAmount second q ≡ 0
-unfolding square.squareAmount
+no_amount : (second : Bool) (q : Square) → q.length.count ≡ 0 → square.square_amount second q ≡ 0
+unfolding square.square_amount
 no_amount second q z = rw (eq-eqb q.length.count 0 z)
 
 square_silent : (second : Bool) (q : Square) → SquareRanged q → q.length.count ≡ 0 → (g : ℕ)
-    → square.squareOutput second (square.withSequencer q (iterate sequencer_clock g q.sequencer)) ≡ square.squareOutput second q
+    → square.square_output second (square.with_sequencer q (iterate sequencer_clock g q.sequencer)) ≡ square.square_output second q
 square_silent second q r z g =
     let row = duty_row q.duty in
-    let none : (b : Rattle.leap_square.specs.declared.Beat.Beat) → beat_gives row (square.squareAmount second q) b ≡ 0 =
+    let none : (b : Rattle.leap_square.specs.declared.Beat.Beat) → beat_gives row (square.square_amount second q) b ≡ 0 =
     λ b. rw (no_amount second q z) (squares.gives_none row b)
     in
-    ap (λ (x : square1.Sequencer). square.squareOutput second (square.withSequencer q x)) (squares.sequencer-beats q.sequencer r.sequencer g)
-    ∙ squares.square-gives-at second q (iterate beat_clock g (beat_of q.sequencer))
+    ap (λ (x : square1.Sequencer). square.square_output second (square.with_sequencer q x)) (squares.sequencer_beats q.sequencer r.sequencer g)
+    ∙ squares.square_gives_at second q (iterate beat_clock g (beat_of q.sequencer))
     ∙ none (iterate beat_clock g (beat_of q.sequencer))
     ∙ sym (none (beat_of q.sequencer))
-    ∙ sym (squares.square-gives second q)
+    ∙ sym (squares.square_gives second q)
 
 -- A TRIANGLE WITH NO LENGTH
 
@@ -101,10 +101,10 @@ unfolding triangle_gate triangle.runs
 gate_shut t z = rw z
 
 triangle_goes : (t : Triangle) → TriangleRanged t → (g : ℕ)
-    → iterate (triangle.triangleSequenced (triangle.runs t)) g t.sequencer
+    → iterate (triangle.triangle_sequenced (triangle.runs t)) g t.sequencer
     ≡ triangle_with_beat t.sequencer (iterate (triangle_beat_clock (triangle_gate t)) g (triangle_beat_of t.sequencer))
 unfolding triangle_gate
-triangle_goes t r g = triangles.triangle-beats (triangle.runs t) t.sequencer r.sequencer g
+triangle_goes t r g = triangles.triangle_beats (triangle.runs t) t.sequencer r.sequencer g
 
 -- what the code makes of a triangle that is held is the law's text
 pub triangle_plain : (q : triangle1.Sequencer) → triangles1.SequencerRanged q → (g : ℕ)
@@ -119,35 +119,35 @@ triangle_plain q r g =
     rw (e, p) refl
 
 triangle_rests : (t : Triangle) → TriangleRanged t → t.length.count ≡ 0 → (g : ℕ)
-    → iterate (triangle.triangleSequenced (triangle.runs t)) g t.sequencer
+    → iterate (triangle.triangle_sequenced (triangle.runs t)) g t.sequencer
     ≡ triangle_after g t.sequencer
 triangle_rests t r z g =
-    let b = triangles.beat-ranged t.sequencer r.sequencer in
+    let b = triangles.beat_ranged t.sequencer r.sequencer in
     triangle_goes t r g
     ∙ ap (triangle_with_beat t.sequencer)
-    (rw (gate_shut t z) (triangles.triangle-beat-closed 0 g (triangle_beat_of t.sequencer) b.n_from b.count_from b.position))
+    (rw (gate_shut t z) (triangles.triangle_beat_closed 0 g (triangle_beat_of t.sequencer) b.n_from b.count_from b.position))
     ∙ triangle_plain t.sequencer r.sequencer g
 
 -- and gives what it gave
 triangle_holds : (t : Triangle) → TriangleRanged t → t.length.count ≡ 0 → (g : ℕ)
-    → triangle.triangleOutput (triangle.withSequencer t (iterate (triangle.triangleSequenced (triangle.runs t)) g t.sequencer))
-    ≡ triangle.triangleOutput t
+    → triangle.triangle_output (triangle.with_sequencer t (iterate (triangle.triangle_sequenced (triangle.runs t)) g t.sequencer))
+    ≡ triangle.triangle_output t
 triangle_holds t r z g =
     let b = triangle_beat_of t.sequencer in
-    ap (λ (x : triangle1.Sequencer). triangle.triangleOutput (triangle.withSequencer t x)) (triangle_goes t r g)
-    ∙ triangles.triangle-gives-at t (iterate (triangle_beat_clock (triangle_gate t)) g b)
-    ∙ triangles.triangle-held (triangle_gate t) b (triangles.beat-ranged t.sequencer r.sequencer) (eq-eqb (triangle_gate t) 0 (gate_shut t z)) g
-    ∙ sym (triangles.triangle-gives t)
+    ap (λ (x : triangle1.Sequencer). triangle.triangle_output (triangle.with_sequencer t x)) (triangle_goes t r g)
+    ∙ triangles.triangle_gives_at t (iterate (triangle_beat_clock (triangle_gate t)) g b)
+    ∙ triangles.triangle_held (triangle_gate t) b (triangles.beat_ranged t.sequencer r.sequencer) (eq-eqb (triangle_gate t) 0 (gate_shut t z)) g
+    ∙ sym (triangles.triangle_gives_lem t)
 
 -- A NOISE WITH NO LENGTH, AND AN IDLE DMC
 
 -- a noise with no length gives nothing, whatever its register
 noise_silent : (n : ℕ) (c : Noise) → c.length.count ≡ 0 → (h : Shifter)
-    → noise.noiseOutput (noise.withShifter c h) ≡ noise.noiseOutput c
-unfolding noise.noiseAmount
+    → noise.noise_output (noise.with_shifter c h) ≡ noise.noise_output c
+unfolding noise.noise_amount
 noise_silent n c z h =
-    let none : (x : Shifter) → noise.noiseOutput (noise.withShifter c x) ≡ 0 =
-    λ x. noises.noise-gives n c x ∙ rw (eq-eqb c.length.count 0 z) (noises.gives_none x)
+    let none : (x : Shifter) → noise.noise_output (noise.with_shifter c x) ≡ 0 =
+    λ x. noises.noise_gives n c x ∙ rw (eq-eqb c.length.count 0 z) (noises.gives_none x)
     in none h ∙ sym (none c.shifter)
 
 idle : (s : State) → Quiet s → DmcIdle s.dmc
@@ -189,7 +189,7 @@ module _ (memory : List ℕ) (s : State) (ranged : in_range s ≡ true) (q : Qui
       let a = square_goes s.square1 r.square1 g in
       let b = square_goes s.square2 r.square2 g in
       let t = triangle_rests s.triangle r.triangle q.triangle g in
-      let n = noises.shifter-closed (noise_period s.pal s.noise.index) s.noise.mode (noise_period_range s.pal s.noise.index).0 g s.noise.shifter
+      let n = noises.shifter_closed (noise_period s.pal s.noise.index) s.noise.mode (noise_period_range s.pal s.noise.index).0 g s.noise.shifter
       r.noise.shifter.timer_from
       in
       let d = idle_closed memory dmc_n (dmc_period_range s.pal s.dmc.registers.index).0 s.dmc r.dmc (idle s q) g in

@@ -13,10 +13,10 @@ use Rattle.chip.specs.declared.State.{State}
 unfoldable pub state_with : square1.Sequencer → square1.Sequencer → triangle1.Sequencer → Shifter → Dmc → Frame → State → State
 state_with q1 q2 tq h d f s =
     record {
-      square1 = square.withSequencer s.square1 q1;
-      square2 = square.withSequencer s.square2 q2;
-      triangle = triangle.withSequencer s.triangle tq;
-      noise = noise.withShifter s.noise h;
+      square1 = square.with_sequencer s.square1 q1;
+      square2 = square.with_sequencer s.square2 q2;
+      triangle = triangle.with_sequencer s.triangle tq;
+      noise = noise.with_shifter s.noise h;
       dmc = d;
       frame = f;
       pal = s.pal;

@@ -1,5 +1,7 @@
 // The chip between two frame steps: the clocks before the next one, and the frame after some of them; that each channel goes its own way
 // there is proved of the definitions.
+#![tactic(auto)]
+
 ghost use Rattle.std.specs.Prelude.{◌≡◌};
 ghost use Rattle.leap_law.specs.Frame.{before_step, passed_frame};
 

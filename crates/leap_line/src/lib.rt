@@ -1,5 +1,7 @@
 // The clocks up to the one that sets the frame's flag or the DMC's, or asserts the interrupt line, with no access between; 0 where none does. That each
 // goes by them is proved beside (proofs/LineLaws).
+#![tactic(auto)]
+
 ghost use Rattle.std.specs.Prelude.{◌≡◌, ◌+◌, ◌-◌, ◌*◌};
 ghost use Rattle.arith.specs.Pick.{pick};
 ghost use Rattle.leap_line.specs.Until.{frame_until, takes_in, last_fetch, dmc_until, sooner, frame_flag_until, dmc_flag_until, line_until};

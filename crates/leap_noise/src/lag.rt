@@ -6,7 +6,7 @@ use chip_noise::Shifter;
 
 // The noise brought up to clock `at`; `next` is the clock of its next possible change, `out` what it gives up to then. n is its timer's period,
 // `amount` what it gives while bit 0 of the shift register is clear.
-#[derive(Drop)]
+#[derive(Clone, Copy)]
 pub struct NoiseLag {
     pub shifter: Shifter,
     pub n: u16,

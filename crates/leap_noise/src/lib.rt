@@ -1,4 +1,6 @@
 // The noise in the leap: for how many clocks it surely gives the same, and its timer and register g clocks on and at its next change.
+#![tactic(auto)]
+
 ghost use Rattle.std.specs.Prelude.{◌≡◌, false, ◌+◌, ◌*◌, ◌≤◌};
 ghost use Rattle.arith.specs.Iterate.{iterate};
 ghost use Rattle.chip_noise.specs.Shifter.{shifted_of};

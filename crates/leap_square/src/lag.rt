@@ -10,7 +10,7 @@ use super::Beat;
 // A square in a stretch: `next` is the clock of its next possible change. `kept` is what it gives up to then, times 2^32, plus the clocks for which it
 // gives the other behind it; `both` is the sum of that number and the one that takes its place at the change. A change is an addition and a
 // subtraction, so that it costs no look-up and no branch.
-#[derive(Drop)]
+#[derive(Clone, Copy)]
 pub struct SquareLag {
     pub next: u64,
     pub kept: u64,

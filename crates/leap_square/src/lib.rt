@@ -1,5 +1,7 @@
 // A square in the leap: what its timer moves, in whole numbers, and that state g clocks on. For how many clocks it surely gives the same and its
 // next change are in the square as a stretch between two frame steps keeps it: `lag`.
+#![tactic(auto)]
+
 ghost use Rattle.std.specs.Prelude.{◌≡◌, ◌+◌, ◌%◌};
 ghost use Rattle.leap_square.specs.Leap.{steps_of, beat_of, with_beat, duty_row, beat_advanced};
 
@@ -8,7 +10,7 @@ use chip_square::Sequencer;
 pub mod lag;
 
 // A sequencer in whole numbers: its divider's period, its timer's count, and half flag and position as one count of sixteen.
-#[derive(Drop)]
+#[derive(Clone, Copy)]
 pub struct Beat {
     pub n: u32,
     pub count: u32,

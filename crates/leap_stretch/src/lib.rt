@@ -10,6 +10,8 @@
 // the stretch's first state by quotients and remainders, noise and DMC from their last event.
 //
 // Tables stand as matches, which the compiler makes a load of: the triangle's part in the level, and, while the DMC gives 0, the whole of it (`leap_calm`).
+#![tactic(auto)]
+
 ghost use Rattle.std.specs.Prelude.{◌≡◌, slice_index};
 ghost use Rattle.leap_law.specs.Between.{state_with};
 ghost use Rattle.arith.specs.Pick.{pick};
@@ -27,7 +29,7 @@ use leap_triangle::lag::TriangleLag;
 
 // The channels as a stretch keeps them at clock `now` of it; `soon` is the clock of the next event of squares and triangle, `next` that of the
 // next event of all, `level` the level up to then.
-#[derive(Drop)]
+#[derive(Clone, Copy)]
 pub struct Lags {
     pub square1: SquareLag,
     pub square2: SquareLag,
@@ -123,7 +125,7 @@ pub fn renew_sounds(l: Lags, e: u32) -> Lags
 }
 
 // The two squares and the clock of their next event.
-#[derive(Drop)]
+#[derive(Clone, Copy)]
 pub struct Squares {
     pub first: SquareLag,
     pub second: SquareLag,
@@ -131,7 +133,7 @@ pub struct Squares {
 }
 
 // Squares and triangle by themselves at clock `now`, for the events at which neither noise nor DMC is due; `next` is the clock of their next one.
-#[derive(Drop)]
+#[derive(Clone, Copy)]
 pub struct Voices {
     pub squares: Squares,
     pub triangle: TriangleLag,
@@ -165,7 +167,7 @@ pub fn voices_of(l: Lags) -> Voices
 }
 
 // Noise and DMC in the level: their part in N, what the noise gives, and whether the DMC gives 0.
-#[derive(Drop)]
+#[derive(Clone, Copy)]
 pub struct Others {
     pub weight: u64,
     pub noise: u32,

@@ -7,7 +7,7 @@ use super::Beat;
 
 // The triangle in a stretch: `next` is the clock of its next possible change, `position` where it stands up to then, and `still` for how many
 // clocks it surely gives the same behind each change.
-#[derive(Drop)]
+#[derive(Clone, Copy)]
 pub struct TriangleLag {
     pub next: u64,
     pub position: u32,

@@ -1,5 +1,7 @@
 // The triangle in the leap: what its timer moves, in whole numbers; for how many clocks it surely gives the same; that state g clocks on and
 // at its next change. The triangle as a stretch between two frame steps keeps it: `lag`.
+#![tactic(auto)]
+
 ghost use Rattle.std.specs.Prelude.{◌≡◌, ◌+◌, ◌%◌};
 ghost use Rattle.chip_triangle.specs.Triangle.{triangle_at};
 ghost use Rattle.leap_triangle.specs.Leap.{triangle_gate, triangle_beat_of, triangle_with_beat, position_after, triangle_gives, triangle_still, triangle_beat_advanced, triangle_beat_turned};
@@ -9,7 +11,7 @@ use chip_triangle::{Sequencer, Triangle};
 pub mod lag;
 
 // A sequencer in whole numbers: its divider's period, its timer's count, its position.
-#[derive(Drop)]
+#[derive(Clone, Copy)]
 pub struct Beat {
     pub n: u32,
     pub count: u32,

@@ -1,4 +1,6 @@
 // Lines written to standard output in pieces: those that stand in a buffer, written once it has no room for more; the line of a refusal.
+#![tactic(auto)]
+
 ghost use Rattle.std.specs.Prelude.{◌≡◌, ◌+◌, leb};
 ghost use Rattle.text_lines.specs.Lines.{refused_line};
 ghost use Rattle.program_io.specs.Writes.{Writes};
@@ -7,7 +9,7 @@ ghost use Rattle.lines_stdout.specs.Pours.{Pours};
 use libc::STDOUT_FILENO;
 
 // The place for what comes next, and whether all that was to be written was.
-#[derive(Drop)]
+#[derive(Clone, Copy)]
 pub struct Place {
     pub at: usize,
     pub written: bool,

@@ -59,6 +59,7 @@ met_text key t p m =
   where
     go : (x : List ℕ) → Nothing x → key ++ x ≡ key
     go [] none = append-nil key
+    go (_ ∷ _) x4 = elim x4 [ ]
 
 text_met : (key : List ℕ) → plain key ≡ true → Met key Nothing key
 text_met key p = subst (Met key Nothing) (append-nil key) (behind_met Nothing key [] p none)

@@ -1,4 +1,6 @@
 // How many bytes of a line begin one that is allowed and right, and whether all behind its key is a decimal.
+#![tactic(auto)]
+
 ghost use Rattle.std.specs.Prelude.{◌≡◌, max};
 ghost use Rattle.arith.specs.Pick.{pick};
 ghost use Rattle.text.specs.Decimal.{decimal};
@@ -8,7 +10,7 @@ ghost use Rattle.log_begins.specs.Counts.{keyed, unfed, said, counts};
 ghost use Rattle.log_begins.specs.Digits.{all_digits};
 
 // Which lines may stand at a place: `log=1`; `machine=pal`; `wait`, `write` and `read`; `loop`; `done`; `stop`.
-#[derive(Drop)]
+#[derive(Clone, Copy)]
 pub struct Keys {
     pub log: bool,
     pub machine: bool,

@@ -1,5 +1,7 @@
 // A block of lines, read with the blocks inside it. The totals that it carries are cut off just above what a log may have, so that no product
 // of nested loops is too large for them.
+#![tactic(auto)]
+
 ghost use Rattle.std.specs.Prelude.{◌≡◌, ◌<◌};
 ghost use Rattle.log_rules.specs.Tree.{act_clocks};
 ghost use Rattle.log_rules.specs.Block.{Small, SmallBlock, cut, no_totals, sum_of, times_of, begun, read_begun, read_part, read_block, step_answer, part_answer, part_end, loop_part, block_answer, BlockIs};

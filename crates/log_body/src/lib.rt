@@ -1,4 +1,6 @@
 // A loop's body, as a part of the log itself.
+#![tactic(auto)]
+
 ghost use Rattle.std.specs.Prelude.{◌≡◌};
 ghost use Rattle.log_body.specs.Bodies.{begins_line, is_loop, reads_loop, begins_loop, body_check_of, body_of};
 
@@ -6,7 +8,7 @@ use log_line::Line;
 use log_rules::{Block, Reading};
 
 // Number and place.
-#[derive(Drop)]
+#[derive(Clone, Copy)]
 pub struct Answer {
     pub number: u8,
     pub place: usize,

@@ -1,4 +1,6 @@
 // The check of a whole log.
+#![tactic(auto)]
+
 ghost use Rattle.std.specs.Prelude.{◌≡◌, length};
 ghost use Rattle.log_rules.specs.Whole.{check_refusal, check_of};
 ghost use Rattle.log_rules.specs.Closing.{totalled, limited, closing};

@@ -1,4 +1,6 @@
 // A cursor over a log: by value, a line a step, whatever the log and whatever the cursor.
+#![tactic(auto)]
+
 ghost use Rattle.std.specs.Prelude.{◌≡◌, ◌≤◌, ◌<◌};
 ghost use Rattle.log_cursor.specs.Stepping.{beginning, loops_open, moved_to, entered, again, turned, followed, refused_by, step_of, stepped_of, found_number, found_place, FoundIs};
 
@@ -6,7 +8,7 @@ use log_line::{Act, Line};
 use log_rules::Reading;
 
 // The place of the next line, and the open loops: how many, where each body begins, and the turns that are left behind this one.
-#[derive(Drop)]
+#[derive(Clone, Copy)]
 pub struct Cursor {
     pub at: usize,
     pub depth: usize,
@@ -15,7 +17,7 @@ pub struct Cursor {
 }
 
 // What a step finds: an act; nothing, the cursor has moved; the log's end; or a refusal's number and place.
-#[derive(Drop)]
+#[derive(Clone, Copy)]
 pub enum Given {
     Act(Act),
     Moved,
@@ -24,7 +26,7 @@ pub enum Given {
 }
 
 // What a step finds, and the next cursor. At the end and where refused it is the cursor as it was.
-#[derive(Drop)]
+#[derive(Clone, Copy)]
 pub struct Stepped {
     pub found: Given,
     pub cursor: Cursor,

@@ -1,4 +1,6 @@
 // One line of a log at fault: by which number, and at which of its bytes.
+#![tactic(auto)]
+
 ghost use Rattle.std.specs.Prelude.{◌≡◌, take};
 ghost use Rattle.arith.specs.Pick.{pick};
 ghost use Rattle.log_fault.specs.Allowed.{keys_of};
@@ -10,7 +12,7 @@ use log_line::Line;
 
 // Where a line stands: first; behind the first, with so many loops open; or alone, behind the first with no depth known. Behind the first: whether it
 // is the second.
-#[derive(Drop)]
+#[derive(Clone, Copy)]
 pub enum Stand {
     First,
     Among(bool, u64),
@@ -18,7 +20,7 @@ pub enum Stand {
 }
 
 // What a line comes to as a whole: right; at fault at its start, by 4, 7 or 8; or to be looked at byte by byte.
-#[derive(Drop)]
+#[derive(Clone, Copy)]
 pub enum Whole {
     Fine,
     Start(u8),
@@ -26,7 +28,7 @@ pub enum Whole {
 }
 
 // What is found of a line: that it is right, and what it says; or the number of its fault, and the byte of it at which that is.
-#[derive(Drop)]
+#[derive(Clone, Copy)]
 pub enum Spotted {
     Right(Line),
     Wrong(u8, usize),

@@ -1,4 +1,6 @@
 // A log with copies of lines folded into loops.
+#![tactic(auto)]
+
 ghost use Rattle.std.specs.Prelude.{◌≡◌, ◌+◌, ◌*◌, ◌-◌, ◌≤◌, ◌<◌, length, take};
 ghost use Rattle.text_print.specs.Printed.{Put};
 ghost use Rattle.log_rules.specs.Head.{start_of};
@@ -18,7 +20,7 @@ use log_writer::put_line;
 use text_print::{fixed, width};
 
 // The answer: 0 and the folded log's length, or a refusal's number and place.
-#[derive(Drop)]
+#[derive(Clone, Copy)]
 pub struct Folded {
     pub number: u8,
     pub place: usize,
@@ -27,7 +29,7 @@ pub struct Folded {
 
 // What is done at a line outside all loops: the bytes up to `until` are copied, as the body of a loop of `count` turns, or with 0 as they are;
 // then it goes on at `next`.
-#[derive(Drop)]
+#[derive(Clone, Copy)]
 struct Move {
     pub count: u8,
     pub until: usize,

@@ -38,6 +38,7 @@ onward_nothing = record { start = refl; sound = sound; complete = complete }
 
     complete : (s rest : List ℕ) → Nothing (s ++ rest) → nothing s ≡ true
     complete [] rest none = refl
+    complete (_ ∷ _) rest x3 = elim x3 [ ]
 
 -- a decimal and its line feed
 
@@ -134,6 +135,7 @@ module _ (P : List ℕ → Type 0) where
       let r = met_behind key t (both_right (not (eqb f 35)) (plain key) e) m in
       let same = suits_is f c (both_left (not (eqb f 35)) (plain key) e) q in
       record { tail = r.tail; is = ap (λ (x : ℕ). x ∷ t) same ∙ ap (λ (x : List ℕ). f ∷ x) r.is; holds = r.holds }
+  met_behind (f ∷ key) [] e m = elim m [ ]
 
   pub behind_met : (key t : List ℕ) → plain key ≡ true → P t → Met key P (key ++ t)
   unfolding plain

@@ -1,4 +1,6 @@
 // How far the bytes of a line go along a form: a key, hex digits, a decimal in its range.
+#![tactic(auto)]
+
 ghost use Rattle.std.specs.Prelude.{◌≡◌, ◌+◌, ◌-◌, ◌*◌, ◌≤◌, min, length, drop, ltb, leb};
 ghost use Rattle.arith.specs.Pick.{both};
 ghost use Rattle.text.specs.Decimal.{digit};

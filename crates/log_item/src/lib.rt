@@ -1,4 +1,6 @@
 // Item k of a log, found with no loop unrolled.
+#![tactic(auto)]
+
 ghost use Rattle.std.specs.Prelude.{◌≡◌, ◌≤◌, ◌<◌, length, get_or};
 ghost use Rattle.log_line.specs.declared.Act.TheVariants.{Wait};
 ghost use Rattle.log_rules.specs.Block.{SmallBlock};
@@ -9,14 +11,14 @@ use log_line::{Act, Line};
 use log_rules::{Block, Reading};
 
 // Item k: an act, or a refusal's number and place.
-#[derive(Drop)]
+#[derive(Clone, Copy)]
 pub enum Picked {
     Is(Act),
     Refused(u8, usize),
 }
 
 // Where the search for an act goes from a line: it is here; or it is the r-th of the block at a place and a depth.
-#[derive(Drop)]
+#[derive(Clone, Copy)]
 pub enum Hop {
     Here(Act),
     On(usize, u64, u64),

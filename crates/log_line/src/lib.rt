@@ -1,4 +1,6 @@
 // One line of a log: what it says.
+#![tactic(auto)]
+
 ghost use Rattle.std.specs.Prelude.{◌≡◌};
 ghost use Rattle.text.specs.Hex.{hex};
 ghost use Rattle.text.specs.declared.Number.TheVariants.{Is};
@@ -8,7 +10,7 @@ use bus::Access;
 use text::Number;
 
 // What happens at one turn of a log: a wait of so many clocks, or an access.
-#[derive(Drop)]
+#[derive(Clone, Copy)]
 pub enum Act {
     Wait(u32),
     Access(Access),
@@ -16,7 +18,7 @@ pub enum Act {
 
 // What one whole line says. `NoRegister` is a write of right form to no register (4); `NoForm` a line not of the form, whose number and place go by
 // where it stands (crate log_fault).
-#[derive(Drop)]
+#[derive(Clone, Copy)]
 pub enum Line {
     Header,
     Machine,

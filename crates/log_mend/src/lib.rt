@@ -1,4 +1,6 @@
 // What helps to mend a log that is refused: its totals, and the loop that is open at a place.
+#![tactic(auto)]
+
 ghost use Rattle.std.specs.Prelude.{◌≡◌, ◌-◌, ◌<◌, take};
 ghost use Rattle.arith.specs.Pick.{pick};
 ghost use Rattle.log_rules.specs.Lines.{lines_of};
@@ -12,14 +14,14 @@ use log_read::{line_end, start};
 use log_rules::{Block, Totals};
 
 // The innermost loop that is open at a place: whether there is one, and where its line begins.
-#[derive(Drop)]
+#[derive(Clone, Copy)]
 pub struct Opened {
     pub found: bool,
     pub place: usize,
 }
 
 // How many loops are open, and where the latest line begins that made them so many as are wanted.
-#[derive(Drop)]
+#[derive(Clone, Copy)]
 struct Nest {
     pub depth: usize,
     pub mark: usize,

@@ -1,4 +1,6 @@
 // One line of a log, read at any place.
+#![tactic(auto)]
+
 ghost use Rattle.std.specs.Prelude.{◌≡◌};
 ghost use Rattle.log_rules.specs.Lines.{next_line};
 ghost use Rattle.log_rules.specs.Head.{machine_of, start_of};

@@ -71,6 +71,8 @@ module _ (log : List ℕ) (at d : ℕ) where
   line_on (Stop n) p l (inner z (ends_on k)) b rec = rw k (a_stop l)
   line_on NoForm p l w b rec = tt
   line_on NoRegister p l w b rec = tt
+  line_on Header p l (inner z x9) b rec = elim x9 [ ]
+  line_on Machine p l (inner z x8) b rec = elim x8 [ ]
 
   read_on : (s : Reading) → read_in (standing log at d) log at ≡ s → BegunBehind at (length log) d (begun_by at s)
       → ((p e : ℕ) → at < p → p ≤ length log → Derived log p e (read_block log p e))

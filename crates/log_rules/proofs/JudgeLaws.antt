@@ -110,6 +110,10 @@ module _ (log : List ℕ) (short : length log ≤ 60000) (at d : ℕ) where
       rec (next_line log at) (d + 1) b.0 b.1 ∙ body_told n (read_block log (next_line log at) (d + 1)) b.0 (got_behind log (next_line log at) (d + 1)) (λ p i j. rec p d i j)
   line_told Done (closes-on k) b rec = refl
   line_told (Stop n) (ends_on k) b rec = rw (eq-eqb d 0 k)
+  line_told Rattle.log_line.specs.declared.Line.TheVariants.Header x3 b rec = elim x3 [ ]
+  line_told Machine x4 b rec = elim x4 [ ]
+  line_told Rattle.log_line.specs.declared.Line.TheVariants.NoForm x5 b rec = elim x5 [ ]
+  line_told Rattle.log_line.specs.declared.Line.TheVariants.NoRegister x6 b rec = elim x6 [ ]
 
 -- ONE LINE, JUDGED AND READ
 

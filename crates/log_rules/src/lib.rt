@@ -1,15 +1,17 @@
 // A log judged line by line, and as blocks of lines: definitions and laws, no code.
+#![tactic(auto)]
+
 use log_line::Line;
 
 // What reading one line at a place finds: an item and where the next line begins, or a refusal's number and place.
-#[derive(Drop)]
+#[derive(Clone, Copy)]
 pub enum Reading {
     Item(Line, usize),
     Refused(u8, usize),
 }
 
 // Clocks, turns and items, each cut off just above what a log may have.
-#[derive(Drop)]
+#[derive(Clone, Copy)]
 pub struct Totals {
     pub clocks: u64,
     pub turns: u64,
@@ -18,7 +20,7 @@ pub struct Totals {
 
 // What one line comes to, with the block that it opens: acts, and the place behind them; a `done`, its place and the place behind it; a
 // `stop`, with its number too; or a refusal.
-#[derive(Drop)]
+#[derive(Clone, Copy)]
 pub enum Part {
     Acts(usize, Totals),
     Close(usize, usize),
@@ -27,14 +29,14 @@ pub enum Part {
 }
 
 // What a line says before the block that it opens is read: a loop says how often, and where its body begins.
-#[derive(Drop)]
+#[derive(Clone, Copy)]
 pub enum Step {
     Plain(Part),
     Open(u8, usize),
 }
 
 // What the lines up to a `done` or a `stop` come to: the place of that line, the place behind it, the number of a `stop`, and the totals.
-#[derive(Drop)]
+#[derive(Clone, Copy)]
 pub enum Block {
     Closed(usize, usize, Totals),
     Stopped(usize, usize, u32, Totals),
@@ -42,7 +44,7 @@ pub enum Block {
 }
 
 // The answer of the check: 0, whether the log's machine is PAL, and its totals; or a refusal's number and place.
-#[derive(Drop)]
+#[derive(Clone, Copy)]
 pub struct Checked {
     pub number: u8,
     pub place: usize,

@@ -1,5 +1,7 @@
 // A damaged log repaired into lent bytes, with a list of what was done in lent words. One pass decides line by line; it is made twice, first with
 // nothing lent to it, which measures, so that a refused call writes nothing.
+#![tactic(auto)]
+
 ghost use Rattle.std.specs.Prelude.{◌≡◌, List, [], ◌∷◌, ℕ, ◌+◌, ◌-◌, ◌*◌, ◌≤◌, ◌<◌, ltb, length, take, drop};
 ghost use Rattle.arith.specs.Pick.{pick};
 ghost use Rattle.text_print.specs.Printed.{printed};
@@ -20,7 +22,7 @@ use log_read::line_end;
 use log_salvage_rules::Fate;
 
 // The answer: 0, and the lengths of the repaired log in bytes and of the list in entries; or a refusal's number. The place is 0.
-#[derive(Drop)]
+#[derive(Clone, Copy)]
 pub struct Salvaged {
     pub number: u8,
     pub place: usize,
@@ -30,7 +32,7 @@ pub struct Salvaged {
 
 // How the next line stands: whether it is the new log's second; the loops open; the ninth loops dropped whose `done` is still to come; and whether a
 // `stop` stayed.
-#[derive(Drop)]
+#[derive(Clone, Copy)]
 struct Place {
     pub second: bool,
     pub depth: u64,
@@ -39,7 +41,7 @@ struct Place {
 }
 
 // The totals of what has been kept, and how often the block inside so many loops is done, each cut off just above what a log may have.
-#[derive(Drop)]
+#[derive(Clone, Copy)]
 struct Tally {
     pub often: [u64; 9],
     pub clocks: u64,
@@ -47,14 +49,14 @@ struct Tally {
 }
 
 // What has been written so far: bytes of the new log, and entries of the list.
-#[derive(Drop)]
+#[derive(Clone, Copy)]
 struct Pen {
     pub bytes: usize,
     pub entries: usize,
 }
 
 // How far a pass has come.
-#[derive(Drop)]
+#[derive(Clone, Copy)]
 struct Sifted {
     pub pen: Pen,
     pub place: Place,
@@ -62,7 +64,7 @@ struct Sifted {
 }
 
 // What a pass comes to: what it has written, and whether that is over the totals.
-#[derive(Drop)]
+#[derive(Clone, Copy)]
 struct Passed {
     pub pen: Pen,
     pub heavy: bool,

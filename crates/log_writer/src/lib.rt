@@ -1,4 +1,6 @@
 // Lines of a log, written over lent bytes: one line at a place, and how long it is.
+#![tactic(auto)]
+
 ghost use Rattle.std.specs.Prelude.{◌≡◌, [], ◌∷◌, ◌++◌, ◌+◌, ◌≤◌, length};
 ghost use Rattle.text.specs.Decimal.{decimal_text};
 ghost use Rattle.log_line.specs.Printed.{line_text, act_text, ended};

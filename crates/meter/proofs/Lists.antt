@@ -25,6 +25,7 @@ some_map f (later s) = later (some_map f s)
 pub met : {P Q : ℕ → Type 0} {R : Type 0} {l : List ℕ} → All P l → Some Q l → ((x : ℕ) → P x → Q x → R) → R
 met (and {x} p a) (here q) f = f x p q
 met (and p a) (later s) f = met a s f
+met {P = P} {Q = Q} {R = R} none x5 f = elim x5 [ ]
 
 no : {A : Type 0} → ◌≡◌ {A = Bool} true false → A
 no e = let z : ◌≡◌ {A = ℕ} 0 1 = cc in absurd (omega arith)

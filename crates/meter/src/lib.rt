@@ -1,5 +1,7 @@
 // A meter for a stretch: whether a list of levels is silent, steady or moving, and between which levels. Here over a lent list; over the
 // records of a run in `records`.
+#![tactic(auto)]
+
 ghost use Rattle.std.specs.Prelude.{◌≡◌, [], ◌∷◌, min, max};
 ghost use Rattle.meter.specs.Measure.{meter_number, meter_levels, MeasuredIs, measure_of};
 ghost use Rattle.meter.specs.Meter.{metered_number, values_of, fractions, MeteredIs, in_fractions, meter_of};
@@ -8,7 +10,7 @@ ghost use Rattle.meter.specs.Spans.{span_at, span_over, span_from, told_of, Span
 pub mod records;
 
 // What a list of levels is, in whole levels out of 32,768.
-#[derive(Drop)]
+#[derive(Clone, Copy)]
 pub enum Measured {
     Refused(u8),
     NoLevels,
@@ -19,7 +21,7 @@ pub enum Measured {
 }
 
 // The same, every level as the exact fraction of 32,768.
-#[derive(Drop)]
+#[derive(Clone, Copy)]
 pub enum Metered {
     Refused(u8),
     NoLevels,
@@ -29,7 +31,7 @@ pub enum Metered {
 }
 
 // The lowest and the highest of some levels.
-#[derive(Drop)]
+#[derive(Clone, Copy)]
 pub struct Span {
     pub low: u32,
     pub high: u32,

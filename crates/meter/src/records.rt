@@ -8,7 +8,7 @@ ghost use Rattle.meter.specs.Spans.{span_over, span_from};
 use super::{Measured, Metered, Span};
 
 // The level before the first record, where it counts.
-#[derive(Drop)]
+#[derive(Clone, Copy)]
 pub enum Before {
     Nothing,
     Level(u32),

@@ -1,4 +1,6 @@
 // The meter of what a log sounds like, and of each of its waits, written to standard output.
+#![tactic(auto)]
+
 ghost use Rattle.std.specs.Prelude.{◌≡◌, ◌+◌, ◌≤◌, length};
 ghost use Rattle.text_print.specs.Printed.{Put};
 ghost use Rattle.play_begin.specs.Whole.{play_number};
@@ -11,7 +13,7 @@ use libc::STDOUT_FILENO;
 use play_meter::waits::Next;
 
 // The number of the answer, and whether all that there was to write was written.
-#[derive(Drop)]
+#[derive(Clone, Copy)]
 pub struct Told {
     pub number: u8,
     pub written: bool,

@@ -1,5 +1,7 @@
 // The program for daily work: `perch VERB`, and what the verb asks for. A verb answers whether all that it was to write to standard output was written;
 // where its input can't be read or its words are wrong, that is nothing.
+#![tactic(auto)]
+
 mod check;
 mod dwells;
 mod fold;

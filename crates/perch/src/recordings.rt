@@ -8,7 +8,7 @@ use super::{
 
 // A verb that plays the recording: `why` and `at` with their clock, `vcd` with its window's first clock and its clocks, `wav` with its rate, `meter` with
 // whether each wait is asked for too.
-#[derive(Drop)]
+#[derive(Clone, Copy)]
 pub(crate) enum Played {
     Play,
     Why(u64),
@@ -21,7 +21,7 @@ pub(crate) enum Played {
 }
 
 // A verb about the recording's bytes alone, or one that plays them.
-#[derive(Drop)]
+#[derive(Clone, Copy)]
 pub(crate) enum Asked {
     Check,
     Import,

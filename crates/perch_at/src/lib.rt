@@ -1,4 +1,6 @@
 // What `perch at CLOCK` writes about a log: what is seen of the state there, and each of its fields.
+#![tactic(auto)]
+
 ghost use Rattle.std.specs.Prelude.{◌≡◌};
 ghost use Rattle.text_print.specs.Printed.{printed, placed};
 ghost use Rattle.text_lines.specs.Puts.{Puts};

@@ -1,4 +1,6 @@
 // What `perch dwell` writes about a log.
+#![tactic(auto)]
+
 ghost use Rattle.std.specs.Prelude.{◌≡◌, ◌++◌};
 ghost use Rattle.text.specs.Ascii.{bytes};
 ghost use Rattle.text_print.specs.Printed.{printed, placed};

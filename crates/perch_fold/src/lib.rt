@@ -1,10 +1,12 @@
 // What `perch fold` does with a log.
+#![tactic(auto)]
+
 ghost use Rattle.std.specs.Prelude.{◌≡◌};
 ghost use Rattle.log_fold.specs.Answer.{fold_of, fold_lent};
 ghost use Rattle.perch_fold.specs.Verb.{outcome_of, OutcomeIs};
 
 // What became of a log: a refusal, its number and its place; or the length of the folded log that was written.
-#[derive(Drop)]
+#[derive(Clone, Copy)]
 pub enum Outcome {
     Refused(u8, usize),
     Done(usize),

@@ -1,5 +1,7 @@
 // A whole VGM file brought in as a log for its machine: its header says where the commands begin and how fast the chip's clock goes, and from the
 // commands on it is a stream. The place of a refusal is that in the file.
+#![tactic(auto)]
+
 ghost use Rattle.std.specs.Prelude.{◌≡◌, ◌+◌, ◌≤◌, ◌<◌, length, drop};
 ghost use Rattle.vgm_measure.specs.Import.{import_for, buffer_for};
 ghost use Rattle.vgm_file.specs.Header.{is_pal_file, commands_at};
@@ -12,7 +14,7 @@ use vgm_file::Part;
 use vgm_measure::Imported;
 
 // What became of a file: why it has no command part; a refusal, its number and its place in the file; or the length of the log that was written.
-#[derive(Drop)]
+#[derive(Clone, Copy)]
 pub enum Brought {
     NoVgm,
     Cut,

@@ -1,4 +1,6 @@
 // What `perch meter` writes about a log.
+#![tactic(auto)]
+
 ghost use Rattle.std.specs.Prelude.{◌≡◌};
 ghost use Rattle.text_print.specs.Printed.{printed, placed};
 ghost use Rattle.text_lines.specs.Puts.{Puts};

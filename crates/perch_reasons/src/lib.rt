@@ -1,4 +1,6 @@
 // A refusal's number in words: one table for everything that a person reads.
+#![tactic(auto)]
+
 ghost use Rattle.std.specs.Prelude.{◌≡◌, ◌≤◌, ◌<◌};
 ghost use Rattle.text_print.specs.Printed.{printed, placed};
 ghost use Rattle.perch_reasons.specs.Reasons.{reason_text};

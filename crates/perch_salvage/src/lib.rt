@@ -1,4 +1,6 @@
 // What `perch salvage` does with a damaged log: the repaired log, and a line for each entry of the list.
+#![tactic(auto)]
+
 ghost use Rattle.std.specs.Prelude.{◌≡◌, ◌+◌, ◌≤◌, length};
 ghost use Rattle.text_print.specs.Printed.{printed, placed, Put};
 ghost use Rattle.log_salvage.specs.Answer.{salvage_of, salvage_text, salvage_list};
@@ -8,7 +10,7 @@ ghost use Rattle.perch_reasons.specs.Reasons.{reason_text};
 ghost use Rattle.perch_salvage.specs.Verb.{outcome_of, OutcomeIs, keyed_text, entry_text};
 
 // What became of a log: a refusal, its number and its place; or the length of the repaired log in bytes and of the list in entries.
-#[derive(Drop)]
+#[derive(Clone, Copy)]
 pub enum Outcome {
     Refused(u8, usize),
     Done(usize, usize),

@@ -1,4 +1,6 @@
 // What `perch sheet` is asked for, and what it writes.
+#![tactic(auto)]
+
 mod words;
 
 ghost use Rattle.std.specs.Prelude.{◌≡◌, ◌++◌, length, drop};

@@ -5,7 +5,7 @@ ghost use Rattle.perch_sheet.specs.Words.{args_of, decimal_word};
 use text::Number;
 
 // Level, address and length; or words that aren't of their shape.
-#[derive(Drop)]
+#[derive(Clone, Copy)]
 pub enum Args {
     Right(u32, u32, u32),
     Wrong,

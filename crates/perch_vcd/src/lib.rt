@@ -1,4 +1,6 @@
 // What `perch vcd FROM CLOCKS` writes about a log: a VCD of a window of it.
+#![tactic(auto)]
+
 ghost use Rattle.std.specs.Prelude.{◌≡◌};
 ghost use Rattle.text_print.specs.Printed.{printed, placed};
 ghost use Rattle.text_lines.specs.Puts.{Puts};

@@ -1,6 +1,8 @@
 // What C and Rust call: the operations of the crates `c_..` under C names. A state is bytes lent in place (crate `c_state`), a slice is a
 // pointer and a length, and an answer is one 64-bit number: its number, and above its low byte its value. Bytes that are no state in range are
 // refused, and stay.
+#![tactic(auto)]
+
 ghost use Rattle.std.specs.Prelude.{◌≡◌};
 ghost use Rattle.chip_api.specs.Answer.{access_answer, line_answer, level_answer, clock_answer};
 ghost use Rattle.c_state.specs.Bytes.{state_size, state_in};

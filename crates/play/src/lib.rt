@@ -1,4 +1,6 @@
 // The player: what a log sounds like, as lines of text, in pieces of any size.
+#![tactic(auto)]
+
 ghost use Rattle.std.specs.Prelude.{◌≡◌, true, false, ◌+◌, ◌-◌, ◌≤◌, ◌<◌, length};
 ghost use Rattle.chip.specs.Range.{in_range};
 ghost use Rattle.play.specs.Loop.{answer_of};
@@ -8,7 +10,7 @@ use play_rules::Player;
 use play_step::Taken;
 
 // The answer of `play_on`: the player behind the lines, their bytes, and whether all is over.
-#[derive(Drop)]
+#[derive(Clone, Copy)]
 pub struct Played {
     pub number: u8,
     pub place: usize,
@@ -48,7 +50,7 @@ fn answer(p: Player, t: Taken) -> Played
 }
 
 // Whether the loop goes on: neither over nor refused, 23 bytes left, and fewer than 4,000,010 steps.
-fn goes_on_lem(kind: u8, size: usize, at: usize, count: u32) -> bool
+fn goes_on(kind: u8, size: usize, at: usize, count: u32) -> bool
     ensures { (result ≡ true → (kind ≡ 0) × (at + 23 ≤ size) × (count < 4000010)) × (result ≡ false → kind ≡ 0 → count < 4000010 → size < at + 23) }
 {
     if kind != play_step::ON {
@@ -70,7 +72,7 @@ fn play_lines(p: Player, log: &[u8], memory: &[u8], out: &mut [u8]) -> Played
 {
     let mut t = play_step::outcome(play_step::ON, 0, 0, p, 0);
     let mut count: u32 = 0;
-    while goes_on_lem(t.kind, out.len(), t.at, count) {
+    while goes_on(t.kind, out.len(), t.at, count) {
         let q = t.player;
         let at = t.at;
         t = play_step::step(q, log, memory, out, at);

@@ -1,4 +1,6 @@
 // The state of the chip at a clock of a log.
+#![tactic(auto)]
+
 ghost use Rattle.std.specs.Prelude.{◌≡◌, true, length};
 ghost use Rattle.chip.specs.Range.{in_range, power_on};
 ghost use Rattle.recording.specs.Whole.{machine_of};
@@ -11,7 +13,7 @@ use chip::State;
 use play_walk::{Met, Moment};
 
 // The answer: the clock that was reached, and the state there; refused, a number and its place, clock 0 and the state at power-on (NTSC's).
-#[derive(Drop)]
+#[derive(Clone, Copy)]
 pub struct At {
     pub number: u8,
     pub place: usize,
@@ -20,7 +22,7 @@ pub struct At {
 }
 
 // A moment of a log, and whether it is the one that was asked for.
-#[derive(Drop)]
+#[derive(Clone, Copy)]
 pub struct Stand {
     pub over: bool,
     pub moment: Moment,

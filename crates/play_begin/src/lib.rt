@@ -1,4 +1,6 @@
 // The player at the beginning of a log: what of a log and a sample memory is refused, and where playing begins.
+#![tactic(auto)]
+
 ghost use Rattle.std.specs.Prelude.{◌≡◌, eqb};
 ghost use Rattle.arith.specs.Pick.{pick};
 ghost use Rattle.play_rules.specs.Turns.{fresh_player, ended_player};
@@ -7,7 +9,7 @@ ghost use Rattle.play_begin.specs.Whole.{begun_of};
 use play_rules::Player;
 
 // The answer of `begin`.
-#[derive(Drop)]
+#[derive(Clone, Copy)]
 pub struct Begun {
     pub number: u8,
     pub place: usize,

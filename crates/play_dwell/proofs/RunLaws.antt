@@ -54,7 +54,7 @@ module _ (memory : List ℕ) (s : State) (counts : List ℕ) (left : ℕ) (words
     low i = omega (arith, count_most counts i)
 
     plain_number : number memory s (portion left) ≡ 0
-    plain_number = answers.number-none memory s (portion left) long fine (omega arith)
+    plain_number = answers.number_none memory s (portion left) long fine (omega arith)
 
     fine_number : dwell_number memory s counts (portion left) ≡ 0
     fine_number = number_none memory s counts (portion left) plain_number (within_all dwell_limit counts (λ i h. omega (arith, low i)))

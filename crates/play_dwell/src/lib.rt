@@ -1,4 +1,6 @@
 // The dwell table of a whole log: for each value of the DMC level the clocks that it stood there.
+#![tactic(auto)]
+
 ghost use Rattle.std.specs.Prelude.{◌≡◌, true, false, ◌+◌, ◌≤◌, length};
 ghost use Rattle.reading.specs.Counting.{sum};
 ghost use Rattle.chip.specs.Range.{in_range};
@@ -10,7 +12,7 @@ use chip::State;
 use play_walk::Met;
 
 // The answer: the log's clocks, and the 128 counts that they come to; refused, a number and its place, and nothing counted.
-#[derive(Drop)]
+#[derive(Clone, Copy)]
 pub struct Answer {
     pub number: u8,
     pub place: usize,
@@ -19,7 +21,7 @@ pub struct Answer {
 }
 
 // A state of a log, the counts so far, and whether the log is over.
-#[derive(Drop)]
+#[derive(Clone, Copy)]
 pub struct Dwelt {
     pub over: bool,
     pub state: State,

@@ -1,5 +1,7 @@
 // The changes of the two interrupt flags and of the line over a log, one after the other. A wait costs a leap for each change that it brings, two at
 // most, since the line changes only with a flag, and one for its end.
+#![tactic(auto)]
+
 ghost use Rattle.std.specs.Prelude.{◌≡◌, true, ◌≤◌, length};
 ghost use Rattle.chip.specs.Range.{in_range};
 ghost use Rattle.play_walk.specs.Walk.{walk_step};
@@ -13,7 +15,7 @@ use play_walk::{Met, Moment};
 use run_interrupt::{Asked, Rise};
 
 // The frame's flag, the DMC's, and the line.
-#[derive(Drop)]
+#[derive(Clone, Copy)]
 pub struct Flags {
     pub frame: bool,
     pub dmc: bool,
@@ -21,7 +23,7 @@ pub struct Flags {
 }
 
 // A clock of the log, and the flags before and after what happened there.
-#[derive(Drop)]
+#[derive(Clone, Copy)]
 pub struct Change {
     pub time: u64,
     pub before: Flags,
@@ -29,14 +31,14 @@ pub struct Change {
 }
 
 // A moment of a log, and the clocks of its wait that are still to be worked.
-#[derive(Drop)]
+#[derive(Clone, Copy)]
 pub struct Place {
     pub moment: Moment,
     pub left: u32,
 }
 
 // What a step brings: the end, at its clock; nothing; a change; or a refusal's number and place.
-#[derive(Drop)]
+#[derive(Clone, Copy)]
 pub enum Next {
     Over(u64),
     Moved,
@@ -45,7 +47,7 @@ pub enum Next {
 }
 
 // It, and the place behind the step.
-#[derive(Drop)]
+#[derive(Clone, Copy)]
 pub struct Passed {
     pub next: Next,
     pub place: Place,

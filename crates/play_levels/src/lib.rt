@@ -1,4 +1,6 @@
 // The records of a run as level lines, written over lent bytes a word of eight bytes at a time: what a word has behind its text, the next one covers.
+#![tactic(auto)]
+
 ghost use Rattle.std.specs.Prelude.{◌≡◌, [], ◌∷◌, ◌++◌, ℕ, ◌+◌, ◌-◌, ◌*◌, ◌/◌, ◌%◌, ◌≤◌, ltb, length};
 ghost use Rattle.std.proofs.lemmas.List.Edits.{sets};
 ghost use Rattle.arith.specs.Pick.{pick};
@@ -20,7 +22,7 @@ const COLON: u64 = 0x3A;
 const KEY: u64 = 0x3D6C6576656C;
 
 // A time but its last four digits: the clock at which these are 0000, the digits as a word, and how many.
-#[derive(Drop)]
+#[derive(Clone, Copy)]
 pub struct High {
     pub base: u64,
     pub word: u64,

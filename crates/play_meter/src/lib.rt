@@ -1,4 +1,6 @@
 // The meter of what a log sounds like, as a whole; of each of its waits in `waits`.
+#![tactic(auto)]
+
 ghost use Rattle.std.specs.Prelude.{◌≡◌, true, false, ◌≤◌, length};
 ghost use Rattle.chip.specs.Range.{in_range};
 ghost use Rattle.recording.specs.Whole.{machine_of};
@@ -14,7 +16,7 @@ use play_walk::Met;
 pub mod waits;
 
 // The answer: the meter; refused, a number and its place, and no levels.
-#[derive(Drop)]
+#[derive(Clone, Copy)]
 pub struct Answer {
     pub number: u8,
     pub place: usize,
@@ -22,7 +24,7 @@ pub struct Answer {
 }
 
 // A state of a log, the lowest and the highest level so far, and whether the log is over.
-#[derive(Drop)]
+#[derive(Clone, Copy)]
 pub struct Heard {
     pub over: bool,
     pub state: State,

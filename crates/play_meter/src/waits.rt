@@ -8,7 +8,7 @@ use meter::Measured;
 use play_walk::{Met, Moment};
 
 // What a step brings: the end; nothing; a wait, the clock at which it begins, its clocks and its meter; or a refusal's number and place.
-#[derive(Drop)]
+#[derive(Clone, Copy)]
 pub enum Next {
     Over,
     Moved,
@@ -17,7 +17,7 @@ pub enum Next {
 }
 
 // It, and the moment behind the step.
-#[derive(Drop)]
+#[derive(Clone, Copy)]
 pub struct Passed {
     pub next: Next,
     pub moment: Moment,

@@ -1,4 +1,6 @@
 // The player as a teller that says lines: definitions and laws, no code but its phases.
+#![tactic(auto)]
+
 use chip::State;
 use recording_cursor::Cursor;
 
@@ -13,7 +15,7 @@ pub const OVER: u8 = 3;
 
 // How far the playing of a log is: its phase, what is left of a wait, the clocks since the log's start, the last level written, the chip and the
 // place in the log.
-#[derive(Drop)]
+#[derive(Clone, Copy)]
 pub struct Player {
     pub phase: u8,
     pub wait: u32,

@@ -1,4 +1,6 @@
 // A log as sound, step by step: the samples of its clocks, exact to the clock, as two bytes each in lent memory.
+#![tactic(auto)]
+
 ghost use Rattle.std.specs.Prelude.{◌≡◌, true, ◌+◌, ◌-◌, ◌*◌, ◌/◌, ◌≤◌, ◌<◌, leb, length};
 ghost use Rattle.std.proofs.lemmas.List.Edits.{sets};
 ghost use Rattle.arith.specs.Iterate.{iterate};
@@ -22,7 +24,7 @@ use play_walk::{Met, Moment};
 use wav_sample::Sampler;
 
 // A moment of a log, the clocks of its wait that are still to be worked, the sample under way, and its levels so far added up.
-#[derive(Drop)]
+#[derive(Clone, Copy)]
 pub struct Place {
     pub moment: Moment,
     pub left: u32,
@@ -31,7 +33,7 @@ pub struct Place {
 }
 
 // What a step brings: the end; nothing; so many samples; or a refusal's number and place.
-#[derive(Drop)]
+#[derive(Clone, Copy)]
 pub enum Next {
     Over,
     Moved,
@@ -40,7 +42,7 @@ pub enum Next {
 }
 
 // It, and the place behind the step.
-#[derive(Drop)]
+#[derive(Clone, Copy)]
 pub struct Passed {
     pub next: Next,
     pub place: Place,
@@ -48,7 +50,7 @@ pub struct Passed {
 
 // How samples follow each other on a machine at a rate: f / rate, the clocks that each has at least; f % rate, what is left over with each; and what that lacks of
 // the rate, with which a clock more would be full.
-#[derive(Drop)]
+#[derive(Clone, Copy)]
 struct Pace {
     pal: bool,
     rate: u32,
@@ -59,7 +61,7 @@ struct Pace {
 
 // Between two records: the place behind the samples written, the clocks that the sample under way still lacks, those it has in all, its levels so far added up,
 // and what is left over by its end: the end, times the rate, is so much below its number + 1, times f.
-#[derive(Drop)]
+#[derive(Clone, Copy)]
 struct Pen {
     place: usize,
     left: u32,
@@ -69,14 +71,14 @@ struct Pen {
 }
 
 // The place behind samples written, and the sampler then.
-#[derive(Drop)]
+#[derive(Clone, Copy)]
 struct Written {
     place: usize,
     sampler: Sampler,
 }
 
 // The clocks worked, the state behind them, the place behind their samples, and the sampler then.
-#[derive(Drop)]
+#[derive(Clone, Copy)]
 struct Worked {
     done: u32,
     state: State,
@@ -503,7 +505,7 @@ fn sample_refusal(p: Place, rate: u32) -> u8
     if !wav_sample::rate_right(rate) {
         return 33;
     }
-    if !wav_sample::in_order_lem(a, s.pal, rate) {
+    if !wav_sample::in_order(a, s.pal, rate) {
         return 2;
     }
     0

@@ -1,4 +1,6 @@
 // What the player's programs share: a log played to standard output.
+#![tactic(auto)]
+
 ghost use Rattle.std.specs.Prelude.{◌≡◌, ◌≤◌, length};
 ghost use Rattle.recording.specs.Whole.{machine_of};
 ghost use Rattle.play_text.specs.Entries.{refusal_text};

@@ -1,4 +1,6 @@
 // A step of the player over lent bytes: a turn's line, or a portion of a wait as lines.
+#![tactic(auto)]
+
 ghost use Rattle.std.specs.Prelude.{◌≡◌, true, ◌+◌, ◌-◌, ◌*◌, ◌/◌, ◌≤◌, ◌<◌, length, get_or};
 ghost use Rattle.std.proofs.lemmas.List.Edits.{sets};
 ghost use Rattle.chip.specs.Range.{in_range};
@@ -17,7 +19,7 @@ pub const OVER: u8 = 1;
 pub const REFUSED: u8 = 2;
 
 // What a step comes to: its kind, a refusal's number and place, the player and the bytes written.
-#[derive(Drop)]
+#[derive(Clone, Copy)]
 pub struct Taken {
     pub kind: u8,
     pub number: u8,

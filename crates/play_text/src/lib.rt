@@ -1,4 +1,6 @@
 // The lines of what is played, written over lent bytes.
+#![tactic(auto)]
+
 ghost use Rattle.std.specs.Prelude.{◌≡◌, ◌+◌, ◌*◌, ◌/◌, ◌≤◌, leb, length};
 ghost use Rattle.std.proofs.lemmas.List.Edits.{sets};
 ghost use Rattle.text_print.specs.Printed.{printed, placed};
@@ -6,7 +8,7 @@ ghost use Rattle.play_text.specs.Entries.{entry_text, refusal_text};
 ghost use Rattle.play_text.specs.Lines.{Lined, lines_in, lines_end};
 
 // A line of what is played: `play=1`; a level or a status byte with its time; `stop` with its time.
-#[derive(Drop)]
+#[derive(Clone, Copy)]
 pub enum Entry {
     Play,
     Level(u32, u16),

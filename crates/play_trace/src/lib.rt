@@ -1,5 +1,7 @@
 // A window of a log, event by event: what is seen where it begins, each change and each access in it, and where it ends. The way to the window is leapt over;
 // in it every clock is worked.
+#![tactic(auto)]
+
 ghost use Rattle.std.specs.Prelude.{◌≡◌, true, false, ◌+◌, ◌-◌, ◌≤◌, ◌<◌, min, length};
 ghost use Rattle.arith.specs.Iterate.{iterate};
 ghost use Rattle.chip.specs.Clock.{chip_clock};
@@ -15,7 +17,7 @@ use chip_seen::Seen;
 use play_walk::{Met, Moment};
 
 // What an access shows on the bus: its register, the value written or read, and 1 for a read.
-#[derive(Drop)]
+#[derive(Clone, Copy)]
 pub struct Bus {
     pub register: u16,
     pub value: u8,
@@ -23,7 +25,7 @@ pub struct Bus {
 }
 
 // A moment of a trace: its nanoseconds, its clock, and what is seen then.
-#[derive(Drop)]
+#[derive(Clone, Copy)]
 pub struct Point {
     pub time: u64,
     pub clock: u64,
@@ -31,7 +33,7 @@ pub struct Point {
 }
 
 // What is shown: where the window begins; a clock after which something seen differs from before; an access, with what was seen before it.
-#[derive(Drop)]
+#[derive(Clone, Copy)]
 pub enum Event {
     Begins(Point),
     Clocked(Seen, Point),
@@ -40,7 +42,7 @@ pub enum Event {
 
 // A moment of a log, the clocks of its wait that are still to be worked, the accesses done at its clock (at most 500 are counted), and whether the window
 // has begun.
-#[derive(Drop)]
+#[derive(Clone, Copy)]
 pub struct Place {
     pub moment: Moment,
     pub left: u32,
@@ -49,7 +51,7 @@ pub struct Place {
 }
 
 // What a step brings: the end, at its nanoseconds; nothing; an event; or a refusal's number and place.
-#[derive(Drop)]
+#[derive(Clone, Copy)]
 pub enum Next {
     Over(u64),
     Moved,
@@ -58,14 +60,14 @@ pub enum Next {
 }
 
 // It, and the place behind the step.
-#[derive(Drop)]
+#[derive(Clone, Copy)]
 pub struct Passed {
     pub next: Next,
     pub place: Place,
 }
 
 // Clocks worked one by one: how many, and the state behind them.
-#[derive(Drop)]
+#[derive(Clone, Copy)]
 struct Span {
     clocks: u32,
     state: State,

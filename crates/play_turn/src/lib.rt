@@ -1,4 +1,6 @@
 // The turns of a player that waits for nothing: the opening lines, the log's next line, the end.
+#![tactic(auto)]
+
 ghost use Rattle.std.specs.Prelude.{◌≡◌, eqb};
 ghost use Rattle.arith.specs.Pick.{pick};
 ghost use Rattle.reading.specs.Saying.{says};
@@ -14,7 +16,7 @@ use play_text::Entry;
 use recording_cursor::Cursor;
 
 // What a turn says: that all is over; nothing; a line; or a refusal's number and place.
-#[derive(Drop)]
+#[derive(Clone, Copy)]
 pub enum Told {
     Over,
     On,
@@ -23,7 +25,7 @@ pub enum Told {
 }
 
 // What a turn says, and the player behind it.
-#[derive(Drop)]
+#[derive(Clone, Copy)]
 pub struct Went {
     pub told: Told,
     pub player: Player,

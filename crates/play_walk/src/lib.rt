@@ -1,5 +1,7 @@
 // The walk of a log, act by act: a moment by value, and a step that meets an access, which it does, a wait, which is left to the caller, the end, or a
 // refusal. Everything that goes through a log goes by it.
+#![tactic(auto)]
+
 ghost use Rattle.std.specs.Prelude.{◌≡◌, true, ◌≤◌, length};
 ghost use Rattle.arith.specs.Iterate.{iterate};
 ghost use Rattle.chip.specs.Clock.{chip_clock};
@@ -14,7 +16,7 @@ use log_line::Act;
 use recording_cursor::Cursor;
 
 // A moment of a log: the place in it, the state there, and the clocks done.
-#[derive(Drop)]
+#[derive(Clone, Copy)]
 pub struct Moment {
     pub cursor: Cursor,
     pub state: State,
@@ -23,7 +25,7 @@ pub struct Moment {
 
 // What a step meets: nothing, the place moved; an access, with the level before it and after it; a wait, its clocks; the log's end; or a refusal's
 // number and place.
-#[derive(Drop)]
+#[derive(Clone, Copy)]
 pub enum Met {
     Moved,
     Access(Access, u16, u16),
@@ -33,7 +35,7 @@ pub enum Met {
 }
 
 // It, and the moment behind the step: an access has acted, a wait's clocks are still to be worked.
-#[derive(Drop)]
+#[derive(Clone, Copy)]
 pub struct Walked {
     pub met: Met,
     pub moment: Moment,

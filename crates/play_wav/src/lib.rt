@@ -1,4 +1,6 @@
 // A log as a WAV file, in pieces of any size.
+#![tactic(auto)]
+
 ghost use Rattle.std.specs.Prelude.{◌≡◌, false, ◌+◌, ◌*◌, ◌≤◌, ◌<◌, eqb, leb, length};
 ghost use Rattle.arith.specs.Pick.{pick};
 ghost use Rattle.wav_rules.specs.Turns.{wav_of, wav_start};
@@ -11,7 +13,7 @@ use play_samples::{Next, Place};
 use wav_rules::Wav;
 
 // The answer of `begin`: the bytes of the whole file, and the file at its beginning.
-#[derive(Drop)]
+#[derive(Clone, Copy)]
 pub struct Begun {
     pub number: u8,
     pub place: usize,
@@ -20,7 +22,7 @@ pub struct Begun {
 }
 
 // The answer of `wav_on`: the file behind the bytes written, how many they are, and whether all is over.
-#[derive(Drop)]
+#[derive(Clone, Copy)]
 pub struct Sounded {
     pub number: u8,
     pub place: usize,
@@ -30,7 +32,7 @@ pub struct Sounded {
 }
 
 // Between two steps: what the last one brought, the place in the log, and the bytes written.
-#[derive(Drop)]
+#[derive(Clone, Copy)]
 struct Taken {
     next: Next,
     place: Place,
@@ -120,7 +122,7 @@ fn has_room(at: usize, size: usize) -> bool
 }
 
 // Whether the loop goes on: neither over nor refused, two bytes left, and fewer than 4,000,010 steps.
-fn goes_on_lem(t: Taken, size: usize, count: u32) -> bool
+fn goes_on(t: Taken, size: usize, count: u32) -> bool
     ensures { result ≡ goes_on t size count }
 {
     let n = t.next;
@@ -168,7 +170,7 @@ fn samples_on(w: Wav, log: &[u8], memory: &[u8], out: &mut [u8]) -> Sounded
     let p = w.place;
     let mut t = taken_of(Next::Moved, p, 0);
     let mut count: u32 = 0;
-    while goes_on_lem(t, out.len(), count) {
+    while goes_on(t, out.len(), count) {
         t = step_on(t, log, memory, w.rate, out);
         count += 1;
     }

@@ -2,6 +2,8 @@
 // error, and nothing is written; so is a write that fails.
 
 // A byte more than the memory has, so that a longer one is seen. Whether all that is to be written was.
+#![tactic(auto)]
+
 fn play(log: &[u8]) -> bool {
     let mut memory = [0u8; 32769];
     let r = program_io::read_sample(b"player", &mut memory);

@@ -1,4 +1,6 @@
 // Bytes read to their end, a failed read told from the end; bytes written, and whether all of them were; what a program reads, and says where it can't.
+#![tactic(auto)]
+
 ghost use Rattle.std.specs.Prelude.{◌≡◌, not, ◌+◌, ◌≤◌, length};
 ghost use Rattle.std.proofs.Math.Seq.{paste};
 ghost use Rattle.io.specs.Counts.{IsPrefixLen};
@@ -9,7 +11,7 @@ ghost use Rattle.program_io.specs.Reads.{got as Reads·got};
 use libc::{STDERR_FILENO, STDIN_FILENO};
 
 // How many bytes were read, and whether a read failed behind them.
-#[derive(Drop)]
+#[derive(Clone, Copy)]
 pub struct Input {
     pub count: usize,
     pub failed: bool,

@@ -62,9 +62,9 @@ log_of pal s room b i =
     let l = i.said in
     let w = i.weight in
     let t = tree_for pal l in
-    let ti = import.text-is pal l in
-    let p = printed pal t (import.tree-within pal l (import.said-sound s b l i.is)) (omega (arith, w.clocks, import.tree-clocks pal l)) w.turns (omega (arith, w.short, ap length ti)) in
-    let same : text_of pal (stream_of s) ≡ log_text pal t (clocks t) = ap (text_of pal) i.is ∙ (import.text-ended pal l ∙ ti) in
+    let ti = import.text_is pal l in
+    let p = printed pal t (import.tree_within pal l (import.said_sound s b l i.is)) (omega (arith, w.clocks, import.tree_clocks pal l)) w.turns (omega (arith, w.short, ap length ti)) in
+    let same : text_of pal (stream_of s) ≡ log_text pal t (clocks t) = ap (text_of pal) i.is ∙ (import.text_ended pal l ∙ ti) in
     let n = passing_log (log_text pal t (clocks t)) (ap (λ (c : Checked). c.number) p.0) in
     rw same (record {
       machine = log_machine (log_text pal t (clocks t)) n ∙ p.2;
@@ -103,7 +103,7 @@ module _ (b : List ℕ) (p room : ℕ) (f : is_file b ≡ true) (e : commands_at
         said = i.said;
         is = says;
         tree = stands_for;
-        in_clocks = rw stands_for (omega (arith, w.clocks, import.tree-clocks (is_pal_file b) i.said));
+        in_clocks = rw stands_for (omega (arith, w.clocks, import.tree_clocks (is_pal_file b) i.said));
         in_turns = rw stands_for w.turns;
       }
 

@@ -29,7 +29,7 @@ module _ (b : List ℕ) (e : is_file b ≡ false) where
   unfolding tree_of
   log_tree = pick_false (is_file b) _ _ e
 
-  pub log_check : check_of b ≡ whole.checkOf b
+  pub log_check : check_of b ≡ whole.check_of b
   unfolding check_of
   log_check = pick_false (is_file b) _ _ e
 
@@ -73,7 +73,7 @@ unfolding is_file log_text
 text_apart m t n = rw (head_apart m (text t ++ line_text (Stop n)))
 
 -- a log that passes the log's check is no file
-pub passing_log : (b : List ℕ) → (whole.checkOf b).number ≡ 0 → is_file b ≡ false
+pub passing_log : (b : List ℕ) → (whole.check_of b).number ≡ 0 → is_file b ≡ false
 passing_log b h = ap is_file (stands b h).is_text ∙ text_apart _ _ _
 
 -- WHAT STANDS BEHIND A LINE FEED DOES NOT MATTER, as a key has none

@@ -32,9 +32,9 @@ pub record Limited (c : Checked) : Type 0 where
 refusal_in : (k p : ℕ) → k ≤ 36 → p ≤ 524288 → Limited (check_refusal k p)
 refusal_in k p n h = record { number = n; place = h; clocks = omega arith }
 
-log_in : (b : List ℕ) → Limited (whole.checkOf b)
+log_in : (b : List ℕ) → Limited (whole.check_of b)
 log_in b =
-    let l = log.check-limits b in
+    let l = log.check_limits b in
     record { number = (let h = l.number in omega arith); place = (let h = l.place in omega arith); clocks = l.clocks }
 
 -- a file of so many bytes at most

@@ -117,7 +117,7 @@ module _ (b : List ℕ) (p : FilePasses b) where
   file_stream = p.is
 
   pub file_clocks : clocks_for (is_pal_file b) p.said ≤ 2000000000
-  file_clocks = omega (arith, p.in_clocks, ap clocks p.tree, import.tree-clocks (is_pal_file b) p.said)
+  file_clocks = omega (arith, p.in_clocks, ap clocks p.tree, import.tree_clocks (is_pal_file b) p.said)
 
   pub file_acts : length (acts (file_tree b)) ≤ 1000000
   file_acts = rw p.tree (omega (arith, p.in_turns, ap turns p.tree, tree_items (is_pal_file b) p.said))
@@ -140,7 +140,7 @@ file_within : (b : List ℕ) → is_file b ≡ true → FilePasses b → Within 
 unfolding stream_in
 file_within b e p =
     let s = drop (start_of b) b in
-    rw p.tree (import.tree-within (is_pal_file b) p.said (import.said-sound s (bytes_of s (bytes_drop (start_of b) b (file_bytes_lem b e))) p.said p.is))
+    rw p.tree (import.tree_within (is_pal_file b) p.said (import.said_sound s (bytes_of s (bytes_drop (start_of b) b (file_bytes_lem b e))) p.said p.is))
 
 -- A RECORDING THAT PASSES
 

@@ -79,4 +79,4 @@ unfoldable pub tree_of : List ℕ → Tree
 tree_of b = pick (is_file b) (file_tree b) (whole.tree_of b)
 
 unfoldable pub check_of : List ℕ → Checked
-check_of b = pick (is_file b) (file_check b) (whole.checkOf b)
+check_of b = pick (is_file b) (file_check b) (whole.check_of b)

@@ -1,4 +1,6 @@
 // A recording: what a player is lent, a log or a VGM file.
+#![tactic(auto)]
+
 ghost use Rattle.std.specs.Prelude.{◌≡◌, ◌+◌, ◌≤◌, ◌<◌, length, drop};
 ghost use Rattle.log_rules.specs.Whole.{check_refusal};
 ghost use Rattle.vgm_blocks.specs.Blocks.{front_end};

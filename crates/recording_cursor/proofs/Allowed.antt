@@ -171,8 +171,8 @@ file_allowed : (b : List ℕ) → are_bytes b ≡ true → (c : Cursor) → Goes
 unfolding file_step head_step
 file_allowed b e c =
     pick_both GoesAllowed (eqb c.log.at 0) {a = head_step b c}
-    (pick_both GoesAllowed (eqb (start_of b) 0) {a = cursor.go (refused 35 0) c} {b = cursor.go on (cursor.movedBy c (walking.spot_of (start_of b) 0 0))} tt tt)
-    (spot_allowed (machine_of b) b e (cursor.spotAt c))
+    (pick_both GoesAllowed (eqb (start_of b) 0) {a = cursor.go (refused 35 0) c} {b = cursor.go on (cursor.moved_by c (walking.spot_of (start_of b) 0 0))} tt tt)
+    (spot_allowed (machine_of b) b e (cursor.spot_at c))
 
 pub step_allowed : (b : List ℕ) (c : Cursor) → SaysAllowed (step_of b c).said
 unfolding step_of line_step

@@ -85,4 +85,4 @@ cursor_gives b h = by (is_file b) refl
   where
     by : (t : Bool) → is_file b ≡ t → Gives (step_of b) beginning (acts (tree_of b)) 2000002
     by true e = file_gives b e (file_passes b e h)
-    by false e = rw (log_tree b e) (log_gives b e (whole.cursor-gives b (rw (log_check b e) at h)))
+    by false e = rw (log_tree b e) (log_gives b e (whole.cursor_gives b (rw (log_check b e) at h)))

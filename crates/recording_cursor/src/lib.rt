@@ -1,4 +1,6 @@
 // A cursor over a recording: by value, a step at a time, whatever the bytes and whatever the cursor.
+#![tactic(auto)]
+
 ghost use Rattle.std.specs.Prelude.{◌≡◌};
 ghost use Rattle.log_cursor.specs.Stepping.{FoundIs};
 ghost use Rattle.recording_cursor.specs.Stepping.{beginning, line_step, moved_by, head_step, file_step, step_of, stepped_of};
@@ -7,7 +9,7 @@ use log_cursor::Given;
 use vgm_cursor::Spot;
 
 // The place in a log with its open loops, or in a file; of a file also the samples before it, and the clocks that were given as waits.
-#[derive(Drop)]
+#[derive(Clone, Copy)]
 pub struct Cursor {
     pub log: log_cursor::Cursor,
     pub samples: u32,
@@ -15,7 +17,7 @@ pub struct Cursor {
 }
 
 // What a step finds, and the next cursor. At the end and where refused it is the cursor as it was.
-#[derive(Drop)]
+#[derive(Clone, Copy)]
 pub struct Stepped {
     pub found: Given,
     pub cursor: Cursor,

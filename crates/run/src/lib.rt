@@ -12,6 +12,8 @@
 // bring a frame step, is worked as it stands; its record is written where the next stretch begins, which finds that level anyway. The dwell table is settled at
 // the DMC's events and at a stretch's end, since its level stands in between. Only where a count might reach its limit the DMC is walked first (`walk`), for the
 // clocks that no count stops.
+#![tactic(auto)]
+
 ghost use Rattle.std.specs.Prelude.{◌≡◌, true, false, not, ℕ, ◌+◌, ◌-◌, ◌/◌, ◌≤◌, ◌<◌, eqb, ltb, length, get_or};
 ghost use Rattle.arith.specs.Pick.{pick};
 ghost use Rattle.leap_law.specs.Frame.{before_step};
@@ -35,7 +37,7 @@ use run_dwell::Counted;
 use run_loops::Stretch;
 
 // The channels after some events, and the records written so far.
-#[derive(Drop)]
+#[derive(Clone, Copy)]
 pub struct Part {
     pub lags: Lags,
     pub records: u32,

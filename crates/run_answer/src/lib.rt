@@ -1,11 +1,13 @@
 // What a run answers, by the plain reading, and what every run shares: the record's two words, the number, a refusal.
+#![tactic(auto)]
+
 ghost use Rattle.std.specs.Prelude.{◌≡◌};
 ghost use Rattle.run_answer.specs.Run.{number, stored, refusal};
 
 use chip::State;
 
 // A run's answer: its number, the state, the clocks done and the records written.
-#[derive(Drop)]
+#[derive(Clone, Copy)]
 pub struct Ran {
     pub number: u8,
     pub state: State,

@@ -1,5 +1,7 @@
 // The dwell table of request 1: 128 counts beside a run, one for each value of the DMC level. What a run with its table answers, its number and its
 // refusal.
+#![tactic(auto)]
+
 ghost use Rattle.std.specs.Prelude.{◌≡◌};
 ghost use Rattle.run_dwell.specs.Dwell.{counts_within, dwell_number, dwell_refusal};
 
@@ -7,7 +9,7 @@ use chip::State;
 use run_answer::Ran;
 
 // A run's answer with the table it hands back.
-#[derive(Drop)]
+#[derive(Clone, Copy)]
 pub struct Counted {
     pub ran: Ran,
     pub counts: [u32; 128],

@@ -1,5 +1,7 @@
 // When the interrupt line is asserted next, or one of the two flags is set, with no access between. No clock is worked: the frame's flag goes by the
 // clocks to its step, the DMC's by its fetches (crate leap_line).
+#![tactic(auto)]
+
 ghost use Rattle.std.specs.Prelude.{◌≡◌, ◌≤◌};
 ghost use Rattle.run_interrupt.specs.Closed.{until_of, rise_in};
 ghost use Rattle.run_answer.specs.Run.{number as runNumber};
@@ -8,7 +10,7 @@ ghost use Rattle.run_interrupt.specs.Next.{holds, next_interrupt, rise_number, r
 use chip::State;
 
 // What is asked for: the line, the frame's flag, or the DMC's.
-#[derive(Drop)]
+#[derive(Clone, Copy)]
 pub enum Asked {
     Line,
     Frame,
@@ -16,7 +18,7 @@ pub enum Asked {
 }
 
 // The answer: after so many clocks, 0 where it holds now; not within the count; or a refusal's number.
-#[derive(Drop)]
+#[derive(Clone, Copy)]
 pub enum Rise {
     At(u32),
     Never,

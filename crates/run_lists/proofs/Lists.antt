@@ -132,20 +132,20 @@ either memory q s counts words r share = go (is_memory q.memory) (leb q.count 1_
         → Refused counts q s words ⊎ Done memory counts q s words
     go false u v e f g =
         let z = not_ran q.memory s counts q.count words 1 (omega arith)
-        (number_first q.memory s counts q.count 1 (omega arith) (sym (without.number-one q.memory s q.count (eqb-false _ _ e)))) in
+        (number_first q.memory s counts q.count 1 (omega arith) (sym (without.number_one q.memory s q.count (eqb-false _ _ e)))) in
         inl (1, rw e, z.0, z.1)
     go true false v e f g =
         let z = not_ran q.memory s counts q.count words 3 (omega arith)
-        (number_first q.memory s counts q.count 3 (omega arith) (sym (without.number-three q.memory s q.count (eqb-true _ _ e) (state_back s r) (leb-false _ _ f)))) in
+        (number_first q.memory s counts q.count 3 (omega arith) (sym (without.number_three q.memory s q.count (eqb-true _ _ e) (state_back s r) (leb-false _ _ f)))) in
         inl (3, rw (e, f), z.0, z.1)
     go true true false e f g =
         let z = not_ran q.memory s counts q.count words 13 (omega arith)
-        (sym (number_thirteen q.memory s counts q.count (without.number-none q.memory s q.count (eqb-true _ _ e) (state_back s r) (leb-true _ _ f)) g)) in
+        (sym (number_thirteen q.memory s counts q.count (without.number_none q.memory s q.count (eqb-true _ _ e) (state_back s r) (leb-true _ _ f)) g)) in
         inl (13, rw (e, f, g), z.0, z.1)
     go true true true e f g =
         let m : q.memory ≡ memory = share (eqb-true _ _ e) (leb-true _ _ f) g in
         let z = ran q.memory s counts q.count words
-        (number_none q.memory s counts q.count (without.number-none q.memory s q.count (eqb-true _ _ e) (state_back s r) (leb-true _ _ f)) g) in
+        (number_none q.memory s counts q.count (without.number_none q.memory s q.count (eqb-true _ _ e) (state_back s r) (leb-true _ _ f)) g) in
         inr (rw (e, f, g), rw (← m) z.0, rw (← m) z.1, dwell_within memory s counts q.count words g ∙ sym g)
 
 -- A RUN AND THE REST OF THE LIST
@@ -290,7 +290,7 @@ pub split : Split
 split memory bytes size s r counts words a b fits = go (counts_within dwell_limit counts) refl
   where
     fine : (count : ℕ) (x : State) → in_range x ≡ true → count ≤ 1_000_000 → number memory x count ≡ 0
-    fine count x h m = without.number-none memory x count size h m
+    fine count x h m = without.number_none memory x count size h m
 
     none : (count : ℕ) → count ≤ 1_000_000 → counts_within dwell_limit counts ≡ false
         → (run_answer memory s counts count words ≡ dwell_refusal 13 s counts) × (run_lent memory s counts count words ≡ words)

@@ -1,4 +1,6 @@
 // A stretch of a run: what working it comes to, what the run's loops hold between two events, and up to where each loop goes.
+#![tactic(auto)]
+
 ghost use Rattle.std.specs.Prelude.{◌≡◌, true, ◌+◌, ◌≤◌, ◌<◌, min, ltb};
 ghost use Rattle.arith.specs.Pick.{both};
 
@@ -6,7 +8,7 @@ use chip::State;
 use leap_stretch::Lags;
 
 // What working a stretch came to: its clocks, or those before an event for whose record there is no room.
-#[derive(Drop)]
+#[derive(Clone, Copy)]
 pub struct Stretch {
     pub state: State,
     pub clocks: u32,

@@ -1,4 +1,6 @@
 // The run that works every clock.
+#![tactic(auto)]
+
 ghost use Rattle.std.specs.Prelude.{◌≡◌, true, ◌+◌, ◌-◌, ◌≤◌, ◌<◌, ltb, eqb, length, get_or};
 ghost use Rattle.arith.specs.Pick.{pick, both};
 ghost use Rattle.arith.specs.Over.{over};
@@ -16,7 +18,7 @@ use run_answer::Ran;
 use run_dwell::Counted;
 
 // What the five channels give.
-#[derive(Drop)]
+#[derive(Clone, Copy)]
 pub struct Given {
     pub square1: u8,
     pub square2: u8,
@@ -26,14 +28,14 @@ pub struct Given {
 }
 
 // What was given, and the level that it is mixed to.
-#[derive(Drop)]
+#[derive(Clone, Copy)]
 pub struct Heard {
     pub given: Given,
     pub level: u16,
 }
 
 // Where a run stands between two clocks: the clocks done, the records written and the level.
-#[derive(Drop)]
+#[derive(Clone, Copy)]
 pub struct Stand {
     pub state: State,
     pub done: u32,

@@ -1,4 +1,6 @@
 // The dwell table along the DMC's changes: what a run holds of it, what a walk for the clocks that no count stops holds, and up to where a level stands.
+#![tactic(auto)]
+
 ghost use Rattle.std.specs.Prelude.{◌≡◌};
 ghost use Rattle.run_walk.specs.Walk.{last_at};
 

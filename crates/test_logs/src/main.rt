@@ -1,4 +1,6 @@
 // What is answered about each log of data/: 000.log, 001.log and so on, up to the first that is not there.
+#![tactic(auto)]
+
 ghost use Rattle.std.specs.Prelude.{◌≤◌};
 
 use bus::Access;
@@ -96,7 +98,7 @@ fn acts(f: log_cursor::Given) -> u64
 }
 
 // Whether a walk goes on behind what a step found.
-fn goes_on_lem(f: log_cursor::Given) -> bool {
+fn goes_on(f: log_cursor::Given) -> bool {
     match f {
         log_cursor::Given::Act(_) => true,
         log_cursor::Given::Moved => true,
@@ -136,7 +138,7 @@ fn walk(log: &[u8], most: u64) {
         let f = s.found;
         steps += 1;
         items += acts(f);
-        if goes_on_lem(f) {
+        if goes_on(f) {
             c = s.cursor;
         } else {
             walked(items, steps, f);

@@ -1,4 +1,6 @@
 // Plays each log of data/: 00.log, 01.log and so on, up to the first that is not there; then the first with memories of other lengths.
+#![tactic(auto)]
+
 use libc::STDOUT_FILENO;
 
 fn text(t: &[u8]) {

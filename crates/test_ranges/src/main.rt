@@ -9,6 +9,8 @@
 //   .            a line feed, and power-on again, of an NTSC machine
 //   "TEXT        the rest of the line is written; #TEXT is a comment, up to the end of the line
 // Channels: 1 and 2 the squares, t triangle, n noise, d DMC, f frame. Units and fields: as the functions below have them.
+#![tactic(auto)]
+
 ghost use Rattle.std.specs.Prelude.{◌≤◌, ◌<◌, length};
 
 use chip::State;

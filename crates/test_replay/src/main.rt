@@ -1,13 +1,15 @@
 // Works the stored cases of data/cases again and writes them with the library's answers; host/compare/README.md has their form. In
 // data/cases every answer is zeros; `stdout` is the same text with the answers of the independent reading in Rust. The program ends at
 // the first line that isn't of the form.
+#![tactic(auto)]
+
 mod acts;
 mod lent;
 mod stored;
 mod written;
 
 // What comes of one line.
-#[derive(Drop)]
+#[derive(Clone, Copy)]
 struct Step {
     // the place behind it; 0 where the text ends here
     at: u32,

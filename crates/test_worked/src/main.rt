@@ -13,6 +13,8 @@
 //   y0          why a channel is silent: CHANNEL:NUMBER/VALUE
 //   ~40c00003   a sheet from level 40, address c000, 03 bytes, in hex: NUMBER: and the levels
 //   "TEXT       the rest of the line is written       #TEXT      a comment, up to the end of the line
+#![tactic(auto)]
+
 ghost use Rattle.std.specs.Prelude.{◌≤◌, ◌<◌, length};
 
 use bus::Access;

@@ -147,6 +147,7 @@ data Leads : List ℕ → Type 0 where
 
 leads_snoc : (s : List ℕ) (d : ℕ) → Leads s → Leads (s ++ (d ∷ []))
 leads_snoc (c ∷ s) d (led h) = led h
+leads_snoc [] d x' = elim x' [ ]
 
 led_digit : (n : ℕ) → 0 < n → Leads ((48 + n) ∷ [])
 led_digit n p = led {c = 48 + n} {s = []} (λ z. more z)
@@ -169,6 +170,7 @@ leads_formed : (s : List ℕ) → Leads s → formed s ≡ true
 unfolding formed
 leads_formed (c ∷ []) (led h) = refl
 leads_formed (c ∷ d ∷ s) (led h) = rw (ne_eqb c 48 h)
+leads_formed [] x' = elim x' [ ]
 
 formed_of : (n : ℕ) → n < 10 ^ 10 → formed (decimal_text n) ≡ true
 unfolding decimal_text digits_of formed

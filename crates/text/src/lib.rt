@@ -1,4 +1,6 @@
 // Text in bytes: keys, decimals and hex, read.
+#![tactic(auto)]
+
 ghost use Rattle.std.specs.Prelude.{◌≡◌, ◌+◌, ◌-◌, ◌≤◌, ◌<◌, length, drop};
 ghost use Rattle.text.specs.Key.{starts_with, exactly};
 ghost use Rattle.text.specs.Numbers.{within, capped};
@@ -6,7 +8,7 @@ ghost use Rattle.text.specs.Decimal.{decimal, digits, digit, formed};
 ghost use Rattle.text.specs.Hex.{hex, hex_digits, hex_digit, hex_value};
 
 // What reading a number finds: the number, or that there is none.
-#[derive(Drop)]
+#[derive(Clone, Copy)]
 pub enum Number {
     Is(u32),
     None,

@@ -1,4 +1,6 @@
 // Lines that programs and people read, written into lent bytes: a key with a number, or with two, and a line feed.
+#![tactic(auto)]
+
 ghost use Rattle.std.specs.Prelude.{◌≡◌, ◌+◌, ◌≤◌, leb, length};
 ghost use Rattle.text_print.specs.Printed.{printed, placed, Put};
 ghost use Rattle.text_lines.specs.Lines.{keyed_line, pair_line, refused_line};

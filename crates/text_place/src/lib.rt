@@ -1,4 +1,6 @@
 // A place of a log for a person to find: its line and column, and its line with a mark below it.
+#![tactic(auto)]
+
 mod place;
 mod shown;
 

@@ -1,4 +1,6 @@
 // A window of a log's clocks, written to standard output as a VCD.
+#![tactic(auto)]
+
 ghost use Rattle.std.specs.Prelude.{◌≡◌, ◌++◌, ◌+◌, ◌≤◌, ◌<◌, length};
 ghost use Rattle.text_print.specs.Printed.{Put};
 ghost use Rattle.play_begin.specs.Whole.{play_number};
@@ -11,7 +13,7 @@ use libc::STDOUT_FILENO;
 use play_trace::Next;
 
 // The number of the answer, and whether all that there was to write was written.
-#[derive(Drop)]
+#[derive(Clone, Copy)]
 pub struct Told {
     pub number: u8,
     pub written: bool,

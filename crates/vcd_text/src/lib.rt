@@ -1,4 +1,6 @@
 // The lines of a VCD, written into lent bytes: a time, and the value of a variable by its one-letter code.
+#![tactic(auto)]
+
 ghost use Rattle.std.specs.Prelude.{◌≡◌, ◌+◌, ◌%◌, ◌≤◌, ◌∷◌, ◌++◌, length};
 ghost use Rattle.std.proofs.lemmas.List.Edits.{sets};
 ghost use Rattle.text.specs.Ascii.{bytes};

@@ -1,11 +1,13 @@
 // Data blocks in front of the commands of a VGM file: where they end, and the sample memory that they hold.
+#![tactic(auto)]
+
 ghost use Rattle.std.specs.Prelude.{◌≡◌, true, false, ◌+◌, ◌^◌, ◌≤◌, ◌<◌, length, replicate};
 ghost use Rattle.arith.specs.Pick.{pick};
 ghost use Rattle.vgm_blocks.specs.Blocks.{size_at, behind_at, is_block, block_at, front_blocks, front_end, is_sample, is_inside, judged, fill, fill_all, samples_answer, samples_left};
 ghost use Rattle.vgm_blocks.specs.Fault.{is_fault};
 
 // The answer of `samples`: how many sample blocks there are, or a refusal's number and place.
-#[derive(Drop)]
+#[derive(Clone, Copy)]
 pub struct Filled {
     pub number: u8,
     pub place: usize,

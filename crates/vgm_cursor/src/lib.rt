@@ -1,4 +1,6 @@
 // The acts of a VGM file, command by command.
+#![tactic(auto)]
+
 ghost use Rattle.std.specs.Prelude.{◌≡◌, ◌^◌, ◌+◌, ◌<◌};
 ghost use Rattle.log_cursor.specs.Stepping.{FoundIs};
 ghost use Rattle.vgm_cursor.specs.Walking.{command_by, command_at, gap_at, wait_on, move_on, command_step, step_of, stepped_of};
@@ -9,7 +11,7 @@ use log_line::Act;
 use vgm_stream::{Await, Said, Step};
 
 // A command: the end; a fault's number and place; or what it says, and the place behind it.
-#[derive(Drop)]
+#[derive(Clone, Copy)]
 pub enum Read {
     End,
     Fault(u8, usize),
@@ -17,7 +19,7 @@ pub enum Read {
 }
 
 // A place in a file, the samples before it, and the clocks that were given as waits.
-#[derive(Drop)]
+#[derive(Clone, Copy)]
 pub struct Spot {
     pub at: usize,
     pub samples: u32,
@@ -25,7 +27,7 @@ pub struct Spot {
 }
 
 // What a step finds, and the next spot. At the end and where refused it is the spot as it was.
-#[derive(Drop)]
+#[derive(Clone, Copy)]
 pub struct Stepped {
     pub found: Given,
     pub spot: Spot,

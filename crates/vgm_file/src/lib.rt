@@ -1,10 +1,12 @@
 // The header of a VGM file: where its commands begin, and its machine.
+#![tactic(auto)]
+
 ghost use Rattle.std.specs.Prelude.{◌≡◌, ◌≤◌, ◌<◌, get_or};
 ghost use Rattle.vgm_file.specs.Header.{word, data_start, clock_word, clock_in, is_dual, is_pal_file, is_known, commands_at};
 
 // The command part of a file: from where on it stands, or why there is none: it is no VGM file, its header is cut short, its header points out of the file, or
 // it is for two chips.
-#[derive(Drop)]
+#[derive(Clone, Copy)]
 pub enum Part {
     From(usize),
     NoVgm,

@@ -1,5 +1,7 @@
 // The command part of a VGM file, brought in as a log. Two passes over the stream: one measures the log and finds every refusal, so that a
 // refused call writes nothing (`vgm_measure`); the other writes it.
+#![tactic(auto)]
+
 ghost use Rattle.std.specs.Prelude.{◌≡◌, false, [], ◌+◌, ◌-◌, ◌/◌, ◌%◌, ◌≤◌, ◌<◌, length, take};
 ghost use Rattle.std.proofs.lemmas.List.Edits.{sets};
 ghost use Rattle.text_print.specs.Printed.{Put};
@@ -16,7 +18,7 @@ use vgm_measure::Imported;
 use vgm_stream::{Await, Said, Step};
 
 // How far the writing has come: the samples so far, the clock of the last access, and the place of the next line.
-#[derive(Drop)]
+#[derive(Clone, Copy)]
 pub struct Pen {
     pub samples: usize,
     pub clock: usize,

@@ -1,4 +1,6 @@
 // The log that a stream is to be brought in as, measured: its totals and its length, or the refusal. Nothing is written.
+#![tactic(auto)]
+
 ghost use Rattle.std.specs.Prelude.{◌≡◌, [], ◌+◌, ◌-◌, ◌*◌, ◌/◌, ◌%◌, ◌≤◌, ◌<◌, length};
 ghost use Rattle.vgm_stream.specs.Stream.{Stream};
 ghost use Rattle.vgm_stream.specs.Steps.{stopped_at};
@@ -10,7 +12,7 @@ use log_line::{Act, Line};
 use vgm_stream::{Await, Said, Step};
 
 // The answer: number and place of a refusal, or the length of the log that was written.
-#[derive(Drop)]
+#[derive(Clone, Copy)]
 pub struct Imported {
     pub number: u8,
     pub place: usize,
@@ -18,7 +20,7 @@ pub struct Imported {
 }
 
 // The totals of a stream's log, of any length: its clocks and its turns, or number and place of a refusal.
-#[derive(Drop)]
+#[derive(Clone, Copy)]
 pub struct Tally {
     pub number: u8,
     pub place: usize,
@@ -27,14 +29,14 @@ pub struct Tally {
 }
 
 // The same with its bytes.
-#[derive(Drop)]
+#[derive(Clone, Copy)]
 pub struct Sum {
     pub tally: Tally,
     pub length: usize,
 }
 
 // How far the measuring has come: the samples so far, the clock of the last access, and the turns and the bytes of the log so far.
-#[derive(Drop)]
+#[derive(Clone, Copy)]
 pub struct Count {
     pub samples: usize,
     pub clock: usize,

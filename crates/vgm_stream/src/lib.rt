@@ -1,11 +1,13 @@
 // The command part of a VGM file, read byte by byte.
+#![tactic(auto)]
+
 ghost use Rattle.std.specs.Prelude.{◌≡◌, ◌-◌};
 ghost use Rattle.vgm_stream.specs.Stream.{command_of, register_of, byte_step};
 ghost use Rattle.vgm_stream.specs.Steps.{stops_at, awaited};
 
 // What the next byte of a stream is: a command; behind $B4 the register, and then the value for it; behind $61 the low byte of a wait, and then
 // the high byte for it.
-#[derive(Drop)]
+#[derive(Clone, Copy)]
 pub enum Await {
     Command,
     Register,
@@ -15,14 +17,14 @@ pub enum Await {
 }
 
 // What a command says: a wait of so many samples, or a write of a value to a register.
-#[derive(Drop)]
+#[derive(Clone, Copy)]
 pub enum Said {
     Wait(u16),
     Write(u16, u8),
 }
 
 // What a byte brings: the end of the stream; a fault, by its number; what is awaited next; or the last byte of a command, and what that says.
-#[derive(Drop)]
+#[derive(Clone, Copy)]
 pub enum Step {
     End,
     Fault(u8),

@@ -1,4 +1,6 @@
 // Sound from levels: where a sampler stands that is fed the levels, and how many samples clocks have.
+#![tactic(auto)]
+
 ghost use Rattle.std.specs.Prelude.{◌≡◌, true, ◌-◌, ◌*◌, ◌≤◌, leb, ltb};
 ghost use Rattle.arith.specs.Pick.{both};
 ghost use Rattle.wav_sample.specs.Samples.{rate_right, clocks_before, samples_in};
@@ -6,7 +8,7 @@ ghost use Rattle.wav_sample.specs.Sampler.{in_order};
 ghost use Rattle.wav_sample.specs.Closed.{whole_by};
 
 // The clocks done, the sample under way, and its levels so far added up.
-#[derive(Drop)]
+#[derive(Clone, Copy)]
 pub struct Sampler {
     pub clock: u64,
     pub sample: u64,
@@ -74,7 +76,7 @@ fn in_order_at(a: Sampler, pal: bool, rate: u64) -> bool
 }
 
 // Whether a rate is right, and a sampler is one that stands between two clocks of a log.
-pub fn in_order_lem(a: Sampler, pal: bool, rate: u32) -> bool
+pub fn in_order(a: Sampler, pal: bool, rate: u32) -> bool
     ensures { result ≡ both (rate_right rate) (in_order pal rate a) }
 {
     if rate_right(rate) {

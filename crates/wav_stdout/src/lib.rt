@@ -1,4 +1,6 @@
 // A log written to standard output as a WAV file.
+#![tactic(auto)]
+
 ghost use Rattle.std.specs.Prelude.{◌≡◌, ◌≤◌, length};
 ghost use Rattle.wav_rules.specs.Sound.{log_samples, wav_bytes, wav_number};
 ghost use Rattle.wav_rules.specs.Turns.{wav_start};
@@ -9,7 +11,7 @@ use libc::STDOUT_FILENO;
 use wav_rules::Wav;
 
 // The number of the answer, and whether all that there was to write was written.
-#[derive(Drop)]
+#[derive(Clone, Copy)]
 pub struct Told {
     pub number: u8,
     pub written: bool,

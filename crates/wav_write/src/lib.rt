@@ -1,1 +1,2 @@
 // Samples as bytes of a file: definition and laws.
+#![tactic(auto)]

@@ -1,0 +1,13 @@
+use mathlib.Core.Path.{ap, ◌∙◌}
+use mathlib.Core.List.{List}
+use Prim.Native.Nat.{ℕ}
+use lib.ListN.{length}
+use lib.Seq.{paste}
+use Rattle.c_state.specs.Bytes.{dmc_bytes}
+use Rattle.c_state_write.proofs.writer.put_dmc.Goals as goal
+
+pub returns : goal.returns
+unfolding dmc_bytes
+returns c =
+    c.put.ensures
+    ∙ ap (λ (p : List ℕ). paste c.args.b.now c.args.at p (length p)) c.dmc_bytes-part.ensures

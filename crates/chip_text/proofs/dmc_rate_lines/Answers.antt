@@ -1,0 +1,10 @@
+use Rattle.text_lines.proofs.Pieces.{puts_then}
+use Rattle.chip_text.specs.Text.{dmc_rate_lines}
+use Rattle.chip_text.proofs.dmc_rate_lines.Goals as goal
+
+pub returns : goal.returns
+unfolding dmc_rate_lines
+returns c =
+    puts_then _ _ c.flag_line-a.ensures
+    (puts_then _ _ c.flag_line-b.ensures
+    (puts_then _ _ c.byte_line-c.ensures c.word_line.ensures))

@@ -1,0 +1,16 @@
+use native.Mathlib.Omega.{arith}
+use Rattle.text_lines.proofs.Pieces.{front}
+use Rattle.perch_vcd.proofs.Sizes.{head_size}
+use Rattle.perch_vcd.proofs.head.Goals as goal
+
+pub slice_bounds-text-end : goal.slice_bounds-text-end
+slice_bounds-text-end c = (front _ head_size c.head_lines-n.ensures).0
+
+pub slice_bounds-fixed-end : goal.slice_bounds-fixed-end
+slice_bounds-fixed-end c = (front _ head_size c.head_lines-n.ensures).1
+
+pub returns : goal.returns
+returns c = record { value = rw (front _ head_size c.head_lines-n.ensures).2 at c.fixed.ensures.value; out_after = rw (front _ head_size c.head_lines-n.ensures).2 at c.fixed.ensures.out_after }
+
+pub shape_of-out : goal.shape_of-out
+shape_of-out c = omega (arith, c.out-1.given)

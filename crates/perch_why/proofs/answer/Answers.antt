@@ -1,0 +1,12 @@
+use Rattle.text_lines.proofs.Pieces.{front}
+use Rattle.perch_why.proofs.Sizes.{why_size}
+use Rattle.perch_why.proofs.answer.Goals as goal
+
+pub slice_bounds-text-end : goal.slice_bounds-text-end
+slice_bounds-text-end c = let a = c.args in (front _ (why_size a.log.now a.memory.now a.clock) c.whole-n.ensures).0
+
+pub slice_bounds-fixed-end : goal.slice_bounds-fixed-end
+slice_bounds-fixed-end c = let a = c.args in (front _ (why_size a.log.now a.memory.now a.clock) c.whole-n.ensures).1
+
+pub returns : goal.returns
+returns c = let a = c.args in record { value = rw (front _ (why_size a.log.now a.memory.now a.clock) c.whole-n.ensures).2 at c.fixed.ensures.value; out_after = rw (front _ (why_size a.log.now a.memory.now a.clock) c.whole-n.ensures).2 at c.fixed.ensures.out_after }

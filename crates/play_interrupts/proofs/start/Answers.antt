@@ -1,0 +1,4 @@
+use Rattle.play_interrupts.proofs.start.Goals as goal
+
+pub returns : goal.returns
+returns c = rw (c.place_of.ensures, c.start-m.ensures)

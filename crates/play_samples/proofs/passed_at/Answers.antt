@@ -1,0 +1,4 @@
+use Rattle.play_samples.proofs.passed_at.Goals as goal
+
+pub returns : goal.returns
+returns c = rw (c.passed_of.ensures, c.place_of-q.ensures)

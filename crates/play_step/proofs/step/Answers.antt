@@ -1,0 +1,33 @@
+use mathlib.Core.Path.{◌≡◌, ap, ◌∙◌}
+use mathlib.Core.Logic.{⊎_elim}
+use mathlib.Core.Bool.{true}
+use native.Mathlib.Omega.{arith}
+use lib.Dec.{eqb}
+use lib.ListN.{length}
+use borrow.Author.Tests.{eq-eqb, eqb-true, not-false}
+use Rattle.chip.specs.Range.{in_range}
+use Rattle.play_rules.specs.declared.Player.{Player}
+use Rattle.play_step.specs.declared.Taken.{Taken}
+use Rattle.play_step.specs.Steps.{room_for}
+use Rattle.play_step.proofs.TakenLaws.{by_turn, by_wait, wait_kept, taken_player}
+use Rattle.play_step.proofs.step.Goals as goal
+
+pub returns-then-p-ne0 : goal.returns-then-p-ne0
+returns-then-p-ne0 c =
+    let a = c.args in
+    let w = c.wait_step in
+    let i = by_wait a.log.now a.memory.now a.p a.out.now a.at (eq-eqb _ _ c.if-p-eq-ACTING.true) c.if-p-ne0.true w.new.out w.result w.ensures.value w.ensures.out_after in record {
+      value = i.0;
+      out_after = i.1;
+      state_value = λ h. ap (λ (t : Taken). in_range t.player.state) w.ensures.value
+          ∙ wait_kept a.memory.now (λ i. omega (arith, c.type_inv.memory i)) (room_for (length a.out.now) a.at) a.p a.at h;
+    }
+
+pub returns : goal.returns
+returns c =
+    let a = c.args in
+    let t = c.take in
+    let w = c.turn in
+    let z : eqb a.p.phase 2 ≡ true → eqb a.p.wait 0 ≡ true =
+    λ h. ⊎_elim (λ x. not-false _ x.2.left) (λ x. absurd (x.left (eqb-true _ _ h))) c.else-p-eq-ACTING.branch in
+    let i = by_turn a.log.now a.memory.now a.p a.out.now a.at z w.result w.ensures.value t.new.out t.result t.ensures.value t.ensures.out_after in record { value = i.0; out_after = i.1; state_value = λ h. ap (λ (x : Taken). in_range x.player.state) t.ensures.value ∙ (ap (λ (q : Player). in_range q.state) (taken_player a.out.now a.at w.result.told w.result.player) ∙ w.ensures.keeps h) }

@@ -1,0 +1,79 @@
+use native.Mathlib.Omega.{arith}
+use mathlib.Core.Path.{refl, sym, ◌∙◌}
+use Rattle.lines_stdout.proofs.PourLaws.{pours_room}
+use Rattle.vcd_stdout.proofs.StepLaws.{held_start, none_left, Turned, turned, ends_there, cut_there, goes_on_lem}
+use Rattle.vcd_stdout.proofs.pour.Goals as goal
+
+pub loop-left-init : goal.loop-left-init
+loop-left-init c =
+    let a = c.args in
+    let g = c.requires in (
+      refl,
+      omega (arith, g.in_bounds),
+      held_start a.log.now a.memory.now a.from a.until a.out.now _ g.memory_value g.from_lt_until (λ i. omega (arith, c.type_inv.memory i)) c.start-p.ensures,
+    )
+
+pub lines_on-at-requires : goal.lines_on-at-requires
+lines_on-at-requires c = c.loop-left.invariant.1
+
+-- the turn, behind its lines
+turn : (o : goal.After-slice_known-in-loop-left-1)
+    → Turned o.args.log.now o.args.memory.now o.args.from o.args.until o.loop-left.told o.step-w.result.next o.step-w.result.place o.loop-left.left o.lines_on-at.result
+    o.lines_on-at.new.out
+turn o =
+    let a = o.args in
+    let l = o.loop-left in
+    turned a.log.now a.memory.now a.from a.until l.p l.told l.left l.at l.out l.invariant.2 o.step-w.result o.step-w.ensures.value l.invariant.1 _ _ o.lines_on-at.ensures
+
+pub shape_of-out-then-is_over : goal.shape_of-out-then-is_over
+shape_of-out-then-is_over c = omega (arith, c.out-1.given, c.loop-left.invariant.0)
+
+pub returns-then-is_over : goal.returns-then-is_over
+returns-then-is_over c =
+    let a = c.args in
+    let l = c.loop-left in
+    let s = c.step-w.result in
+    let n = c.lines_on-at in
+    ends_there a.log.now a.memory.now a.from a.until l.told s.next s.place l.left n.result n.new.out (turn c.before.before.before.before.before)
+    c.write_front.result (sym c.is_over.ensures ∙ c.if-is_over.true) c.write_front.ensures
+
+pub shape_of-out-then-not-q : goal.shape_of-out-then-not-q
+shape_of-out-then-not-q c = omega (arith, c.out-1.given, c.loop-left.invariant.0)
+
+pub returns-then-not-q : goal.returns-then-not-q
+returns-then-not-q c =
+    let a = c.args in
+    let l = c.loop-left in
+    let s = c.step-w.result in
+    let n = c.lines_on-at in
+    let q = c.pour-q in
+    cut_there a.log.now a.memory.now a.from a.until l.told s.next s.place l.left n.result n.new.out (turn c.before.before.before.before.before.before.before)
+    q.result.at q.result.written q.ensures c.if-not-q.true
+
+pub overflow_sub-left : goal.overflow_sub-left
+overflow_sub-left c = omega (arith, c.loop-left-test.true)
+
+pub loop-left-smaller : goal.loop-left-smaller
+loop-left-smaller c = omega (arith, c.loop-left-test.true)
+
+pub loop-left-preserved : goal.loop-left-preserved
+loop-left-preserved c =
+    let a = c.args in
+    let l = c.loop-left in
+    let s = c.step-w.result in
+    let n = c.lines_on-at in
+    let q = c.pour-q in (
+      omega (arith, c.out-1.given, l.invariant.0),
+      pours_room _ _ 256 q.result.at q.result.written q.ensures (omega (arith, c.out-1.given, l.invariant.1)),
+      goes_on_lem a.log.now a.memory.now a.from a.until l.told s.next s.place l.left n.result n.new.out (turn c.before.before.before.before.before.before.before)
+          q.result.at q.result.written q.ensures c.told_after-told.result c.told_after-told.ensures (sym c.is_over.ensures ∙ c.if-is_over.false) c.if-not-q.false,
+    )
+
+pub shape_of-out : goal.shape_of-out
+shape_of-out c = c.loop-left.invariant.0
+
+pub returns : goal.returns
+returns c =
+    let a = c.args in
+    let l = c.loop-left in
+    absurd (omega (arith, none_left a.log.now a.memory.now a.from a.until _ l.p l.told l.invariant.2.rest l.left l.invariant.2.stands, c.loop-left-test.false))

@@ -1,0 +1,13 @@
+-- The loop's invariant: what is left, judged with the count so far, is the answer; the count is at most the place.
+use Prim.Native.Nat.{◌-◌, ◌≤◌}
+use mathlib.Core.Path.{◌≡◌}
+use lib.ListN.{length}
+use Rattle.vgm_blocks.specs.Blocks.{front_blocks, judged}
+use Rattle.vgm_blocks.proofs.FuelLaws.{rest_of}
+use Rattle.vgm_blocks.proofs.judge.Given as goal
+
+abbrev pub invariant-loop-at : goal.invariant-loop-at
+invariant-loop-at l = (l.at ≤ length l.stream) × (l.n ≤ l.at) × (judged (rest_of l.stream l.at) l.n ≡ judged (front_blocks l.stream) 0)
+
+abbrev pub decreases-loop-at : goal.decreases-loop-at
+decreases-loop-at l = length l.stream - l.at
