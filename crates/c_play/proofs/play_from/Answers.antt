@@ -15,6 +15,6 @@ returns c =
     let l = length-take-le size.result start.text.now (omega (arith, size.ensures)) in
     let fits = played_fits _ _ _ _ _ _ went.ensures in (
       rw (← c.player_in-p.ensures)
-          (played_whole start.log.now start.memory.now _ start.text.now _ size.result went.result (omega (arith, size.ensures)) (λ h. omega (arith, size.ensures)) went.auto.1.1.1.0 went.ensures),
+          (played_whole start.log.now start.memory.now _ start.text.now _ size.result went.result (omega (arith, size.ensures)) (λ h. omega (arith, size.ensures)) went.auto.out went.ensures),
       omega (arith, size.ensures),
     )

@@ -9,4 +9,4 @@ slice_bounds-encode-end-2 c = sym (length-take-le 88 c.args.b.now (omega (arith,
 
 pub returns : goal.returns
 returns c =
-    let went = c.encode in let pair = put_log c.args.c c.args.b.now went.new.b c.requires went.auto.1.0 went.ensures in record { b_after = pair.0; c_len = pair.1 }
+    let went = c.encode in let pair = put_log c.args.c c.args.b.now went.new.b c.requires went.auto.b went.ensures in record { b_after = pair.0; c_len = pair.1 }

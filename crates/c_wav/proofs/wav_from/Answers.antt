@@ -15,6 +15,6 @@ returns c =
     let l = length-take-le size.result start.out.now (omega (arith, size.ensures)) in
     let fits = written_fits _ _ _ _ _ _ went.ensures in (
       rw (← c.wav_in-w.ensures)
-          (written_whole start.log.now start.memory.now _ start.out.now _ size.result went.result (omega (arith, size.ensures)) (λ h. omega (arith, size.ensures)) went.auto.1.1.1.0 went.ensures),
+          (written_whole start.log.now start.memory.now _ start.out.now _ size.result went.result (omega (arith, size.ensures)) (λ h. omega (arith, size.ensures)) went.auto.out went.ensures),
       omega (arith, size.ensures),
     )

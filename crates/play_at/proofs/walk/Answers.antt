@@ -41,4 +41,5 @@ loop-left-preserved c =
 pub returns : goal.returns
 returns c =
     let a = c.args in
-    let l = c.loop-left in let pair = walk_left a.log.now a.memory.now a.clock l.m l.left l.invariant (omega (arith, c.loop-left-test.false)) in record { value = pair.0; state_value = pair.1 }
+    let l = c.loop-left in
+    walk_left a.log.now a.memory.now a.clock l.m l.left l.invariant (omega (arith, c.loop-left-test.false))

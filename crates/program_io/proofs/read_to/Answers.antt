@@ -19,7 +19,7 @@ slice_bounds-read-end-2 c = length-take_of_le _ _ (omega arith)
 whole : (c : goal.After-read-answer) →
     let chunk = c.args.chunk.now in
     length (c.read-answer.new.buf ++ drop c.least_usize-n.result chunk) ≡ length chunk
-whole c = length_front c.args.chunk.now c.read-answer.new.buf c.least_usize-n.result c.read-answer.auto.1.0
+whole c = length_front c.args.chunk.now c.read-answer.new.buf c.least_usize-n.result c.read-answer.auto.buf
 
 -- what the read brought fits where it goes, and is in the chunk
 room : (c : goal.After-read-answer) →

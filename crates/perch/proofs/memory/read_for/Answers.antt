@@ -19,4 +19,4 @@ returns-then-of_blocks-gt0 c =
     let m = c.args.memory.now in
     let went = c.of_blocks in
     let front = length-take-le 32768 m (omega (arith, c.requires)) in
-    counts 32768 (went.new.memory ++ drop 32768 m) (rw length-append (omega (arith, went.auto.1.0, front)))
+    counts 32768 (went.new.memory ++ drop 32768 m) (rw length-append (omega (arith, went.auto.memory, front)))

@@ -19,4 +19,4 @@ returns c =
     (h.ensures.value ∙ rw (w, c.at_level.ensures, c.level.ensures) refl) c.told-told.ensures.value (c.moment_of.ensures ∙ rw w refl)
 
 pub shape_of-words : goal.shape_of-words
-shape_of-words c = c.clocks_on-h.auto.1.1.1.1.0
+shape_of-words c = c.clocks_on-h.auto.words
