@@ -1,4 +1,4 @@
-use borrow.Author.Rules.{length_unmapped, elem_fits_field}
+use borrow.Author.Rules.{elem_Fits}
 use mathlib.Core.Path.{◌∙◌}
 use Prim.Native.Nat.{ℕ}
 use mir.Syntax.{w8, w64}
@@ -30,8 +30,8 @@ player_fits c =
                 record {
                   at = cursor.0.1;
                   depth = cursor.1.0.1;
-                  starts = (length_unmapped ℕ at.starts 8 starts.1.0.1, λ i. (elem_fits_field w64 w64 at.starts starts.0 i starts.1.1 tt).fits);
-                  left = (length_unmapped ℕ at.left 8 left.1.0.1, λ i. (elem_fits_field w8 w8 at.left left.0 i left.1.1 tt).fits);
+                  starts = (starts.1.0.1, λ i. (elem_Fits w64 w64 at.starts starts.0 i starts.1.1 tt).fits);
+                  left = (left.1.0.1, λ i. (elem_Fits w8 w8 at.left left.0 i left.1.1 tt).fits);
                 };
             samples = whole.1.0.1;
             clock = whole.1.1.0.1;

@@ -9,7 +9,8 @@ use Rattle.c_wav.proofs.begin.Goals as goal
 pub returns-then-wav-ne-SIZE : goal.returns-then-wav-ne-SIZE
 returns-then-wav-ne-SIZE c =
     let start = c.args in
-    let n = not_begun start.log.now start.memory.now start.rate start.wav.now c.if-wav-ne-SIZE.true in let pair = rw (c.pack.ensures, c.pick_u8-number.ensures) n in record { value = pair.0; wav_after = pair.1 }
+    let n = not_begun start.log.now start.memory.now start.rate start.wav.now c.if-wav-ne-SIZE.true in
+    rw (c.pack.ensures, c.pick_u8-number.ensures) (record { value = n.0; wav_after = n.1 })
 
 pub overflow_cast-g : goal.overflow_cast-g
 overflow_cast-g c =
