@@ -8,7 +8,6 @@ ghost use Rattle.program_io.specs.Writes.{Writes};
 ghost use Rattle.perch_interrupts.specs.Text.{next_text, head_text, interrupts_text};
 ghost use Rattle.interrupts_stdout.specs.Lines.{passed_text};
 
-use libc::STDOUT_FILENO;
 use play_interrupts::Next;
 
 // The number of the answer, and whether all that there was to write was written.
@@ -27,7 +26,7 @@ fn lines_on(out: &mut [u8], at: usize, n: Next) -> usize
 }
 
 // The changes of a log that passes and its end; whether all of them were written. The loop is counted, so that it ends.
-fn pour(log: &[u8], memory: &[u8], out: &mut [u8]) -> bool
+fn pour(rt: &HostRuntime, log: &[u8], memory: &[u8], out: &mut [u8]) -> bool
     requires memory_value { play_number log.now memory.now ≡ 0 }
     requires in_bounds { 96 ≤ length out.old }
     ensures { Writes (passed_text log.now memory.now) result }
@@ -41,9 +40,9 @@ fn pour(log: &[u8], memory: &[u8], out: &mut [u8]) -> bool
         p = w.place;
         at = lines_on(out, at, n);
         if perch_interrupts::is_over(n) {
-            return program_io::write_front(STDOUT_FILENO, out, at);
+            return program_io::write_front(&mut rt.stdout(), out, at);
         }
-        let q = lines_stdout::pour(out, at, 96);
+        let q = lines_stdout::pour(rt, out, at, 96);
         if !q.written {
             return false;
         }
@@ -53,41 +52,41 @@ fn pour(log: &[u8], memory: &[u8], out: &mut [u8]) -> bool
     false
 }
 
-fn changes(log: &[u8], memory: &[u8]) -> bool
+fn changes(rt: &HostRuntime, log: &[u8], memory: &[u8]) -> bool
     requires { play_number log.now memory.now ≡ 0 }
     ensures { Writes (passed_text log.now memory.now) result }
 {
     let mut out = [0u8; 16384];
-    pour(log, memory, &mut out)
+    pour(rt, log, memory, &mut out)
 }
 
-fn head() -> bool
+fn head(rt: &HostRuntime) -> bool
     ensures { Writes head_text result }
 {
-    program_io::write_all(STDOUT_FILENO, b"interrupts=1\n")
+    program_io::write_all(&mut rt.stdout(), b"interrupts=1\n")
 }
 
 // Writes the changes of a log, or the line of its refusal. How much of that each write takes is the system's affair, and what bytes it sends no contract can say.
-pub fn write(log: &[u8], memory: &[u8]) -> Told
+pub fn write(rt: &HostRuntime, log: &[u8], memory: &[u8]) -> Told
     ensures number_value { result.number ≡ play_number log.now memory.now }
     ensures writes { Writes (interrupts_text log.now memory.now) result.written }
 {
     let b = play_begin::begin(log, memory);
     let number = b.number;
-    if !head() {
+    if !head(rt) {
         return Told {
             number: number,
             written: false,
         };
     }
     if number == 0 {
-        let done = changes(log, memory);
+        let done = changes(rt, log, memory);
         return Told {
             number: 0,
             written: done,
         };
     }
-    let done = lines_stdout::refused(number, b.place);
+    let done = lines_stdout::refused(rt, number, b.place);
     Told {
         number: number,
         written: done,

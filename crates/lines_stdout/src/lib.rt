@@ -6,8 +6,6 @@ ghost use Rattle.text_lines.specs.Lines.{refused_line};
 ghost use Rattle.program_io.specs.Writes.{Writes};
 ghost use Rattle.lines_stdout.specs.Pours.{Pours};
 
-use libc::STDOUT_FILENO;
-
 // The place for what comes next, and whether all that was to be written was.
 #[derive(Clone, Copy)]
 pub struct Place {
@@ -27,21 +25,21 @@ fn has_room(length: usize, at: usize, room: usize) -> bool
 }
 
 // Writes the first `at` bytes of a buffer once there is no room for so many bytes behind them. What bytes a write sends no contract can say.
-pub fn pour(out: &[u8], at: usize, room: usize) -> Place
+pub fn pour(rt: &HostRuntime, out: &[u8], at: usize, room: usize) -> Place
     ensures { Pours out.now at room result.at result.written }
 {
     if has_room(out.len(), at, room) {
         return Place { at, written: true };
     }
-    let written = program_io::write_front(STDOUT_FILENO, out, at);
+    let written = program_io::write_front(&mut rt.stdout(), out, at);
     Place { at: 0, written }
 }
 
 // Writes the line of a refusal; whether all of it was written.
-pub fn refused(number: u8, place: usize) -> bool
+pub fn refused(rt: &HostRuntime, number: u8, place: usize) -> bool
     ensures { Writes (refused_line number place) result }
 {
     let mut out = [0u8; 40];
     let n = text_lines::refused_line(&mut out, 0, number, place);
-    program_io::write_front(STDOUT_FILENO, &out, n)
+    program_io::write_front(&mut rt.stdout(), &out, n)
 }

@@ -9,7 +9,6 @@ ghost use Rattle.perch_meter.specs.Text.{meter_text, next_text};
 ghost use Rattle.meter_stdout.specs.Lines.{each_text};
 ghost use Rattle.meter_stdout.specs.Text.{metered_text};
 
-use libc::STDOUT_FILENO;
 use play_meter::waits::Next;
 
 // The number of the answer, and whether all that there was to write was written.
@@ -20,12 +19,12 @@ pub struct Told {
 }
 
 // The text about the whole log; whether all of it was written. 64 bytes always hold it.
-fn total(log: &[u8], memory: &[u8]) -> bool
+fn total(rt: &HostRuntime, log: &[u8], memory: &[u8]) -> bool
     ensures { Writes (meter_text log.now memory.now) result }
 {
     let mut out = [0u8; 64];
     let n = perch_meter::answer(log, memory, &mut out);
-    program_io::write_front(STDOUT_FILENO, &out, n)
+    program_io::write_front(&mut rt.stdout(), &out, n)
 }
 
 // What there is to write of a step, behind what is still to be written.
@@ -37,7 +36,7 @@ fn line_on(out: &mut [u8], at: usize, n: Next) -> usize
 }
 
 // A line for each wait of a log that passes; whether all of them were written. The loop is counted, so that it ends; no log takes more steps.
-fn pour(log: &[u8], memory: &[u8], out: &mut [u8]) -> bool
+fn pour(rt: &HostRuntime, log: &[u8], memory: &[u8], out: &mut [u8]) -> bool
     requires memory_value { play_number log.now memory.now ≡ 0 }
     requires in_bounds { 64 ≤ length out.old }
     ensures { Writes (each_text log.now memory.now) result }
@@ -51,9 +50,9 @@ fn pour(log: &[u8], memory: &[u8], out: &mut [u8]) -> bool
         m = p.moment;
         at = line_on(out, at, n);
         if perch_meter::is_over(n) {
-            return program_io::write_front(STDOUT_FILENO, out, at);
+            return program_io::write_front(&mut rt.stdout(), out, at);
         }
-        let q = lines_stdout::pour(out, at, 64);
+        let q = lines_stdout::pour(rt, out, at, 64);
         if !q.written {
             return false;
         }
@@ -63,23 +62,23 @@ fn pour(log: &[u8], memory: &[u8], out: &mut [u8]) -> bool
     false
 }
 
-fn waits(log: &[u8], memory: &[u8]) -> bool
+fn waits(rt: &HostRuntime, log: &[u8], memory: &[u8]) -> bool
     requires { play_number log.now memory.now ≡ 0 }
     ensures { Writes (each_text log.now memory.now) result }
 {
     let mut out = [0u8; 16384];
-    pour(log, memory, &mut out)
+    pour(rt, log, memory, &mut out)
 }
 
 // Writes the meter of a log, and of each of its waits where they are asked for; a log that is refused has none. How much of that each write takes is the
 // system's affair, and what bytes it sends no contract can say.
-pub fn write(log: &[u8], memory: &[u8], each: bool) -> Told
+pub fn write(rt: &HostRuntime, log: &[u8], memory: &[u8], each: bool) -> Told
     ensures number_value { result.number ≡ play_number log.now memory.now }
     ensures writes { Writes (metered_text each log.now memory.now) result.written }
 {
     let b = play_begin::begin(log, memory);
     let number = b.number;
-    if !total(log, memory) {
+    if !total(rt, log, memory) {
         return Told {
             number: number,
             written: false,
@@ -92,7 +91,7 @@ pub fn write(log: &[u8], memory: &[u8], each: bool) -> Told
         };
     }
     if each {
-        let done = waits(log, memory);
+        let done = waits(rt, log, memory);
         return Told {
             number: 0,
             written: done,

@@ -10,15 +10,21 @@ use lib.Seq.{paste, paste-zero, drop-paste, length-paste, drop-drop}
 use borrow.Author.Tests.{lt-ltb, le-ltb, eq-eqb, ne_eqb}
 use Rattle.arith.specs.Pick.{both}
 use Rattle.arith.proofs.PickLaws.{both_left, both_right, both_true}
-use Rattle.libc.specs.Io.{Moved}
-use Rattle.io.proofs.Counting.{prefix_len_of_le}
+use Rattle.std.specs.Counts.{IsPrefixLen}
+use Rattle.std.specs.Prelude.{Result, Ok, Err, IfOk}
+use Rattle.std.proofs.lemmas.List.{length-take-le}
+use Rattle.program_io.specs.Answers.{answer_of}
 use Rattle.program_io.specs.Reads.{got, is_failure, is_some, total, last_failed, last_empty, others_some, Reads}
 use Rattle.program_io.specs.Writes.{Writes}
 
+-- a number within a buffer
+pub prefix_len_of_le : (n : ℕ) (xs : List ℕ) → n ≤ length xs → IsPrefixLen n xs
+prefix_len_of_le n xs h = (h, sym (length-take-le n xs h))
+
 -- a call that is handed n bytes moves no more
-pub moved : (n : ℕ) (z : ℤ) → Moved n z → got z ≤ n
-moved n (pos k) h = h
-moved n (negsuc k) h = omega arith
+pub moved : {E : Type 0} (n : ℕ) (r : Result ℕ E) → IfOk r (λ k. k ≤ n) → got (answer_of r) ≤ n
+moved n (Ok k) h = h
+moved n (Err e) h = omega arith
 
 -- one more answer
 pub then : List ℤ → ℤ → List ℤ

@@ -2,7 +2,7 @@
 -- the end of the input, or negative where the read failed.
 use Rattle.std.specs.Prelude.{ℕ, ◌+◌, ◌<◌, ◌≡◌, Bool, true, false, not, List, [], ◌∷◌, eqb, ltb, ℤ, pos, negsuc, length, drop}
 use Rattle.arith.specs.Pick.{both}
-use Rattle.io.specs.Counts.{IsPrefixLen}
+use Rattle.std.specs.Counts.{IsPrefixLen}
 
 -- how many bytes an answer stands for
 abbrev pub got : ℤ → ℕ

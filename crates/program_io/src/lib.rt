@@ -3,12 +3,19 @@
 
 ghost use Rattle.std.specs.Prelude.{◌≡◌, not, ◌+◌, ◌≤◌, length};
 ghost use Rattle.std.proofs.Math.Seq.{paste};
-ghost use Rattle.io.specs.Counts.{IsPrefixLen};
+ghost use Rattle.std.specs.Counts.{IsPrefixLen};
+ghost use Rattle.std.specs.IoError.{raw_os_error};
+ghost use Rattle.program_io.specs.Answers.{answer_of, error_number};
 ghost use Rattle.program_io.specs.Reads.{Reads, FileReads, is_failure, is_missing};
 ghost use Rattle.program_io.specs.Writes.{Writes, FrontWrites};
 ghost use Rattle.program_io.specs.Reads.{got as Reads·got};
 
-use libc::{STDERR_FILENO, STDIN_FILENO};
+use std::io::{Read, Write};
+use std::rt::Files;
+use std::{fs, io};
+
+// The number of the error of a file that isn't there.
+const MISSING: i32 = 2;
 
 // How many bytes were read, and whether a read failed behind them.
 #[derive(Clone, Copy)]
@@ -28,17 +35,23 @@ fn taken(count: usize, failed: bool) -> Input
 }
 
 // How many bytes a read's answer stands for.
-fn got(answer: isize) -> usize
-    ensures { result ≡ Reads·got answer }
+fn got(answer: io::Result<usize>) -> usize
+    ensures { result ≡ Reads·got (answer_of answer) }
 {
-    if answer > 0 { answer as usize } else { 0 }
+    match answer {
+        Ok(n) => n,
+        Err(_) => 0,
+    }
 }
 
 // Whether a read's answer says that it failed.
-fn is_failure(answer: isize) -> bool
-    ensures { result ≡ is_failure answer }
+fn is_failure(answer: io::Result<usize>) -> bool
+    ensures { result ≡ is_failure (answer_of answer) }
 {
-    if answer < 0 { true } else { false }
+    match answer {
+        Ok(_) => false,
+        Err(_) => true,
+    }
 }
 
 // The first n bytes of a chunk, put into a buffer from a place on.
@@ -55,20 +68,25 @@ fn copy(chunk: &[u8], buffer: &mut [u8], at: usize, n: usize)
 }
 
 // One read into a buffer from a place on, and the system's answer. It goes by way of a chunk, since a read may change bytes behind those it brings.
-fn read_to(file: i32, buffer: &mut [u8], at: usize, chunk: &mut [u8]) -> isize
+fn read_to<R: Read>(
+    file: &mut R,
+    buffer: &mut [u8],
+    at: usize,
+    chunk: &mut [u8],
+) -> io::Result<usize>
     requires { at ≤ length buffer.old }
-    ensures result_in_bounds { at + Reads·got result ≤ length buffer.old }
-    ensures result_in_bounds_2 { Reads·got result ≤ length chunk.new }
-    ensures buffer_after { buffer.new ≡ paste buffer.old at chunk.new (Reads·got result) }
+    ensures result_in_bounds { at + Reads·got (answer_of result) ≤ length buffer.old }
+    ensures result_in_bounds_2 { Reads·got (answer_of result) ≤ length chunk.new }
+    ensures buffer_after { buffer.new ≡ paste buffer.old at chunk.new (Reads·got (answer_of result)) }
 {
     let n = arith::least_usize(buffer.len() - at, chunk.len());
-    let answer = libc::read(file, &mut chunk[..n]);
+    let answer = file.read(&mut chunk[..n]);
     copy(chunk, buffer, at, got(answer));
     answer
 }
 
 // Reads by way of a chunk.
-fn read_by(file: i32, buffer: &mut [u8], chunk: &mut [u8]) -> Input
+fn read_by<R: Read>(file: &mut R, buffer: &mut [u8], chunk: &mut [u8]) -> Input
     ensures { Reads buffer.old buffer.new result.count result.failed }
 {
     let mut done = 0;
@@ -84,7 +102,7 @@ fn read_by(file: i32, buffer: &mut [u8], chunk: &mut [u8]) -> Input
 }
 
 // Reads until the buffer is full, the input ends or a read fails; which bytes is the file's affair.
-pub fn read_all(file: i32, buffer: &mut [u8]) -> Input
+pub fn read_all<R: Read>(file: &mut R, buffer: &mut [u8]) -> Input
     ensures prefix_len { IsPrefixLen result.count buffer.new }
     ensures reads { Reads buffer.old buffer.new result.count result.failed }
 {
@@ -96,7 +114,17 @@ pub fn read_all(file: i32, buffer: &mut [u8]) -> Input
 fn is_missing(error: i32) -> bool
     ensures { result ≡ is_missing error }
 {
-    if error == libc::ENOENT { true } else { false }
+    if error == MISSING { true } else { false }
+}
+
+// The number that the system gave an error; 0 where it is none of the system's.
+fn number_of(error: io::Error) -> i32
+    ensures { result ≡ error_number (raw_os_error error) }
+{
+    match error.raw_os_error() {
+        Some(number) => number,
+        None => 0,
+    }
 }
 
 // A file that wasn't opened, by the error's number.
@@ -108,30 +136,35 @@ fn unopened(error: i32) -> Input
     taken(0, !missing)
 }
 
+// A file to be read. A name is text: of other bytes there is none that can be opened.
+fn open<R: Files>(rt: &R, name: &[u8]) -> io::Result<R::File> {
+    match str::from_utf8(name) {
+        Ok(path) => fs::open(rt, path),
+        Err(_) => Err(io::Error::from(io::ErrorKind::InvalidInput)),
+    }
+}
+
 // The bytes of a file. One that isn't there has none, and that is no failure; one that can't be opened for another reason is.
-pub fn read_file(name: &[u8], buffer: &mut [u8]) -> Input
+pub fn read_file<R: Files>(rt: &R, name: &[u8], buffer: &mut [u8]) -> Input
     ensures prefix_len { IsPrefixLen result.count buffer.new }
     ensures file_reads { FileReads buffer.old buffer.new result.count result.failed }
 {
-    let file = os::open_read(name);
-    if file < 0 {
-        return unopened(os::errno());
+    match open(rt, name) {
+        Ok(mut file) => read_all(&mut file, buffer),
+        Err(error) => unopened(number_of(error)),
     }
-    let r = read_all(file, buffer);
-    libc::close(file);
-    r
 }
 
 // One write of a text from a place on, and the system's answer.
-fn write_from(file: i32, text: &[u8], at: usize) -> isize
+fn write_from<W: Write>(file: &mut W, text: &[u8], at: usize) -> io::Result<usize>
     requires { at ≤ length text.now }
-    ensures { at + Reads·got result ≤ length text.now }
+    ensures { at + Reads·got (answer_of result) ≤ length text.now }
 {
-    libc::write(file, &text[at..])
+    file.write(&text[at..])
 }
 
-// Writes a text to a descriptor; whether all of it was written, which is the system's affair.
-pub fn write_all(file: i32, text: &[u8]) -> bool
+// Writes a text to a stream; whether all of it was written, which is the system's affair.
+pub fn write_all<W: Write>(file: &mut W, text: &[u8]) -> bool
     ensures { Writes text.now result }
 {
     let mut done = 0;
@@ -147,14 +180,14 @@ pub fn write_all(file: i32, text: &[u8]) -> bool
 }
 
 // Writes to standard error; whether all was written.
-pub fn say(text: &[u8]) -> bool
+pub fn say(rt: &HostRuntime, text: &[u8]) -> bool
     ensures { Writes text.now result }
 {
-    write_all(STDERR_FILENO, text)
+    write_all(&mut rt.stderr(), text)
 }
 
-// Writes the first n bytes of a text to a descriptor, nothing where it has fewer; whether all of them were written.
-pub fn write_front(file: i32, text: &[u8], n: usize) -> bool
+// Writes the first n bytes of a text to a stream, nothing where it has fewer; whether all of them were written.
+pub fn write_front<W: Write>(file: &mut W, text: &[u8], n: usize) -> bool
     ensures { FrontWrites text.now n result }
 {
     if n <= text.len() {
@@ -164,36 +197,41 @@ pub fn write_front(file: i32, text: &[u8], n: usize) -> bool
 }
 
 // What a program can't do, on standard error where it failed.
-fn complain(failed: bool, program: &[u8], what: &[u8]) {
+fn complain(rt: &HostRuntime, failed: bool, program: &[u8], what: &[u8]) {
     if failed {
-        say(program);
-        say(what);
+        say(rt, program);
+        say(rt, what);
     }
 }
 
 // Standard input. Where a read fails the program says so.
-pub fn read_input(program: &[u8], buffer: &mut [u8]) -> Input
+pub fn read_input(rt: &HostRuntime, program: &[u8], buffer: &mut [u8]) -> Input
     ensures prefix_len { IsPrefixLen result.count buffer.new }
     ensures reads { Reads buffer.old buffer.new result.count result.failed }
 {
-    let r = read_all(STDIN_FILENO, buffer);
-    complain(r.failed, program, b": standard input can't be read\n");
+    let r = read_all(&mut rt.stdin(), buffer);
+    complain(rt, r.failed, program, b": standard input can't be read\n");
     r
 }
 
 // The sample memory, from `sample.bin` in the folder where the program runs. Where it can't be opened or a read fails the program says so.
-pub fn read_sample(program: &[u8], buffer: &mut [u8]) -> Input
+pub fn read_sample(rt: &HostRuntime, program: &[u8], buffer: &mut [u8]) -> Input
     ensures prefix_len { IsPrefixLen result.count buffer.new }
     ensures file_reads { FileReads buffer.old buffer.new result.count result.failed }
 {
-    let r = read_file(b"sample.bin", buffer);
-    complain(r.failed, program, b": sample.bin can't be read\n");
+    let r = read_file(rt, b"sample.bin", buffer);
+    complain(rt, r.failed, program, b": sample.bin can't be read\n");
     r
 }
 
 // Says that a program's output wasn't all written, where it wasn't.
-pub fn end(program: &[u8], written: bool)
+pub fn end(rt: &HostRuntime, program: &[u8], written: bool)
     ensures { result ≡ tt }
 {
-    complain(!written, program, b": standard output can't be written\n");
+    complain(
+        rt,
+        !written,
+        program,
+        b": standard output can't be written\n",
+    );
 }

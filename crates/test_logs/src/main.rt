@@ -4,58 +4,58 @@
 ghost use Rattle.std.specs.Prelude.{◌≤◌};
 
 use bus::Access;
-use libc::STDOUT_FILENO;
 use log_line::Act;
+use std::fs;
 
-fn text(t: &[u8]) {
-    io::write_all(STDOUT_FILENO, t);
+fn text(rt: &HostRuntime, t: &[u8]) {
+    let _ = rt.write_all(t);
 }
 
-fn number(n: u64) {
-    io::print_decimal(STDOUT_FILENO, n);
+fn number(rt: &HostRuntime, n: u64) {
+    let _ = print!(rt; "{n}");
 }
 
 // A refusal's number and place, behind a key.
-fn place(key: &[u8], k: u8, at: usize) {
-    text(key);
-    number(k as u64);
-    text(b":");
-    number(at as u64);
+fn place(rt: &HostRuntime, key: &[u8], k: u8, at: usize) {
+    text(rt, key);
+    number(rt, k as u64);
+    text(rt, b":");
+    number(rt, at as u64);
 }
 
-fn access(a: Access) {
+fn access(rt: &HostRuntime, a: Access) {
     match a {
         Access::Write(register, value) => {
-            text(b"write:");
-            number(register as u64);
-            text(b":");
-            number(value as u64);
+            text(rt, b"write:");
+            number(rt, register as u64);
+            text(rt, b":");
+            number(rt, value as u64);
         }
-        Access::Read => text(b"read"),
+        Access::Read => text(rt, b"read"),
     }
 }
 
-fn act(a: Act) {
+fn act(rt: &HostRuntime, a: Act) {
     match a {
         Act::Wait(n) => {
-            text(b"wait:");
-            number(n as u64);
+            text(rt, b"wait:");
+            number(rt, n as u64);
         }
-        Act::Access(x) => access(x),
+        Act::Access(x) => access(rt, x),
     }
 }
 
 // Item k.
-fn item(log: &[u8], k: u64) {
-    text(b"item=");
-    number(k);
-    text(b" ");
+fn item(rt: &HostRuntime, log: &[u8], k: u64) {
+    text(rt, b"item=");
+    number(rt, k);
+    text(rt, b" ");
     let f = log_item::item(log, k);
     match f {
-        log_item::Picked::Is(a) => act(a),
-        log_item::Picked::Refused(n, at) => place(b"refused=", n, at),
+        log_item::Picked::Is(a) => act(rt, a),
+        log_item::Picked::Refused(n, at) => place(rt, b"refused=", n, at),
     }
-    text(b"\n");
+    text(rt, b"\n");
 }
 
 fn wide(x: u8) -> u64 {
@@ -72,17 +72,17 @@ fn sum(part: &[u8]) -> u64 {
 }
 
 // The body of the loop at an offset.
-fn body(log: &[u8], offset: usize) {
-    text(b"body=");
-    number(offset as u64);
+fn body(rt: &HostRuntime, log: &[u8], offset: usize) {
+    text(rt, b"body=");
+    number(rt, offset as u64);
     let a = log_body::body_check(log, offset);
-    place(b" check=", a.number, a.place);
+    place(rt, b" check=", a.number, a.place);
     let part = log_body::body(log, offset);
-    text(b" bytes=");
-    number(part.len() as u64);
-    text(b" sum=");
-    number(sum(part));
-    text(b"\n");
+    text(rt, b" bytes=");
+    number(rt, part.len() as u64);
+    text(rt, b" sum=");
+    number(rt, sum(part));
+    text(rt, b"\n");
 }
 
 // 1 for an act, and 0 for anything else that a step finds.
@@ -108,28 +108,28 @@ fn goes_on(f: log_cursor::Given) -> bool {
 }
 
 // How a walk came out.
-fn outcome(f: log_cursor::Given) {
+fn outcome(rt: &HostRuntime, f: log_cursor::Given) {
     match f {
-        log_cursor::Given::Act(_) => text(b" more\n"),
-        log_cursor::Given::Moved => text(b" more\n"),
-        log_cursor::Given::End => text(b" end\n"),
+        log_cursor::Given::Act(_) => text(rt, b" more\n"),
+        log_cursor::Given::Moved => text(rt, b" more\n"),
+        log_cursor::Given::End => text(rt, b" end\n"),
         log_cursor::Given::Refused(k, at) => {
-            place(b" refused=", k, at);
-            text(b"\n");
+            place(rt, b" refused=", k, at);
+            text(rt, b"\n");
         }
     }
 }
 
-fn walked(items: u64, steps: u64, f: log_cursor::Given) {
-    text(b"cursor=");
-    number(items);
-    text(b":");
-    number(steps);
-    outcome(f);
+fn walked(rt: &HostRuntime, items: u64, steps: u64, f: log_cursor::Given) {
+    text(rt, b"cursor=");
+    number(rt, items);
+    text(rt, b":");
+    number(rt, steps);
+    outcome(rt, f);
 }
 
 // The items that a cursor hands out in so many steps at most, and its steps.
-fn walk(log: &[u8], most: u64) {
+fn walk(rt: &HostRuntime, log: &[u8], most: u64) {
     let mut c = log_cursor::start();
     let mut items: u64 = 0;
     let mut steps: u64 = 0;
@@ -141,11 +141,11 @@ fn walk(log: &[u8], most: u64) {
         if goes_on(f) {
             c = s.cursor;
         } else {
-            walked(items, steps, f);
+            walked(rt, items, steps, f);
             return;
         }
     }
-    walked(items, steps, log_cursor::Given::Moved);
+    walked(rt, items, steps, log_cursor::Given::Moved);
 }
 
 // A number with one more behind it.
@@ -176,96 +176,96 @@ fn ordered_words(words: &[u32]) -> u32 {
 }
 
 // The answer to a fold into a buffer, and what stands in it afterwards.
-fn fold_into(log: &[u8], out: &mut [u8]) {
+fn fold_into(rt: &HostRuntime, log: &[u8], out: &mut [u8]) {
     let a = log_fold::fold(log, out);
-    place(b"fold=", a.number, a.place);
-    text(b" length=");
-    number(a.length as u64);
-    text(b" sum=");
-    number(ordered(out) as u64);
-    text(b"\n");
+    place(rt, b"fold=", a.number, a.place);
+    text(rt, b" length=");
+    number(rt, a.length as u64);
+    text(rt, b" sum=");
+    number(rt, ordered(out) as u64);
+    text(rt, b"\n");
 }
 
 // Folded into a buffer that holds every log, and into one that holds none.
-fn folded(log: &[u8]) {
+fn folded(rt: &HostRuntime, log: &[u8]) {
     let mut out = [0u8; 60000];
-    fold_into(log, &mut out);
+    fold_into(rt, log, &mut out);
     let mut short = [0u8; 9];
-    fold_into(log, &mut short);
+    fold_into(rt, log, &mut short);
 }
 
 // The answer to a repair into a buffer and a list, and what stands in both afterwards.
-fn salvage_into(log: &[u8], out: &mut [u8], list: &mut [u32]) {
+fn salvage_into(rt: &HostRuntime, log: &[u8], out: &mut [u8], list: &mut [u32]) {
     let a = log_salvage::salvage(log, out, list);
-    place(b"salvage=", a.number, a.place);
-    text(b" length=");
-    number(a.length as u64);
-    text(b" entries=");
-    number(a.entries as u64);
-    text(b" sum=");
-    number(ordered(out) as u64);
-    text(b" words=");
-    number(ordered_words(list) as u64);
-    text(b"\n");
+    place(rt, b"salvage=", a.number, a.place);
+    text(rt, b" length=");
+    number(rt, a.length as u64);
+    text(rt, b" entries=");
+    number(rt, a.entries as u64);
+    text(rt, b" sum=");
+    number(rt, ordered(out) as u64);
+    text(rt, b" words=");
+    number(rt, ordered_words(list) as u64);
+    text(rt, b"\n");
 }
 
 // Repaired into a buffer and a list that hold what comes of most logs; into a list of one word, and into a buffer of 12 bytes.
-fn salvaged(log: &[u8]) {
+fn salvaged(rt: &HostRuntime, log: &[u8]) {
     let mut out = [0u8; 60000];
     let mut list = [0u32; 20000];
-    salvage_into(log, &mut out, &mut list);
+    salvage_into(rt, log, &mut out, &mut list);
     let mut none = [0u32; 1];
     let mut whole = [0u8; 60000];
-    salvage_into(log, &mut whole, &mut none);
+    salvage_into(rt, log, &mut whole, &mut none);
     let mut short = [0u8; 12];
-    salvage_into(log, &mut short, &mut none);
+    salvage_into(rt, log, &mut short, &mut none);
 }
 
 // Items and bodies of a log that passes with so many items.
-fn parts(log: &[u8], n: u64) {
-    item(log, 0);
-    item(log, 1);
-    item(log, 2);
-    item(log, 3);
-    item(log, n / 2);
-    item(log, std::num::wrapping_sub_u64(n, 1));
-    item(log, n);
-    item(log, 18446744073709551615);
-    body(log, 0);
-    body(log, 6);
-    body(log, 13);
-    body(log, 20);
-    body(log, 27);
-    body(log, 41);
-    body(log, log.len());
-    body(log, 18446744073709551615);
+fn parts(rt: &HostRuntime, log: &[u8], n: u64) {
+    item(rt, log, 0);
+    item(rt, log, 1);
+    item(rt, log, 2);
+    item(rt, log, 3);
+    item(rt, log, n / 2);
+    item(rt, log, std::num::wrapping_sub_u64(n, 1));
+    item(rt, log, n);
+    item(rt, log, 18446744073709551615);
+    body(rt, log, 0);
+    body(rt, log, 6);
+    body(rt, log, 13);
+    body(rt, log, 20);
+    body(rt, log, 27);
+    body(rt, log, 41);
+    body(rt, log, log.len());
+    body(rt, log, 18446744073709551615);
 }
 
 // A log that passes is through in 2,000,002 steps; one that does not may never be.
-fn judged(log: &[u8]) {
+fn judged(rt: &HostRuntime, log: &[u8]) {
     let c = log_check::check(log);
-    place(b"check=", c.number, c.place);
-    text(b" clocks=");
-    number(c.clocks);
-    text(b" turns=");
-    number(c.turns);
-    text(b" items=");
-    number(c.items);
-    text(b"\n");
+    place(rt, b"check=", c.number, c.place);
+    text(rt, b" clocks=");
+    number(rt, c.clocks);
+    text(rt, b" turns=");
+    number(rt, c.turns);
+    text(rt, b" items=");
+    number(rt, c.items);
+    text(rt, b"\n");
     if c.number == 0 {
-        parts(log, c.items);
-        walk(log, 2000002);
+        parts(rt, log, c.items);
+        walk(rt, log, 2000002);
     } else {
-        item(log, 0);
-        body(log, 6);
-        walk(log, 5000);
+        item(rt, log, 0);
+        body(rt, log, 6);
+        walk(rt, log, 5000);
     }
-    folded(log);
-    salvaged(log);
+    folded(rt, log);
+    salvaged(rt, log);
 }
 
 // One log, by its number; whether it is there.
-fn one(k: u16) -> bool {
+fn one(rt: &HostRuntime, k: u16) -> bool {
     let name = [
         b'0' + (k / 100 % 10) as u8,
         b'0' + (k / 10 % 10) as u8,
@@ -275,23 +275,25 @@ fn one(k: u16) -> bool {
         b'o',
         b'g',
     ];
-    let file = os::open_read(&name);
-    if file < 0 {
+    let Ok(path) = str::from_utf8(&name) else {
         return false;
-    }
+    };
+    let Ok(mut file) = fs::open(rt, path) else {
+        return false;
+    };
     let mut log = [0u8; 60001];
-    let n = io::read_full(file, &mut log);
-    libc::close(file);
-    text(b"log=");
-    text(&name[..3]);
-    text(b"\n");
-    judged(&log[..n]);
+    let r = program_io::read_all(&mut file, &mut log);
+    let n = r.count;
+    text(rt, b"log=");
+    text(rt, &name[..3]);
+    text(rt, b"\n");
+    judged(rt, &log[..n]);
     true
 }
 
-fn main() {
+fn main(rt: HostRuntime) {
     let mut k: u16 = 0;
-    while k < 1000 && one(k) {
+    while k < 1000 && one(&rt, k) {
         k += 1;
     }
 }

@@ -11,6 +11,7 @@
 // Channels: 1 and 2 the squares, t triangle, n noise, d DMC, f frame. Units and fields: as the functions below have them.
 #![tactic(auto)]
 
+ghost use Rattle.std.specs.Counts.{IsPrefixLen};
 ghost use Rattle.std.specs.Prelude.{◌≤◌, ◌<◌, length};
 
 use chip::State;
@@ -26,7 +27,7 @@ use chip_square::Square;
 use chip_sweep::Sweep;
 use chip_timer::Timer;
 use chip_triangle::Triangle;
-use libc::STDOUT_FILENO;
+use std::fs;
 
 // ---- A command's bytes
 
@@ -91,15 +92,20 @@ fn value(token: &[u8]) -> u32
     n
 }
 
-fn text(t: &[u8]) {
-    io::write_all(STDOUT_FILENO, t);
+fn text(rt: &HostRuntime, t: &[u8]) {
+    let _ = rt.write_all(t);
+}
+
+// A number in decimal.
+fn decimal(rt: &HostRuntime, n: u64) {
+    let _ = print!(rt; "{n}");
 }
 
 // What stands between a command's first and last byte.
-fn inner(token: &[u8]) {
+fn inner(rt: &HostRuntime, token: &[u8]) {
     if 2 <= token.len() {
         let e = token.len() - 1;
-        text(&token[1..e]);
+        text(rt, &token[1..e]);
     }
 }
 
@@ -516,48 +522,59 @@ fn with(s: State, token: &[u8], at: usize) -> State
     }
 }
 
-fn shown(s: State, v: u32) {
+fn shown(rt: &HostRuntime, s: State, v: u32) {
     let m = chip_api::level(s);
-    text(b" ");
-    io::print_decimal(STDOUT_FILENO, v as u64);
-    text(b":");
-    io::print_decimal(STDOUT_FILENO, m.number as u64);
+    text(rt, b" ");
+    decimal(rt, v as u64);
+    text(rt, b":");
+    decimal(rt, m.number as u64);
 }
 
-fn act(s: State, token: &[u8]) -> State {
+fn act(rt: &HostRuntime, s: State, token: &[u8]) -> State {
     match byte_at(token, 0) {
         b'+' => with(s, token, 1),
         b'%' => chip_api::power_on(true),
         b'.' => {
-            text(b"\n");
+            text(rt, b"\n");
             chip_api::power_on(false)
         }
         b'"' => {
-            inner(token);
+            inner(rt, token);
             s
         }
         b'#' | b'\n' | b' ' => s,
         _ => {
-            shown(with(s, token, 0), value(token));
+            shown(rt, with(s, token, 0), value(token));
             s
         }
     }
 }
 
-fn play(script: &[u8]) {
+fn play(rt: &HostRuntime, script: &[u8]) {
     let mut s = chip_api::power_on(false);
     let mut at = 0;
     while at < script.len() {
         let e = behind(script, at);
-        s = act(s, &script[at..e]);
+        s = act(rt, s, &script[at..e]);
         at = e;
     }
 }
 
-fn main() {
-    let mut script = io::large_buffer();
-    let fd = os::open_read(b"fields");
-    let n = io::read_full(fd, &mut script);
-    libc::close(fd);
-    play(&script[..n]);
+// The bytes of a file, as many as there is room for; none of a file that can't be opened.
+fn read(rt: &HostRuntime, name: &str, buffer: &mut [u8]) -> usize
+    ensures { IsPrefixLen result buffer.new }
+{
+    match fs::open(rt, name) {
+        Ok(mut file) => {
+            let r = program_io::read_all(&mut file, buffer);
+            r.count
+        }
+        Err(_) => 0,
+    }
+}
+
+fn main(rt: HostRuntime) {
+    let mut script = [0u8; 65536];
+    let n = read(&rt, "fields", &mut script);
+    play(&rt, &script[..n]);
 }

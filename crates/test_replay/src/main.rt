@@ -3,6 +3,9 @@
 // the first line that isn't of the form.
 #![tactic(auto)]
 
+use std::fs;
+use std::fs::File;
+
 mod acts;
 mod lent;
 mod stored;
@@ -35,7 +38,8 @@ fn taken(letter: u8, a: u64) -> usize {
 
 // The line at a place of the file, worked and written.
 fn one(
-    file: i32,
+    rt: &HostRuntime,
+    file: &File,
     at: u32,
     memory: &[u8],
     state: &mut [u8],
@@ -52,10 +56,10 @@ fn one(
             last: true,
         };
     }
-    let a = acts::work(&line, memory, state, words, used);
+    let a = acts::work(rt, &line, memory, state, words, used);
     written::answer(&mut line, a);
     written::last(&mut line, state);
-    written::write(&line, n);
+    written::write(rt, &line, n);
     Step {
         at: behind(at, n),
         used: std::num::wrapping_add_usize(used, taken(letter, a)),
@@ -64,11 +68,18 @@ fn one(
 }
 
 // The lines of a case behind its first, and the place behind them; 0 where the text ends there.
-fn rest(file: i32, at: u32, memory: &[u8], state: &mut [u8], words: &mut [u32]) -> u32 {
+fn rest(
+    rt: &HostRuntime,
+    file: &File,
+    at: u32,
+    memory: &[u8],
+    state: &mut [u8],
+    words: &mut [u32],
+) -> u32 {
     let mut place = at;
     let mut used = 0;
     for _ in 0..100000u32 {
-        let s = one(file, place, memory, state, words, used);
+        let s = one(rt, file, place, memory, state, words, used);
         if s.last {
             return s.at;
         }
@@ -79,13 +90,14 @@ fn rest(file: i32, at: u32, memory: &[u8], state: &mut [u8], words: &mut [u32]) 
 }
 
 // The same, with what the case's first line lends: no more than there is.
-fn begun(file: i32, at: u32, line: &[u8]) -> u32 {
+fn begun(rt: &HostRuntime, file: &File, at: u32, line: &[u8]) -> u32 {
     let room = lent::least(stored::number(line, 17, 3) as usize, 1024);
     let length = lent::least(stored::number(line, 24, 1) as usize, lent::STATE);
     let memory = lent::memory(line);
     let mut state = lent::state(line);
     let mut words = lent::words();
     rest(
+        rt,
         file,
         at,
         &memory,
@@ -95,28 +107,28 @@ fn begun(file: i32, at: u32, line: &[u8]) -> u32 {
 }
 
 // The case at a place of the file, and the place behind it; 0 where there is none.
-fn case(file: i32, at: u32) -> u32 {
+fn case(rt: &HostRuntime, file: &File, at: u32) -> u32 {
     let mut line = stored::empty();
     let n = stored::read(file, at, &mut line);
     if n == 0 || stored::byte(&line, 0) != b'B' {
         return 0;
     }
-    written::write(&line, n);
-    begun(file, behind(at, n), &line)
+    written::write(rt, &line, n);
+    begun(rt, file, behind(at, n), &line)
 }
 
-fn all(file: i32) {
+fn all(rt: &HostRuntime, file: &File) {
     let mut at = 0;
     for _ in 0..100000u32 {
-        at = case(file, at);
+        at = case(rt, file, at);
         if at == 0 {
             return;
         }
     }
 }
 
-fn main() {
-    let file = os::open_read(b"cases");
-    all(file);
-    libc::close(file);
+fn main(rt: HostRuntime) {
+    if let Ok(file) = fs::open(&rt, "cases") {
+        all(&rt, &file);
+    }
 }

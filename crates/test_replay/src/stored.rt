@@ -1,8 +1,11 @@
 // A line's text, read from the file, and the numbers in it.
+ghost use Rattle.std.specs.Counts.{IsPrefixLen};
 ghost use Rattle.std.specs.Prelude.{◌≡◌, ◌+◌, ◌*◌, ◌≤◌, length};
 ghost use Rattle.c_state.specs.Bytes.{state_size};
 
 use super::lent;
+use std::fs::File;
+use std::os::unix::fs::FileExt;
 use text::Number;
 
 // The longest line is the first of a case: 26 bytes, a blank, the digits of the state, and the line feed.
@@ -139,10 +142,19 @@ fn unanswered(line: &[u8], length: usize) -> bool {
     true
 }
 
+// One read from a place of the file, and how many bytes it brought.
+fn part(file: &File, at: u32, line: &mut [u8]) -> usize
+    ensures { IsPrefixLen result line.new }
+{
+    match file.read_at(line, at as u64) {
+        Ok(n) => n,
+        Err(_) => 0,
+    }
+}
+
 // The line at a place of the file, and its length; 0 where there is none of the form, or one with answers.
-pub(crate) fn read(file: i32, at: u32, line: &mut [u8]) -> usize {
-    let got = libc::pread(file, line, at as i64);
-    let n = io::count(got, line);
+pub(crate) fn read(file: &File, at: u32, line: &mut [u8]) -> usize {
+    let n = part(file, at, line);
     let length = size(&line[0..n]);
     if unanswered(line, length) { length } else { 0 }
 }

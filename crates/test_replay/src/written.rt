@@ -2,7 +2,6 @@
 ghost use Rattle.std.specs.Prelude.{◌≤◌};
 
 use super::stored::{answers, byte};
-use libc::STDOUT_FILENO;
 
 // The last n bytes of a number at a place, and the number above them.
 fn put(line: &mut [u8], at: usize, n: usize, v: u64) -> u64
@@ -63,14 +62,14 @@ pub(crate) fn last(line: &mut [u8], state: &[u8]) {
 }
 
 // A line that no expected text has, where something does not hold.
-pub(crate) fn hold(holds: bool) {
+pub(crate) fn hold(rt: &HostRuntime, holds: bool) {
     if !holds {
-        io::write_all(STDOUT_FILENO, b"DIFFERS\n");
+        let _ = rt.write_all(b"DIFFERS\n");
     }
 }
 
-pub(crate) fn write(line: &[u8], n: usize) {
+pub(crate) fn write(rt: &HostRuntime, line: &[u8], n: usize) {
     if n <= line.len() {
-        io::write_all(STDOUT_FILENO, &line[0..n]);
+        let _ = rt.write_all(&line[0..n]);
     }
 }

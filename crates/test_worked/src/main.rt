@@ -15,11 +15,12 @@
 //   "TEXT       the rest of the line is written       #TEXT      a comment, up to the end of the line
 #![tactic(auto)]
 
+ghost use Rattle.std.specs.Counts.{IsPrefixLen};
 ghost use Rattle.std.specs.Prelude.{◌≤◌, ◌<◌, length};
 
 use bus::Access;
 use chip::State;
-use libc::STDOUT_FILENO;
+use std::fs;
 
 // ---- A command's bytes
 
@@ -111,50 +112,65 @@ fn digits_on(n: u32, b: u8) -> u32
 
 // ---- Writing
 
-fn text(t: &[u8]) {
-    io::write_all(STDOUT_FILENO, t);
+fn text(rt: &HostRuntime, t: &[u8]) {
+    let _ = rt.write_all(t);
+}
+
+// A number in decimal.
+fn decimal(rt: &HostRuntime, n: u64) {
+    let _ = print!(rt; "{n}");
+}
+
+// A number in hex, in two digits at least.
+fn two_digits(rt: &HostRuntime, n: u64) {
+    let _ = print!(rt; "{n:02x}");
+}
+
+// A number in hex, in four digits at least.
+fn four_digits(rt: &HostRuntime, n: u64) {
+    let _ = print!(rt; "{n:04x}");
 }
 
 // What stands between a command's first and last byte.
-fn inner(token: &[u8]) {
+fn inner(rt: &HostRuntime, token: &[u8]) {
     if 2 <= token.len() {
         let e = token.len() - 1;
-        text(&token[1..e]);
+        text(rt, &token[1..e]);
     }
 }
 
-fn yes_or_no(n: u16) {
+fn yes_or_no(rt: &HostRuntime, n: u16) {
     if n == 1 {
-        text(b"yes");
+        text(rt, b"yes");
     } else {
-        text(b"no");
+        text(rt, b"no");
     }
 }
 
 // A value seen: a level, a status byte or the line.
-fn value(kind: u8, n: u16) {
+fn value(rt: &HostRuntime, kind: u8, n: u16) {
     match kind {
         b'h' => {
-            io::print_decimal(STDOUT_FILENO, n as u64);
+            decimal(rt, n as u64);
         }
         b't' => {
-            io::print_hex(STDOUT_FILENO, n as u64, 2);
+            two_digits(rt, n as u64);
         }
-        _ => yes_or_no(n),
+        _ => yes_or_no(rt, n),
     }
 }
 
-fn shown(kind: u8, n: u16) {
-    text(b" ");
-    value(kind, n);
+fn shown(rt: &HostRuntime, kind: u8, n: u16) {
+    text(rt, b" ");
+    value(rt, kind, n);
 }
 
-fn change(kind: u8, clock: u32, was: u16, now: u16) {
+fn change(rt: &HostRuntime, kind: u8, clock: u32, was: u16, now: u16) {
     if was != now {
-        text(b" ");
-        io::print_decimal(STDOUT_FILENO, clock as u64);
-        text(b":");
-        value(kind, now);
+        text(rt, b" ");
+        decimal(rt, clock as u64);
+        text(rt, b":");
+        value(rt, kind, now);
     }
 }
 
@@ -180,7 +196,7 @@ fn seen(s: State, kind: u8) -> u16 {
 }
 
 // `n` clocks, with what changes of what is seen.
-fn clocks(s: State, memory: &[u8], n: u32, kind: u8) -> State {
+fn clocks(rt: &HostRuntime, s: State, memory: &[u8], n: u32, kind: u8) -> State {
     let mut t = s;
     let mut was = seen(s, kind);
     let mut i = 0;
@@ -189,7 +205,7 @@ fn clocks(s: State, memory: &[u8], n: u32, kind: u8) -> State {
         let m = chip_api::clock(t, memory);
         t = m.state;
         let now = seen(t, kind);
-        change(kind, i, was, now);
+        change(rt, kind, i, was, now);
         was = now;
     }
     t
@@ -200,34 +216,34 @@ fn put(s: State, register: u16, value: u8) -> State {
     m.state
 }
 
-fn read(s: State) -> State {
+fn read(rt: &HostRuntime, s: State) -> State {
     let m = chip_api::access(s, Access::Read);
-    shown(b't', m.byte as u16);
+    shown(rt, b't', m.byte as u16);
     m.state
 }
 
-fn asked(s: State, register: u16) {
+fn asked(rt: &HostRuntime, s: State, register: u16) {
     let m = chip_api::access(s, Access::Write(register, 0));
-    text(b" ");
-    io::print_hex(STDOUT_FILENO, register as u64, 4);
-    text(b":");
-    io::print_decimal(STDOUT_FILENO, m.number as u64);
+    text(rt, b" ");
+    four_digits(rt, register as u64);
+    text(rt, b":");
+    decimal(rt, m.number as u64);
 }
 
-fn short_memory(s: State) {
+fn short_memory(rt: &HostRuntime, s: State) {
     let m = chip_api::clock(s, b"short");
-    text(b" ");
-    io::print_decimal(STDOUT_FILENO, m.number as u64);
+    text(rt, b" ");
+    decimal(rt, m.number as u64);
 }
 
-fn reason(s: State, channel: u64) {
+fn reason(rt: &HostRuntime, s: State, channel: u64) {
     let r = chip_why::why(s, channel);
-    text(b" ");
-    io::print_decimal(STDOUT_FILENO, channel);
-    text(b":");
-    io::print_decimal(STDOUT_FILENO, chip_why::number_of(r) as u64);
-    text(b"/");
-    io::print_decimal(STDOUT_FILENO, chip_why::value_of(r) as u64);
+    text(rt, b" ");
+    decimal(rt, channel);
+    text(rt, b":");
+    decimal(rt, chip_why::number_of(r) as u64);
+    text(rt, b"/");
+    decimal(rt, chip_why::value_of(r) as u64);
 }
 
 fn wide(x: u8) -> u16 {
@@ -235,17 +251,17 @@ fn wide(x: u8) -> u16 {
 }
 
 // The first n of some levels.
-fn levels(out: &[u8], n: usize) {
+fn levels(rt: &HostRuntime, out: &[u8], n: usize) {
     let mut i = 0;
     while i < out.len() {
         if i < n {
-            shown(b'h', wide(out[i]));
+            shown(rt, b'h', wide(out[i]));
         }
         i += 1;
     }
 }
 
-fn sheet(memory: &[u8], token: &[u8]) {
+fn sheet(rt: &HostRuntime, memory: &[u8], token: &[u8]) {
     let mut out = [0u8; 16];
     let w = chip_sheet::sheet(
         memory,
@@ -254,67 +270,78 @@ fn sheet(memory: &[u8], token: &[u8]) {
         hex(token, 7) as u64,
         &mut out,
     );
-    text(b" ");
-    io::print_decimal(STDOUT_FILENO, w.number as u64);
-    text(b":");
-    levels(&out, w.length as usize);
+    text(rt, b" ");
+    decimal(rt, w.number as u64);
+    text(rt, b":");
+    levels(rt, &out, w.length as usize);
 }
 
 // A command that leaves the state as it is.
-fn told(s: State, token: &[u8]) {
+fn told(rt: &HostRuntime, s: State, token: &[u8]) {
     match byte_at(token, 0) {
-        b'l' => shown(b'h', seen(s, b'h')),
-        b'i' => shown(b'i', seen(s, b'i')),
-        b'?' => asked(s, register(token, 1)),
-        b'm' => short_memory(s),
-        b'y' => reason(s, count(token) as u64),
-        b'.' => text(b"\n"),
-        b'"' => inner(token),
+        b'l' => shown(rt, b'h', seen(s, b'h')),
+        b'i' => shown(rt, b'i', seen(s, b'i')),
+        b'?' => asked(rt, s, register(token, 1)),
+        b'm' => short_memory(rt, s),
+        b'y' => reason(rt, s, count(token) as u64),
+        b'.' => text(rt, b"\n"),
+        b'"' => inner(rt, token),
         _ => {}
     }
 }
 
-fn act(s: State, token: &[u8], memory: &[u8]) -> State {
+fn act(rt: &HostRuntime, s: State, token: &[u8], memory: &[u8]) -> State {
     let kind = byte_at(token, 0);
     match kind {
         b'4' => put(s, register(token, 0), hex(token, 5)),
         b's' => put(s, 0x4017, 0x80),
         b'o' => chip_api::power_on(false),
         b'p' => chip_api::power_on(true),
-        b'r' => read(s),
-        b'w' | b'h' | b't' => clocks(s, memory, count(token), kind),
+        b'r' => read(rt, s),
+        b'w' | b'h' | b't' => clocks(rt, s, memory, count(token), kind),
         b'~' => {
-            sheet(memory, token);
+            sheet(rt, memory, token);
             s
         }
         _ => {
-            told(s, token);
+            told(rt, s, token);
             s
         }
     }
 }
 
-fn play(script: &[u8], memory: &[u8]) {
+fn play(rt: &HostRuntime, script: &[u8], memory: &[u8]) {
     let mut s = chip_api::power_on(false);
     let mut at = 0;
     while at < script.len() {
         let e = behind(script, at);
-        s = act(s, &script[at..e], memory);
+        s = act(rt, s, &script[at..e], memory);
         at = e;
     }
 }
 
+// The bytes of a file, as many as there is room for; none of a file that can't be opened.
+fn bytes_of(rt: &HostRuntime, name: &str, buffer: &mut [u8]) -> usize
+    ensures { IsPrefixLen result buffer.new }
+{
+    match fs::open(rt, name) {
+        Ok(mut file) => {
+            let r = program_io::read_all(&mut file, buffer);
+            r.count
+        }
+        Err(_) => 0,
+    }
+}
+
 // Sample memory, an index being the address less $8000: $55 but at $8000, $C000, $C040, $C080 and $FFFF.
-fn main() {
+fn main(rt: HostRuntime) {
     let mut memory = [0x55u8; 32768];
     memory[0x0000] = 0x00;
     memory[0x4000] = 0xF0;
     memory[0x4040] = 0xFF;
     memory[0x4080] = 0x00;
     memory[0x7FFF] = 0xFF;
-    let mut script = io::large_buffer();
-    let fd = os::open_read(b"examples");
-    let n = io::read_full(fd, &mut script);
-    libc::close(fd);
-    play(&script[..n], &memory);
+    let mut script = [0u8; 65536];
+    let n = bytes_of(&rt, "examples", &mut script);
+    play(&rt, &script[..n], &memory);
 }

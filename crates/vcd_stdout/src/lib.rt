@@ -9,7 +9,6 @@ ghost use Rattle.perch_vcd.specs.Text.{next_text, head_text};
 ghost use Rattle.vcd_stdout.specs.Lines.{passed_text};
 ghost use Rattle.vcd_stdout.specs.Text.{traced_text};
 
-use libc::STDOUT_FILENO;
 use play_trace::Next;
 
 // The number of the answer, and whether all that there was to write was written.
@@ -28,7 +27,7 @@ fn lines_on(out: &mut [u8], at: usize, told: u64, n: Next) -> usize
 }
 
 // The events of a window of a log that passes and its end; whether all of them were written. The loop is counted, so that it ends.
-fn pour(log: &[u8], memory: &[u8], from: u64, until: u64, out: &mut [u8]) -> bool
+fn pour(rt: &HostRuntime, log: &[u8], memory: &[u8], from: u64, until: u64, out: &mut [u8]) -> bool
     requires memory_value { play_number log.now memory.now ≡ 0 }
     requires from_lt_until { from < until }
     requires in_bounds { 256 ≤ length out.old }
@@ -45,9 +44,9 @@ fn pour(log: &[u8], memory: &[u8], from: u64, until: u64, out: &mut [u8]) -> boo
         at = lines_on(out, at, told, n);
         told = perch_vcd::told_after(told, n);
         if perch_vcd::is_over(n) {
-            return program_io::write_front(STDOUT_FILENO, out, at);
+            return program_io::write_front(&mut rt.stdout(), out, at);
         }
-        let q = lines_stdout::pour(out, at, 256);
+        let q = lines_stdout::pour(rt, out, at, 256);
         if !q.written {
             return false;
         }
@@ -57,38 +56,38 @@ fn pour(log: &[u8], memory: &[u8], from: u64, until: u64, out: &mut [u8]) -> boo
     false
 }
 
-fn events(log: &[u8], memory: &[u8], from: u64, until: u64) -> bool
+fn events(rt: &HostRuntime, log: &[u8], memory: &[u8], from: u64, until: u64) -> bool
     requires memory_value { play_number log.now memory.now ≡ 0 }
     requires from_lt_until { from < until }
     ensures { Writes (passed_text log.now memory.now from until) result }
 {
     let mut out = [0u8; 16384];
-    pour(log, memory, from, until, &mut out)
+    pour(rt, log, memory, from, until, &mut out)
 }
 
-fn head() -> bool
+fn head(rt: &HostRuntime) -> bool
     ensures { Writes head_text result }
 {
     let mut out = [0u8; 1024];
     let n = perch_vcd::head(&mut out, 0);
-    program_io::write_front(STDOUT_FILENO, &out, n)
+    program_io::write_front(&mut rt.stdout(), &out, n)
 }
 
 // The head, and the events behind it.
-fn traced(log: &[u8], memory: &[u8], from: u64, until: u64) -> bool
+fn traced(rt: &HostRuntime, log: &[u8], memory: &[u8], from: u64, until: u64) -> bool
     requires memory_value { play_number log.now memory.now ≡ 0 }
     requires from_lt_until { from < until }
     ensures { Writes (head_text ++ passed_text log.now memory.now from until) result }
 {
-    if !head() {
+    if !head(rt) {
         return false;
     }
-    events(log, memory, from, until)
+    events(rt, log, memory, from, until)
 }
 
 // Writes the trace of the clocks `from` to `from + count` of a log, or the line of its refusal; of no clock nothing. How much of that each write takes is the
 // system's affair, and what bytes it sends no contract can say.
-pub fn write(log: &[u8], memory: &[u8], from: u32, count: u32) -> Told
+pub fn write(rt: &HostRuntime, log: &[u8], memory: &[u8], from: u32, count: u32) -> Told
     ensures number_value { result.number ≡ play_number log.now memory.now }
     ensures writes { Writes (traced_text log.now memory.now from count) result.written }
 {
@@ -101,13 +100,13 @@ pub fn write(log: &[u8], memory: &[u8], from: u32, count: u32) -> Told
         };
     }
     if number == 0 {
-        let done = traced(log, memory, from as u64, from as u64 + count as u64);
+        let done = traced(rt, log, memory, from as u64, from as u64 + count as u64);
         return Told {
             number: 0,
             written: done,
         };
     }
-    let done = lines_stdout::refused(number, b.place);
+    let done = lines_stdout::refused(rt, number, b.place);
     Told {
         number: number,
         written: done,

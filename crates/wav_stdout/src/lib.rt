@@ -7,7 +7,6 @@ ghost use Rattle.wav_rules.specs.Turns.{wav_start};
 ghost use Rattle.program_io.specs.Writes.{Writes};
 ghost use Rattle.wav_stdout.specs.Text.{wav_text};
 
-use libc::STDOUT_FILENO;
 use wav_rules::Wav;
 
 // The number of the answer, and whether all that there was to write was written.
@@ -19,7 +18,7 @@ pub struct Told {
 
 // A file, piece by piece, until it is over or a write fails; whether all of it was written. No piece of a log that passes is refused. Each piece holds the
 // head or a sample at least; the loop is counted, so that it ends.
-fn pour(w: Wav, log: &[u8], memory: &[u8], out: &mut [u8]) -> bool
+fn pour(rt: &HostRuntime, w: Wav, log: &[u8], memory: &[u8], out: &mut [u8]) -> bool
     requires rate_value { wav_number log.now memory.now w.rate ≡ 0 }
     requires w_value { w ≡ wav_start log.now w.rate (length (log_samples log.now memory.now w.rate)) }
     requires in_bounds { 44 ≤ length out.old }
@@ -29,7 +28,7 @@ fn pour(w: Wav, log: &[u8], memory: &[u8], out: &mut [u8]) -> bool
     let mut n: u64 = 0;
     while n < 1000000000000 {
         let r = play_wav::wav_on(v, log, memory, out);
-        if !program_io::write_front(STDOUT_FILENO, out, r.length) {
+        if !program_io::write_front(&mut rt.stdout(), out, r.length) {
             return false;
         }
         if arith::either_of(r.over, r.number != 0) {
@@ -41,17 +40,17 @@ fn pour(w: Wav, log: &[u8], memory: &[u8], out: &mut [u8]) -> bool
     false
 }
 
-fn all(w: Wav, log: &[u8], memory: &[u8]) -> bool
+fn all(rt: &HostRuntime, w: Wav, log: &[u8], memory: &[u8]) -> bool
     requires rate_value { wav_number log.now memory.now w.rate ≡ 0 }
     requires w_value { w ≡ wav_start log.now w.rate (length (log_samples log.now memory.now w.rate)) }
     ensures { Writes (wav_bytes log.now memory.now w.rate) result }
 {
     let mut out = [0u8; 65536];
-    pour(w, log, memory, &mut out)
+    pour(rt, w, log, memory, &mut out)
 }
 
 // Writes the file of a log, or the line of its refusal. How much of that each write takes is the system's affair, and what bytes it sends no contract can say.
-pub fn write(log: &[u8], memory: &[u8], rate: u32) -> Told
+pub fn write(rt: &HostRuntime, log: &[u8], memory: &[u8], rate: u32) -> Told
     ensures number_value { result.number ≡ wav_number log.now memory.now rate }
     ensures writes { Writes (wav_text log.now memory.now rate) result.written }
 {
@@ -59,13 +58,13 @@ pub fn write(log: &[u8], memory: &[u8], rate: u32) -> Told
     let number = b.number;
     if number == 0 {
         let w = b.wav;
-        let done = all(w, log, memory);
+        let done = all(rt, w, log, memory);
         return Told {
             number: 0,
             written: done,
         };
     }
-    let done = lines_stdout::refused(number, b.place);
+    let done = lines_stdout::refused(rt, number, b.place);
     Told {
         number: number,
         written: done,
