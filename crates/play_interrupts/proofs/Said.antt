@@ -36,7 +36,7 @@ use Rattle.play_interrupts.specs.declared.Place.{Place}
 use Rattle.play_interrupts.specs.Changes.{flags_of, same_flags, change_of, changed, clocks_changes, changes_from}
 use Rattle.play_interrupts.specs.Stepping.{go, place_of, place_start, until_change, change_said, clocks_step, met_step, step_of}
 use Rattle.play_interrupts.proofs.ChangeLaws.{changes_add, until_changes, until_most, until_some}
-use Rattle.play_interrupts.proofs.StepLaws.{place_log, place_clocks, refusal_none, step_some}
+use Rattle.play_interrupts.proofs.StepLaws.{place_log, place_clocks, step_some}
 use Rattle.play_interrupts.proofs.Telling.{Tells, only_given, by_says, by_on, by_over}
 
 -- a value that a log writes is a byte
@@ -72,9 +72,7 @@ module _ (log memory : List ℕ) (end : ℕ) where
     module _ (t : ℕ) (s : State) (c : Cursor) (ranged : in_range s ≡ true) (early : t ≤ 2000000000) where
       here_log : step_of log memory (place_of (moment_of c s t) 0)
           ≡ met_step s (walk_step log (moment_of c s t)).met (walk_step log (moment_of c s t)).moment
-      here_log =
-          let p = place_of (moment_of c s t) 0 in
-          sym (place_log log memory p refl ∙ step_some log memory p (sym (refusal_none memory p long ranged (omega arith) early)))
+      here_log = sym (place_log log memory (place_of (moment_of c s t) 0) refl ∙ step_some log memory (place_of (moment_of c s t) 0) long ranged early)
 
       log_over : (cursor.step_of log c).said ≡ over
           → step_of log memory (place_of (moment_of c s t) 0) ≡ go over (place_of (moment_of (cursor.step_of log c).state s t) 0)
@@ -104,8 +102,7 @@ module _ (log memory : List ℕ) (end : ℕ) where
           (place_of (moment_of c (iterate (chip_clock memory) (until_change memory n s) s) (t + until_change memory n s)) (n - until_change memory n s))
       unfolding clocks_step
       clocks_on_lem n some low =
-          let p = place_of (moment_of c s t) n in
-          sym (place_clocks log memory p some ∙ step_some log memory p (sym (refusal_none memory p long ranged low early)))
+          sym (place_clocks log memory (place_of (moment_of c s t) n) some low ∙ step_some log memory (place_of (moment_of c s t) n) long ranged early)
 
     -- no clock of a wait left
     wait_none : (t : ℕ) (s : State) (c : Cursor) {l : List Change} {f : ℕ} → Told (place_of (moment_of c (iterate (chip_clock memory) 0 s) (t + 0)) 0) l f

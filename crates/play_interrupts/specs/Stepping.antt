@@ -58,23 +58,20 @@ met_step s (Met.Wait n) m = go on (place_of m n)
 met_step s Met.End m = go over (place_of m 0)
 met_step s (Met.Refused k q) m = go (refused k q) (place_of m 0)
 
--- the rest of a wait up to the next change, or to its end; where no wait is under way a step of the log
+-- the rest of a wait up to the next change, or to its end; where no wait is under way a step of the log. 3: "a run of more than 1,000,000 clocks"
 unfoldable pub place_step : List ℕ → List ℕ → Place → Go
 place_step log memory p =
     pick (eqb p.left 0) (met_step p.moment.state (walk_step log p.moment).met (walk_step log p.moment).moment)
-    (clocks_step memory (until_change memory p.left p.moment.state) p)
+    (pick (leb p.left 1000000) (clocks_step memory (until_change memory p.left p.moment.state) p) (go (refused 3 0) p))
 
--- what refuses a place: 1: "sample memory isn't 32,768 bytes"; 2: "a state field is outside its range"; 3: "a run of more than 1,000,000 clocks"; 9:
--- "over 2,000,000,000 clocks"; 0 where nothing does
-unfoldable pub refusal_of : List ℕ → Place → ℕ
-refusal_of memory p =
-    pick (is_memory memory)
-    (pick (in_range p.moment.state) (pick (leb p.left 1000000) (pick (leb p.moment.time 2000000000) 0 9) 3) 2)
-    1
-
--- ONE STEP; a refusal's place is 0
+-- ONE STEP. 1: "sample memory isn't 32,768 bytes"; 2: "a state field is outside its range"; 9: "over 2,000,000,000 clocks"; all at 0
 unfoldable pub step_of : List ℕ → List ℕ → Place → Go
-step_of log memory p = pick (eqb (refusal_of memory p) 0) (place_step log memory p) (go (refused (refusal_of memory p) 0) p)
+step_of log memory p =
+    pick (is_memory memory)
+    (pick (in_range p.moment.state)
+    (pick (leb p.moment.time 2000000000) (place_step log memory p) (go (refused 9 0) p))
+    (go (refused 2 0) p))
+    (go (refused 1 0) p)
 
 -- the answer for what is said; the end at its clock
 abbrev pub next_of : Said Change → ℕ → Next

@@ -8,7 +8,7 @@ ghost use Rattle.play_walk.specs.Walk.{walk_step};
 ghost use Rattle.play_interrupts.specs.Changes.{flags_of, same, same_flags, changed};
 ghost use Rattle.play_interrupts.specs.Closed.{rise_or, least_rise};
 ghost use Rattle.play_interrupts.specs.Stepping.{place_of, place_start, until_change, change_said, clocks_step, met_step, place_step};
-ghost use Rattle.play_interrupts.specs.Stepping.{refusal_of, step_of, next_of, passed_of, passed, NextIs};
+ghost use Rattle.play_interrupts.specs.Stepping.{step_of, next_of, passed_of, passed, NextIs};
 
 use chip::State;
 use play_walk::{Met, Moment};
@@ -196,45 +196,34 @@ fn log_step(m: Moment, log: &[u8]) -> Passed
 
 // The rest of a wait up to the next change; where none is under way a step of the log.
 fn place_step(p: Place, log: &[u8], memory: &[u8]) -> Passed
-    requires { (length memory.now ≡ 32768) × (in_range p.moment.state ≡ true) × (p.moment.time ≤ 2000000000) × (p.left ≤ 1000000) }
+    requires { (length memory.now ≡ 32768) × (in_range p.moment.state ≡ true) × (p.moment.time ≤ 2000000000) }
     ensures { result ≡ passed (place_step log.now memory.now p) }
 {
     let m = p.moment;
     if p.left == 0 {
         return log_step(m, log);
     }
+    if 1000000 < p.left {
+        return passed_of(Next::Refused(3, 0), p);
+    }
     clocks_step(p, memory)
 }
 
-// What refuses a place.
-fn refusal_of(p: Place, memory: &[u8]) -> u8
-    ensures { result ≡ refusal_of memory.now p }
-{
-    let m = p.moment;
-    let s = m.state;
-    if memory.len() != 32768 {
-        return 1;
-    }
-    if !s.in_range() {
-        return 2;
-    }
-    if 1000000 < p.left {
-        return 3;
-    }
-    if 2000000000 < m.time {
-        return 9;
-    }
-    0
-}
-
-// One step, and the change that it brings. Refused: 1, 2, 3 and 9 at 0, and a line at fault.
+// One step, and the change that it brings. Refused: 1, 2, 9 and 3 at 0, and a line at fault.
 pub fn step(p: Place, log: &[u8], memory: &[u8]) -> Passed
     ensures value { result ≡ passed (step_of log.now memory.now p) }
     ensures next_is { NextIs (step_of log.now memory.now p).said result.next }
 {
-    let k = refusal_of(p, memory);
-    if k != 0 {
-        return passed_of(Next::Refused(k, 0), p);
+    let m = p.moment;
+    let s = m.state;
+    if memory.len() != 32768 {
+        return passed_of(Next::Refused(1, 0), p);
+    }
+    if !s.in_range() {
+        return passed_of(Next::Refused(2, 0), p);
+    }
+    if 2000000000 < m.time {
+        return passed_of(Next::Refused(9, 0), p);
     }
     place_step(p, log, memory)
 }

@@ -13,15 +13,6 @@ loop-left-init c =
 pub lines_on-at-requires : goal.lines_on-at-requires
 lines_on-at-requires c = c.loop-left.invariant.1
 
--- the turn, behind its lines
-turn : (c : goal.After-slice_known-in-loop-left-1)
-    → Turned c.args.log.now c.args.memory.now c.step-w.result.next c.step-w.result.place c.loop-left.left c.lines_on-at.result
-    c.lines_on-at.new.out
-turn c =
-    let a = c.args in
-    let l = c.loop-left in
-    turned a.log.now a.memory.now l.p l.left l.at l.out l.invariant.2 c.step-w.result c.step-w.ensures.value l.invariant.1 _ _ c.lines_on-at.ensures
-
 pub shape_of-out-then-is_over : goal.shape_of-out-then-is_over
 shape_of-out-then-is_over c = omega (arith, c.out-1.given, c.loop-left.invariant.0)
 
@@ -29,7 +20,7 @@ pub returns-then-is_over : goal.returns-then-is_over
 returns-then-is_over c =
     let a = c.args in
     ends_there a.log.now a.memory.now c.step-w.result.next c.step-w.result.place c.loop-left.left c.lines_on-at.result c.lines_on-at.new.out
-    (turn c.before.before.before.before) c.write_front.result (sym c.is_over.ensures ∙ c.if-is_over.true) c.write_front.ensures
+    (turned c.args.log.now c.args.memory.now c.loop-left.p c.loop-left.left c.loop-left.at c.loop-left.out c.loop-left.invariant.2 c.step-w.result c.step-w.ensures.value c.loop-left.invariant.1 _ _ c.lines_on-at.ensures) c.write_front.result (sym c.is_over.ensures ∙ c.if-is_over.true) c.write_front.ensures
 
 pub shape_of-out-then-not-q : goal.shape_of-out-then-not-q
 shape_of-out-then-not-q c = omega (arith, c.out-1.given, c.loop-left.invariant.0)
@@ -38,7 +29,7 @@ pub returns-then-not-q : goal.returns-then-not-q
 returns-then-not-q c =
     let a = c.args in
     cut_there a.log.now a.memory.now c.step-w.result.next c.step-w.result.place c.loop-left.left c.lines_on-at.result c.lines_on-at.new.out
-    (turn c.before.before.before.before.before.before) c.pour-q.result.at c.pour-q.result.written c.pour-q.ensures c.if-not-q.true
+    (turned c.args.log.now c.args.memory.now c.loop-left.p c.loop-left.left c.loop-left.at c.loop-left.out c.loop-left.invariant.2 c.step-w.result c.step-w.ensures.value c.loop-left.invariant.1 _ _ c.lines_on-at.ensures) c.pour-q.result.at c.pour-q.result.written c.pour-q.ensures c.if-not-q.true
 
 pub overflow_sub-left : goal.overflow_sub-left
 overflow_sub-left c = omega (arith, c.loop-left-test.true)
@@ -54,7 +45,7 @@ loop-left-preserved c =
       omega (arith, c.out-1.given, l.invariant.0),
       pours_room _ _ 96 q.result.at q.result.written q.ensures (omega (arith, c.out-1.given, l.invariant.1)),
       goes_on_lem a.log.now a.memory.now c.step-w.result.next c.step-w.result.place c.loop-left.left c.lines_on-at.result c.lines_on-at.new.out
-          (turn c.before.before.before.before.before.before) q.result.at q.result.written q.ensures (sym c.is_over.ensures ∙ c.if-is_over.false) c.if-not-q.false,
+          (turned c.args.log.now c.args.memory.now c.loop-left.p c.loop-left.left c.loop-left.at c.loop-left.out c.loop-left.invariant.2 c.step-w.result c.step-w.ensures.value c.loop-left.invariant.1 _ _ c.lines_on-at.ensures) q.result.at q.result.written q.ensures (sym c.is_over.ensures ∙ c.if-is_over.false) c.if-not-q.false,
     )
 
 pub shape_of-out : goal.shape_of-out

@@ -13,16 +13,6 @@ loop-left-init c =
 pub line_on-at-requires : goal.line_on-at-requires
 line_on-at-requires c = c.loop-left.invariant.1
 
--- the turn, behind its line
-turn : (c : goal.After-slice_known-in-loop-left-1)
-    → Turned c.args.log.now c.args.memory.now c.pass-p.result.next c.pass-p.result.moment c.loop-left.left c.line_on-at.result
-    c.line_on-at.new.out
-turn c =
-    let a = c.args in
-    let l = c.loop-left in
-    let s = c.pass-p in
-    turned a.log.now a.memory.now l.m l.left l.at l.out l.invariant.2 s.result s.ensures.value l.invariant.1 _ _ c.line_on-at.ensures
-
 pub shape_of-out-then-is_over : goal.shape_of-out-then-is_over
 shape_of-out-then-is_over c = omega (arith, c.out-1.given, c.loop-left.invariant.0)
 
@@ -32,7 +22,7 @@ returns-then-is_over c =
     let l = c.loop-left in
     let s = c.pass-p in
     let o = c.line_on-at in
-    ends_there a.log.now a.memory.now s.result.next s.result.moment l.left o.result o.new.out (turn c.before.before.before.before)
+    ends_there a.log.now a.memory.now s.result.next s.result.moment l.left o.result o.new.out (turned c.args.log.now c.args.memory.now c.loop-left.m c.loop-left.left c.loop-left.at c.loop-left.out c.loop-left.invariant.2 c.pass-p.result c.pass-p.ensures.value c.loop-left.invariant.1 _ _ c.line_on-at.ensures)
     c.write_front.result (sym c.is_over.ensures ∙ c.if-is_over.true) c.write_front.ensures
 
 pub shape_of-out-then-not-q : goal.shape_of-out-then-not-q
@@ -45,7 +35,7 @@ returns-then-not-q c =
     let s = c.pass-p in
     let o = c.line_on-at in
     let q = c.pour-q in
-    cut_there a.log.now a.memory.now s.result.next s.result.moment l.left o.result o.new.out (turn c.before.before.before.before.before.before)
+    cut_there a.log.now a.memory.now s.result.next s.result.moment l.left o.result o.new.out (turned c.args.log.now c.args.memory.now c.loop-left.m c.loop-left.left c.loop-left.at c.loop-left.out c.loop-left.invariant.2 c.pass-p.result c.pass-p.ensures.value c.loop-left.invariant.1 _ _ c.line_on-at.ensures)
     q.result.at q.result.written q.ensures c.if-not-q.true
 
 pub overflow_sub-left : goal.overflow_sub-left
@@ -63,7 +53,7 @@ loop-left-preserved c =
     let q = c.pour-q in (
       omega (arith, c.out-1.given, l.invariant.0),
       pours_room _ _ 64 q.result.at q.result.written q.ensures (omega (arith, c.out-1.given, l.invariant.1)),
-      goes_on_lem a.log.now a.memory.now s.result.next s.result.moment l.left o.result o.new.out (turn c.before.before.before.before.before.before)
+      goes_on_lem a.log.now a.memory.now s.result.next s.result.moment l.left o.result o.new.out (turned c.args.log.now c.args.memory.now c.loop-left.m c.loop-left.left c.loop-left.at c.loop-left.out c.loop-left.invariant.2 c.pass-p.result c.pass-p.ensures.value c.loop-left.invariant.1 _ _ c.line_on-at.ensures)
           q.result.at q.result.written q.ensures (sym c.is_over.ensures ∙ c.if-is_over.false) c.if-not-q.false,
     )
 

@@ -16,15 +16,6 @@ loop-left-init c =
 pub lines_on-at-requires : goal.lines_on-at-requires
 lines_on-at-requires c = c.loop-left.invariant.1
 
--- the turn, behind its lines
-turn : (o : goal.After-slice_known-in-loop-left-1)
-    → Turned o.args.log.now o.args.memory.now o.args.from o.args.until o.loop-left.told o.step-w.result.next o.step-w.result.place o.loop-left.left o.lines_on-at.result
-    o.lines_on-at.new.out
-turn o =
-    let a = o.args in
-    let l = o.loop-left in
-    turned a.log.now a.memory.now a.from a.until l.p l.told l.left l.at l.out l.invariant.2 o.step-w.result o.step-w.ensures.value l.invariant.1 _ _ o.lines_on-at.ensures
-
 pub shape_of-out-then-is_over : goal.shape_of-out-then-is_over
 shape_of-out-then-is_over c = omega (arith, c.out-1.given, c.loop-left.invariant.0)
 
@@ -34,7 +25,7 @@ returns-then-is_over c =
     let l = c.loop-left in
     let s = c.step-w.result in
     let n = c.lines_on-at in
-    ends_there a.log.now a.memory.now a.from a.until l.told s.next s.place l.left n.result n.new.out (turn c.before.before.before.before.before)
+    ends_there a.log.now a.memory.now a.from a.until l.told s.next s.place l.left n.result n.new.out (turned c.args.log.now c.args.memory.now c.args.from c.args.until c.loop-left.p c.loop-left.told c.loop-left.left c.loop-left.at c.loop-left.out c.loop-left.invariant.2 c.step-w.result c.step-w.ensures.value c.loop-left.invariant.1 _ _ c.lines_on-at.ensures)
     c.write_front.result (sym c.is_over.ensures ∙ c.if-is_over.true) c.write_front.ensures
 
 pub shape_of-out-then-not-q : goal.shape_of-out-then-not-q
@@ -47,7 +38,7 @@ returns-then-not-q c =
     let s = c.step-w.result in
     let n = c.lines_on-at in
     let q = c.pour-q in
-    cut_there a.log.now a.memory.now a.from a.until l.told s.next s.place l.left n.result n.new.out (turn c.before.before.before.before.before.before.before)
+    cut_there a.log.now a.memory.now a.from a.until l.told s.next s.place l.left n.result n.new.out (turned c.args.log.now c.args.memory.now c.args.from c.args.until c.loop-left.p c.loop-left.told c.loop-left.left c.loop-left.at c.loop-left.out c.loop-left.invariant.2 c.step-w.result c.step-w.ensures.value c.loop-left.invariant.1 _ _ c.lines_on-at.ensures)
     q.result.at q.result.written q.ensures c.if-not-q.true
 
 pub overflow_sub-left : goal.overflow_sub-left
@@ -65,7 +56,7 @@ loop-left-preserved c =
     let q = c.pour-q in (
       omega (arith, c.out-1.given, l.invariant.0),
       pours_room _ _ 256 q.result.at q.result.written q.ensures (omega (arith, c.out-1.given, l.invariant.1)),
-      goes_on_lem a.log.now a.memory.now a.from a.until l.told s.next s.place l.left n.result n.new.out (turn c.before.before.before.before.before.before.before)
+      goes_on_lem a.log.now a.memory.now a.from a.until l.told s.next s.place l.left n.result n.new.out (turned c.args.log.now c.args.memory.now c.args.from c.args.until c.loop-left.p c.loop-left.told c.loop-left.left c.loop-left.at c.loop-left.out c.loop-left.invariant.2 c.step-w.result c.step-w.ensures.value c.loop-left.invariant.1 _ _ c.lines_on-at.ensures)
           q.result.at q.result.written q.ensures c.told_after-told.result c.told_after-told.ensures (sym c.is_over.ensures ∙ c.if-is_over.false) c.if-not-q.false,
     )
 
