@@ -58,7 +58,7 @@ number_same Silent = refl
 number_same (Steady v) = refl
 number_same (Moving a b) = refl
 
-values_same : (m : Measured) → values_of (in_fractions m) ≡ fractions (measured_levels m)
+pub values_same : (m : Measured) → values_of (in_fractions m) ≡ fractions (measured_levels m)
 values_same (Refused k) = refl
 values_same NoLevels = refl
 values_same Silent = refl

@@ -3,7 +3,7 @@
 #![tactic(auto)]
 
 ghost use Rattle.std.specs.Prelude.{◌≡◌, [], ◌∷◌, min, max};
-ghost use Rattle.meter.specs.Measure.{meter_number, meter_levels, MeasuredIs, measure_of};
+ghost use Rattle.meter.specs.Measure.{measured_levels, meter_number, meter_levels, MeasuredIs, measure_of};
 ghost use Rattle.meter.specs.Meter.{metered_number, values_of, fractions, MeteredIs, in_fractions, meter_of};
 ghost use Rattle.meter.specs.Spans.{span_at, span_over, span_from, told_of, SpanIs};
 
@@ -146,7 +146,8 @@ pub fn in_fractions(m: Measured) -> Metered
 pub fn meter(levels: &[u32]) -> Metered
     ensures value { result ≡ meter_of levels.now }
     ensures result_value { metered_number result ≡ meter_number levels.now }
-    ensures result_value_2 { values_of result ≡ fractions (meter_levels levels.now) }
+    ensures result_value_2 { values_of result ≡ fractions (measured_levels (measure_of levels.now)) }
+    ensures levels_value { values_of result ≡ fractions (meter_levels levels.now) }
 {
     let m = measure(levels);
     in_fractions(m)

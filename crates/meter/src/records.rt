@@ -1,6 +1,6 @@
 // The meter over records of a run, whose words are clock and level in turn, so that nobody has to copy the levels out of them.
 ghost use Rattle.std.specs.Prelude.{◌≡◌, ◌+◌, min};
-ghost use Rattle.meter.specs.Measure.{meter_number, meter_levels, MeasuredIs, measure_of};
+ghost use Rattle.meter.specs.Measure.{measured_levels, meter_number, meter_levels, MeasuredIs, measure_of};
 ghost use Rattle.meter.specs.Meter.{metered_number, values_of, fractions, meter_of};
 ghost use Rattle.meter.specs.Records.{record_levels, levels_heard};
 ghost use Rattle.meter.specs.Spans.{span_over, span_from};
@@ -82,7 +82,8 @@ pub fn measure(before: Before, words: &[u32], start: usize, count: usize) -> Mea
 pub fn meter(before: Before, words: &[u32], start: usize, count: usize) -> Metered
     ensures value { result ≡ meter_of (levels_heard before (record_levels start count words.now)) }
     ensures result_value { metered_number result ≡ meter_number (levels_heard before (record_levels start count words.now)) }
-    ensures result_value_2 { values_of result ≡ fractions (meter_levels (levels_heard before (record_levels start count words.now))) }
+    ensures result_value_2 { values_of result ≡ fractions (measured_levels (measure_of (levels_heard before (record_levels start count words.now)))) }
+    ensures levels_value { values_of result ≡ fractions (meter_levels (levels_heard before (record_levels start count words.now))) }
 {
     let m = measure(before, words, start, count);
     super::in_fractions(m)
