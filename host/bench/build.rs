@@ -1,4 +1,4 @@
-//! Links the archive of the clock by itself (`rt staticlib bench_clock`) where it has been built.
+//! Links the archive of the clock by itself (`./build bench_clock`) where it has been built.
 
 use std::path::Path;
 

@@ -1,4 +1,4 @@
-//! Links the library's archive: that of `rt staticlib perchpulley` in this tree, or of the folder that PERCH_LIBRARY names. With the
+//! Links the library's archive: that of `./build perchpulley` in this tree, or of the folder that PERCH_LIBRARY names. With the
 //! feature `standin` the stand-in takes its place.
 
 use std::path::PathBuf;
@@ -15,7 +15,7 @@ fn main() {
     if !archive.exists() {
         eprintln!("{} isn't there.", archive.display());
         eprintln!(
-            "`rt staticlib perchpulley`, in the folder above host/, builds it; PERCH_LIBRARY names another folder that has it."
+            "`./build perchpulley`, in the folder above host/, builds it; PERCH_LIBRARY names another folder that has it."
         );
         eprintln!("To try the tools without the library: --features standin.");
         std::process::exit(1);

@@ -262,7 +262,7 @@ fn main() -> ExitCode {
         return ExitCode::from(2);
     };
     if asked.archive && !perch::ARCHIVE {
-        eprintln!("the library's archive isn't linked; rt staticlib perchpulley builds it");
+        eprintln!("the library's archive isn't linked; ./build perchpulley builds it");
         return ExitCode::FAILURE;
     }
     let words: Vec<&str> = asked.words.iter().map(String::as_str).collect();

@@ -1,3 +1,4 @@
+use borrow.Author.Tests.{not-true, not-false}
 use native.Mathlib.Omega.{arith}
 use mathlib.Core.Path.{refl, sym, ◌∙◌}
 use Rattle.lines_stdout.proofs.PourLaws.{pours_room}
@@ -29,7 +30,7 @@ pub returns-then-not-q : goal.returns-then-not-q
 returns-then-not-q c =
     let a = c.args in
     cut_there a.log.now a.memory.now c.step-w.result.next c.step-w.result.place c.loop-left.left c.lines_on-at.result c.lines_on-at.new.out
-    (turned c.args.log.now c.args.memory.now c.loop-left.p c.loop-left.left c.loop-left.at c.loop-left.out c.loop-left.invariant.2 c.step-w.result c.step-w.ensures.value c.loop-left.invariant.1 _ _ c.lines_on-at.ensures) c.pour-q.result.at c.pour-q.result.written c.pour-q.ensures c.if-not-q.true
+    (turned c.args.log.now c.args.memory.now c.loop-left.p c.loop-left.left c.loop-left.at c.loop-left.out c.loop-left.invariant.2 c.step-w.result c.step-w.ensures.value c.loop-left.invariant.1 _ _ c.lines_on-at.ensures) c.pour-q.result.at c.pour-q.result.written c.pour-q.ensures (not-true _ c.if-not-q.true)
 
 pub overflow_sub-left : goal.overflow_sub-left
 overflow_sub-left c = omega (arith, c.loop-left-test.true)
@@ -45,7 +46,7 @@ loop-left-preserved c =
       omega (arith, c.out-1.given, l.invariant.0),
       pours_room _ _ 96 q.result.at q.result.written q.ensures (omega (arith, c.out-1.given, l.invariant.1)),
       goes_on_lem a.log.now a.memory.now c.step-w.result.next c.step-w.result.place c.loop-left.left c.lines_on-at.result c.lines_on-at.new.out
-          (turned c.args.log.now c.args.memory.now c.loop-left.p c.loop-left.left c.loop-left.at c.loop-left.out c.loop-left.invariant.2 c.step-w.result c.step-w.ensures.value c.loop-left.invariant.1 _ _ c.lines_on-at.ensures) q.result.at q.result.written q.ensures (sym c.is_over.ensures ∙ c.if-is_over.false) c.if-not-q.false,
+          (turned c.args.log.now c.args.memory.now c.loop-left.p c.loop-left.left c.loop-left.at c.loop-left.out c.loop-left.invariant.2 c.step-w.result c.step-w.ensures.value c.loop-left.invariant.1 _ _ c.lines_on-at.ensures) q.result.at q.result.written q.ensures (sym c.is_over.ensures ∙ c.if-is_over.false) (not-false _ c.if-not-q.false),
     )
 
 pub shape_of-out : goal.shape_of-out

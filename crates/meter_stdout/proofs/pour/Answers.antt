@@ -1,3 +1,4 @@
+use borrow.Author.Tests.{not-true, not-false}
 use native.Mathlib.Omega.{arith}
 use mathlib.Core.Path.{refl, sym, ◌∙◌}
 use Rattle.lines_stdout.proofs.PourLaws.{pours_room}
@@ -36,7 +37,7 @@ returns-then-not-q c =
     let o = c.line_on-at in
     let q = c.pour-q in
     cut_there a.log.now a.memory.now s.result.next s.result.moment l.left o.result o.new.out (turned c.args.log.now c.args.memory.now c.loop-left.m c.loop-left.left c.loop-left.at c.loop-left.out c.loop-left.invariant.2 c.pass-p.result c.pass-p.ensures.value c.loop-left.invariant.1 _ _ c.line_on-at.ensures)
-    q.result.at q.result.written q.ensures c.if-not-q.true
+    q.result.at q.result.written q.ensures (not-true _ c.if-not-q.true)
 
 pub overflow_sub-left : goal.overflow_sub-left
 overflow_sub-left c = omega (arith, c.loop-left-test.true)
@@ -54,7 +55,7 @@ loop-left-preserved c =
       omega (arith, c.out-1.given, l.invariant.0),
       pours_room _ _ 64 q.result.at q.result.written q.ensures (omega (arith, c.out-1.given, l.invariant.1)),
       goes_on_lem a.log.now a.memory.now s.result.next s.result.moment l.left o.result o.new.out (turned c.args.log.now c.args.memory.now c.loop-left.m c.loop-left.left c.loop-left.at c.loop-left.out c.loop-left.invariant.2 c.pass-p.result c.pass-p.ensures.value c.loop-left.invariant.1 _ _ c.line_on-at.ensures)
-          q.result.at q.result.written q.ensures (sym c.is_over.ensures ∙ c.if-is_over.false) c.if-not-q.false,
+          q.result.at q.result.written q.ensures (sym c.is_over.ensures ∙ c.if-is_over.false) (not-false _ c.if-not-q.false),
     )
 
 pub shape_of-out : goal.shape_of-out

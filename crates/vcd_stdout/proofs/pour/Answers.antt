@@ -1,3 +1,4 @@
+use borrow.Author.Tests.{not-true, not-false}
 use native.Mathlib.Omega.{arith}
 use mathlib.Core.Path.{refl, sym, ◌∙◌}
 use Rattle.lines_stdout.proofs.PourLaws.{pours_room}
@@ -39,7 +40,7 @@ returns-then-not-q c =
     let n = c.lines_on-at in
     let q = c.pour-q in
     cut_there a.log.now a.memory.now a.from a.until l.told s.next s.place l.left n.result n.new.out (turned c.args.log.now c.args.memory.now c.args.from c.args.until c.loop-left.p c.loop-left.told c.loop-left.left c.loop-left.at c.loop-left.out c.loop-left.invariant.2 c.step-w.result c.step-w.ensures.value c.loop-left.invariant.1 _ _ c.lines_on-at.ensures)
-    q.result.at q.result.written q.ensures c.if-not-q.true
+    q.result.at q.result.written q.ensures (not-true _ c.if-not-q.true)
 
 pub overflow_sub-left : goal.overflow_sub-left
 overflow_sub-left c = omega (arith, c.loop-left-test.true)
@@ -57,7 +58,7 @@ loop-left-preserved c =
       omega (arith, c.out-1.given, l.invariant.0),
       pours_room _ _ 256 q.result.at q.result.written q.ensures (omega (arith, c.out-1.given, l.invariant.1)),
       goes_on_lem a.log.now a.memory.now a.from a.until l.told s.next s.place l.left n.result n.new.out (turned c.args.log.now c.args.memory.now c.args.from c.args.until c.loop-left.p c.loop-left.told c.loop-left.left c.loop-left.at c.loop-left.out c.loop-left.invariant.2 c.step-w.result c.step-w.ensures.value c.loop-left.invariant.1 _ _ c.lines_on-at.ensures)
-          q.result.at q.result.written q.ensures c.told_after-told.result c.told_after-told.ensures (sym c.is_over.ensures ∙ c.if-is_over.false) c.if-not-q.false,
+          q.result.at q.result.written q.ensures c.told_after-told.result c.told_after-told.ensures (sym c.is_over.ensures ∙ c.if-is_over.false) (not-false _ c.if-not-q.false),
     )
 
 pub shape_of-out : goal.shape_of-out
