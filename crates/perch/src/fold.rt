@@ -1,27 +1,26 @@
 // `perch fold`: a log on standard input, the folded log on standard output, and nothing else there.
 use super::refused::refuse;
-use libc::STDOUT_FILENO;
 use perch_fold::Outcome;
 
-fn tell(log: &[u8]) -> bool {
+fn tell(rt: &HostRuntime, log: &[u8]) -> bool {
     let mut out = [0u8; 60000];
     let o = perch_fold::fold(log, &mut out);
     match o {
-        Outcome::Done(n) => program_io::write_front(STDOUT_FILENO, &out, n),
+        Outcome::Done(n) => program_io::write_front(&mut rt.stdout(), &out, n),
         Outcome::Refused(number, place) => {
-            refuse(number, place);
+            refuse(rt, number, place);
             true
         }
     }
 }
 
 // A byte more than a log may have, so that a longer one is seen.
-pub(crate) fn fold() -> bool {
+pub(crate) fn fold(rt: &HostRuntime) -> bool {
     let mut log = [0u8; 60001];
-    let r = program_io::read_input(b"perch", &mut log);
+    let r = program_io::read_input(rt, b"perch", &mut log);
     if r.failed {
         return true;
     }
     let n = r.count;
-    tell(&log[..n])
+    tell(rt, &log[..n])
 }

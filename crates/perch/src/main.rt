@@ -2,6 +2,7 @@
 // where its input can't be read or its words are wrong, that is nothing.
 #![tactic(auto)]
 
+mod arguments;
 mod check;
 mod dwells;
 mod fold;
@@ -22,75 +23,74 @@ mod trace;
 mod usage;
 mod why;
 
-use libc::{STDERR_FILENO, STDOUT_FILENO};
 use recordings::{Asked, Played};
 
 // Runs a verb that is given as many words as it asks for, the program's name and the verb among them.
-fn run(verb: &[u8], words: usize) -> bool {
+fn run(rt: &HostRuntime, verb: &[u8], words: usize) -> bool {
     if words < 2 {
-        return usage::usage(STDOUT_FILENO);
+        return usage::usage(&mut rt.stdout());
     }
     if arith::both_of(words == 2, text::exact(verb, b"help")) {
-        return usage::usage(STDOUT_FILENO);
+        return usage::usage(&mut rt.stdout());
     }
     if arith::both_of(words == 2, text::exact(verb, b"version")) {
-        return usage::version();
+        return usage::version(rt);
     }
     if arith::both_of(words == 2, text::exact(verb, b"check")) {
-        return recordings::answer(Asked::Check);
+        return recordings::answer(rt, Asked::Check);
     }
     if arith::both_of(words == 2, text::exact(verb, b"fold")) {
-        return fold::fold();
+        return fold::fold(rt);
     }
     if arith::both_of(words == 2, text::exact(verb, b"import")) {
-        return recordings::answer(Asked::Import);
+        return recordings::answer(rt, Asked::Import);
     }
     if arith::both_of(words == 2, text::exact(verb, b"salvage")) {
-        return salvage::salvage();
+        return salvage::salvage(rt);
     }
     if arith::both_of(words == 2, text::exact(verb, b"samples")) {
-        return recordings::answer(Asked::Samples);
+        return recordings::answer(rt, Asked::Samples);
     }
     if arith::both_of(words == 2, text::exact(verb, b"play")) {
-        return recordings::play(Played::Play);
+        return recordings::play(rt, Played::Play);
     }
     if arith::both_of(words == 3, text::exact(verb, b"why")) {
-        return why::why();
+        return why::why(rt);
     }
     if arith::both_of(words == 3, text::exact(verb, b"at")) {
-        return states::at();
+        return states::at(rt);
     }
     if arith::both_of(words == 4, text::exact(verb, b"vcd")) {
-        return trace::vcd();
+        return trace::vcd(rt);
     }
     if arith::both_of(words == 2, text::exact(verb, b"wav")) {
-        return sound::at_rate(44100);
+        return sound::at_rate(rt, 44100);
     }
     if arith::both_of(words == 3, text::exact(verb, b"wav")) {
-        return sound::asked();
+        return sound::asked(rt);
     }
     if arith::both_of(words == 2, text::exact(verb, b"meter")) {
-        return meters::meter(false);
+        return meters::meter(rt, false);
     }
     if arith::both_of(words == 3, text::exact(verb, b"meter")) {
-        return meters::asked();
+        return meters::asked(rt);
     }
     if arith::both_of(words == 2, text::exact(verb, b"interrupts")) {
-        return recordings::play(Played::Interrupts);
+        return recordings::play(rt, Played::Interrupts);
     }
     if arith::both_of(words == 2, text::exact(verb, b"dwell")) {
-        return recordings::play(Played::Dwell);
+        return recordings::play(rt, Played::Dwell);
     }
     if text::exact(verb, b"sheet") {
-        return sheet::sheet(words);
+        return sheet::sheet(rt, words);
     }
-    usage::usage(STDERR_FILENO);
+    usage::usage(&mut rt.stderr());
     true
 }
 
 // A word that is longer than any verb reads as an empty one.
-fn main() {
+fn main(rt: HostRuntime) {
     let mut word = [0u8; 16];
-    let n = os::arg(1, &mut word);
-    program_io::end(b"perch", run(&word[..n], os::arg_count()));
+    let n = arguments::word(&rt, 1, &mut word);
+    program_io::end(&rt, b"perch", run(&rt, &word[..n], arguments::count(&rt)));
 }

@@ -1,6 +1,6 @@
 // The sample memory for a recording: that of its own sample blocks, where it is a VGM file with some, else the file sample.bin.
 ghost use Rattle.std.specs.Prelude.{◌≤◌, length};
-ghost use Rattle.io.specs.Counts.{IsPrefixLen};
+ghost use Rattle.std.specs.Counts.{IsPrefixLen};
 
 use program_io::Input;
 use vgm_file::Part;
@@ -27,7 +27,7 @@ pub(crate) fn of_blocks(file: &[u8], memory: &mut [u8]) -> usize {
 }
 
 // Into a byte more than sample memory has, so that a longer one is seen.
-pub(crate) fn read_for(recording: &[u8], memory: &mut [u8]) -> Input
+pub(crate) fn read_for(rt: &HostRuntime, recording: &[u8], memory: &mut [u8]) -> Input
     requires { 32769 ≤ length memory.old }
     ensures { IsPrefixLen result.count memory.new }
 {
@@ -37,5 +37,5 @@ pub(crate) fn read_for(recording: &[u8], memory: &mut [u8]) -> Input
             failed: false,
         };
     }
-    program_io::read_sample(b"perch", memory)
+    program_io::read_sample(rt, b"perch", memory)
 }

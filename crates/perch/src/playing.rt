@@ -2,8 +2,8 @@
 use super::refused::{explain, unplayed};
 
 // The lines, and the reason on standard error where the recording is refused.
-pub(crate) fn tell(log: &[u8], memory: &[u8]) -> bool {
-    let written = play_stdout::play(log, memory);
-    explain(unplayed(log, memory));
+pub(crate) fn tell(rt: &HostRuntime, log: &[u8], memory: &[u8]) -> bool {
+    let written = play_stdout::play(rt, log, memory);
+    explain(rt, unplayed(log, memory));
     written
 }

@@ -29,67 +29,67 @@ pub(crate) enum Asked {
     Play(Played),
 }
 
-fn tell(p: Played, log: &[u8], memory: &[u8]) -> bool {
+fn tell(rt: &HostRuntime, p: Played, log: &[u8], memory: &[u8]) -> bool {
     match p {
-        Played::Play => playing::tell(log, memory),
-        Played::Why(clock) => why::tell(log, memory, clock),
-        Played::At(clock) => states::tell(log, memory, clock),
-        Played::Vcd(from, count) => trace::tell(log, memory, from, count),
-        Played::Wav(rate) => sound::tell(log, memory, rate),
-        Played::Meter(each) => meters::tell(log, memory, each),
-        Played::Interrupts => interrupts::tell(log, memory),
-        Played::Dwell => dwells::tell(log, memory),
+        Played::Play => playing::tell(rt, log, memory),
+        Played::Why(clock) => why::tell(rt, log, memory, clock),
+        Played::At(clock) => states::tell(rt, log, memory, clock),
+        Played::Vcd(from, count) => trace::tell(rt, log, memory, from, count),
+        Played::Wav(rate) => sound::tell(rt, log, memory, rate),
+        Played::Meter(each) => meters::tell(rt, log, memory, each),
+        Played::Interrupts => interrupts::tell(rt, log, memory),
+        Played::Dwell => dwells::tell(rt, log, memory),
     }
 }
 
 // With the sample memory: a byte more than it has, so that a longer one is seen.
-fn with_sample(p: Played, log: &[u8]) -> bool {
+fn with_sample(rt: &HostRuntime, p: Played, log: &[u8]) -> bool {
     let mut memory = [0u8; 32769];
-    let r = read_for(log, &mut memory);
+    let r = read_for(rt, log, &mut memory);
     if r.failed {
         return true;
     }
-    warn(log);
+    warn(rt, log);
     let n = r.count;
-    tell(p, log, &memory[..n])
+    tell(rt, p, log, &memory[..n])
 }
 
 // Whether bytes are a VGM file that is too long; that is said.
-fn is_long(log: &[u8]) -> bool {
+fn is_long(rt: &HostRuntime, log: &[u8]) -> bool {
     if arith::both_of(524288 < log.len(), recording::is_file(log)) {
-        program_io::say(b"perch: a VGM file of more than 512 KiB is not read\n");
+        program_io::say(rt, b"perch: a VGM file of more than 512 KiB is not read\n");
         return true;
     }
     false
 }
 
-fn about(a: Asked, log: &[u8]) -> bool {
-    if is_long(log) {
+fn about(rt: &HostRuntime, a: Asked, log: &[u8]) -> bool {
+    if is_long(rt, log) {
         return true;
     }
     match a {
         Asked::Check => {
-            warn(log);
-            check::tell(log)
+            warn(rt, log);
+            check::tell(rt, log)
         }
-        Asked::Import => import::tell(log),
-        Asked::Samples => samples::tell(log),
-        Asked::Play(p) => with_sample(p, log),
+        Asked::Import => import::tell(rt, log),
+        Asked::Samples => samples::tell(rt, log),
+        Asked::Play(p) => with_sample(rt, p, log),
     }
 }
 
 // A byte more than a VGM file may have, so that a longer one is seen, and a longer log.
-pub(crate) fn answer(a: Asked) -> bool {
+pub(crate) fn answer(rt: &HostRuntime, a: Asked) -> bool {
     let mut log = [0u8; 524289];
-    let r = program_io::read_input(b"perch", &mut log);
+    let r = program_io::read_input(rt, b"perch", &mut log);
     if r.failed {
         return true;
     }
     let n = r.count;
-    about(a, &log[..n])
+    about(rt, a, &log[..n])
 }
 
-pub(crate) fn play(p: Played) -> bool {
+pub(crate) fn play(rt: &HostRuntime, p: Played) -> bool {
     let a = Asked::Play(p);
-    answer(a)
+    answer(rt, a)
 }

@@ -3,25 +3,23 @@ ghost use Rattle.std.specs.Prelude.{◌≡◌, eqb, length};
 ghost use Rattle.arith.specs.Pick.{pick};
 ghost use Rattle.recording.specs.Whole.{check_of};
 
-use libc::STDERR_FILENO;
-
 // The reason in words; none for 0.
-pub(crate) fn explain(number: u8) {
+pub(crate) fn explain(rt: &HostRuntime, number: u8) {
     if number == 0 {
         return;
     }
     let mut words = [0u8; 60];
     let m = perch_reasons::reason(&mut words, 0, number);
-    program_io::write_front(STDERR_FILENO, &words, m);
-    program_io::say(b"\n");
+    program_io::write_front(&mut rt.stderr(), &words, m);
+    program_io::say(rt, b"\n");
 }
 
 // `refused=NUMBER:PLACE`, and below it the reason in words.
-pub(crate) fn refuse(number: u8, place: usize) {
+pub(crate) fn refuse(rt: &HostRuntime, number: u8, place: usize) {
     let mut text = [0u8; 40];
     let n = text_lines::refused_line(&mut text, 0, number, place);
-    program_io::write_front(STDERR_FILENO, &text, n);
-    explain(number);
+    program_io::write_front(&mut rt.stderr(), &text, n);
+    explain(rt, number);
 }
 
 // What a log with a sample memory is refused by when it is to be played, or 0.

@@ -2,14 +2,13 @@
 ghost use Rattle.std.specs.Prelude.{◌≡◌, ◌%◌};
 
 use super::refused::refuse;
-use libc::{STDERR_FILENO, STDOUT_FILENO};
 use perch_salvage::Outcome;
 
 // The line of an entry: 160 bytes hold it, since a line that is added has at most 15 and a reason at most 60.
-fn line(log: &[u8], new: &[u8], first: u32, second: u8) {
+fn line(rt: &HostRuntime, log: &[u8], new: &[u8], first: u32, second: u8) {
     let mut text = [0u8; 160];
     let n = perch_salvage::entry(log, new, first, second, &mut text);
-    program_io::write_front(STDERR_FILENO, &text, n);
+    program_io::write_front(&mut rt.stderr(), &text, n);
 }
 
 // A reason's number: the low byte of a word.
@@ -20,39 +19,39 @@ fn reason(word: u32) -> u8
 }
 
 // The first n entries of a list, or all.
-fn lines(log: &[u8], new: &[u8], list: &[u32], n: usize) {
+fn lines(rt: &HostRuntime, log: &[u8], new: &[u8], list: &[u32], n: usize) {
     let end = arith::least_usize(n, list.len() / 2);
     let mut i = 0;
     while i < end {
-        line(log, new, list[2 * i], reason(list[2 * i + 1]));
+        line(rt, log, new, list[2 * i], reason(list[2 * i + 1]));
         i += 1;
     }
 }
 
-fn tell(log: &[u8]) -> bool {
+fn tell(rt: &HostRuntime, log: &[u8]) -> bool {
     let mut out = [0u8; 60000];
     let mut list = [0u32; 120020];
     let o = perch_salvage::salvage(log, &mut out, &mut list);
     match o {
         Outcome::Done(n, entries) => {
-            let written = program_io::write_front(STDOUT_FILENO, &out, n);
-            lines(log, &out, &list, entries);
+            let written = program_io::write_front(&mut rt.stdout(), &out, n);
+            lines(rt, log, &out, &list, entries);
             written
         }
         Outcome::Refused(number, place) => {
-            refuse(number, place);
+            refuse(rt, number, place);
             true
         }
     }
 }
 
 // A byte more than a log may have, so that a longer one is seen.
-pub(crate) fn salvage() -> bool {
+pub(crate) fn salvage(rt: &HostRuntime) -> bool {
     let mut log = [0u8; 60001];
-    let r = program_io::read_input(b"perch", &mut log);
+    let r = program_io::read_input(rt, b"perch", &mut log);
     if r.failed {
         return true;
     }
     let n = r.count;
-    tell(&log[..n])
+    tell(rt, &log[..n])
 }

@@ -1,15 +1,16 @@
 // `perch sheet LEVEL ADDRESS LENGTH`: the level after each byte of a sample in the file `sample.bin`, on standard output.
 ghost use Rattle.std.specs.Prelude.{◌≡◌, take};
-ghost use Rattle.io.specs.Counts.{IsPrefixLen};
+ghost use Rattle.std.specs.Counts.{IsPrefixLen};
 ghost use Rattle.perch_sheet.specs.Report.{sheet_refusal, sheet_text};
 
+use super::arguments;
 use super::refused::explain;
-use libc::STDOUT_FILENO;
 use perch_sheet::Args;
 
 // What the words have to be; nothing is to be written.
-fn expected() -> bool {
+fn expected(rt: &HostRuntime) -> bool {
     program_io::say(
+        rt,
         b"perch: expected sheet LEVEL ADDRESS LENGTH: decimals with no leading zero, the address four lower-case hex digits, as in sheet 64 c000 20\n",
     );
     true
@@ -32,44 +33,47 @@ fn number_of(memory: &[u8], level: u64, address: u64, size: u64) -> u8
     w.number
 }
 
-fn tell(memory: &[u8], level: u32, address: u32, size: u32) -> bool {
+fn tell(rt: &HostRuntime, memory: &[u8], level: u32, address: u32, size: u32) -> bool {
     let mut out = [0u8; 40000];
     let n = answer(memory, level as u64, address as u64, size as u64, &mut out);
-    let written = program_io::write_all(STDOUT_FILENO, &out[..n]);
-    explain(number_of(memory, level as u64, address as u64, size as u64));
+    let written = program_io::write_all(&mut rt.stdout(), &out[..n]);
+    explain(
+        rt,
+        number_of(memory, level as u64, address as u64, size as u64),
+    );
     written
 }
 
 // A byte more than sample memory has, so that a longer file is seen.
-fn draw(level: u32, address: u32, size: u32) -> bool {
+fn draw(rt: &HostRuntime, level: u32, address: u32, size: u32) -> bool {
     let mut memory = [0u8; 32769];
-    let r = program_io::read_sample(b"perch", &mut memory);
+    let r = program_io::read_sample(rt, b"perch", &mut memory);
     if r.failed {
         return true;
     }
     let n = r.count;
-    tell(&memory[..n], level, address, size)
+    tell(rt, &memory[..n], level, address, size)
 }
 
 // A word that is missing, or longer than any right one, reads as an empty one.
-fn words() -> Args {
+fn words(rt: &HostRuntime) -> Args {
     let mut level = [0u8; 16];
-    let l = os::arg(2, &mut level);
+    let l = arguments::word(rt, 2, &mut level);
     let mut address = [0u8; 16];
-    let a = os::arg(3, &mut address);
+    let a = arguments::word(rt, 3, &mut address);
     let mut size = [0u8; 16];
-    let n = os::arg(4, &mut size);
+    let n = arguments::word(rt, 4, &mut size);
     perch_sheet::args_of(&level[..l], &address[..a], &size[..n])
 }
 
 // `count` is that of all words, the program's name and the verb among them.
-pub(crate) fn sheet(count: usize) -> bool {
+pub(crate) fn sheet(rt: &HostRuntime, count: usize) -> bool {
     if count != 5 {
-        return expected();
+        return expected(rt);
     }
-    let w = words();
+    let w = words(rt);
     match w {
-        Args::Right(level, address, size) => draw(level, address, size),
-        Args::Wrong => expected(),
+        Args::Right(level, address, size) => draw(rt, level, address, size),
+        Args::Wrong => expected(rt),
     }
 }

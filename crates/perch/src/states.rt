@@ -1,12 +1,11 @@
 // `perch at CLOCK`: a log on standard input, and on standard output every field of the state at that clock.
 ghost use Rattle.std.specs.Prelude.{◌≡◌, take};
-ghost use Rattle.io.specs.Counts.{IsPrefixLen};
+ghost use Rattle.std.specs.Counts.{IsPrefixLen};
 ghost use Rattle.perch_at.specs.Text.{at_text};
 
-use super::recordings;
 use super::recordings::Played;
 use super::refused::{explain, unplayed};
-use libc::STDOUT_FILENO;
+use super::{arguments, recordings};
 use text::Number;
 
 // The text: 3,072 bytes always hold it.
@@ -17,26 +16,27 @@ fn answer(log: &[u8], memory: &[u8], clock: u64, out: &mut [u8; 3072]) -> usize
     perch_at::answer(log, memory, clock, out)
 }
 
-pub(crate) fn tell(log: &[u8], memory: &[u8], clock: u64) -> bool {
+pub(crate) fn tell(rt: &HostRuntime, log: &[u8], memory: &[u8], clock: u64) -> bool {
     let mut out = [0u8; 3072];
     let n = answer(log, memory, clock, &mut out);
-    let written = program_io::write_all(STDOUT_FILENO, &out[..n]);
-    explain(unplayed(log, memory));
+    let written = program_io::write_all(&mut rt.stdout(), &out[..n]);
+    explain(rt, unplayed(log, memory));
     written
 }
 
 // A word that is longer than any clock reads as an empty one.
-pub(crate) fn at() -> bool {
+pub(crate) fn at(rt: &HostRuntime) -> bool {
     let mut word = [0u8; 16];
-    let n = os::arg(2, &mut word);
+    let n = arguments::word(rt, 2, &mut word);
     let c = text::decimal_in(&word[..n], 0, 2000000000);
     match c {
         Number::Is(clock) => {
             let p = Played::At(clock as u64);
-            recordings::play(p)
+            recordings::play(rt, p)
         }
         Number::None => {
             program_io::say(
+                rt,
                 b"perch: at CLOCK: a decimal from 0 to 2000000000 with no leading zero\n",
             );
             true

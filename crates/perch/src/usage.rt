@@ -1,8 +1,8 @@
 // `perch help` and `perch version`.
-use libc::STDOUT_FILENO;
+use std::io::Write;
 
 // Writes a line where all before it was written; whether it was.
-fn line(file: i32, before: bool, text: &[u8]) -> bool {
+fn line<W: Write>(file: &mut W, before: bool, text: &[u8]) -> bool {
     if before {
         return program_io::write_all(file, text);
     }
@@ -10,7 +10,7 @@ fn line(file: i32, before: bool, text: &[u8]) -> bool {
 }
 
 // The verbs, a line each with their arguments; whether all was written.
-pub(crate) fn usage(file: i32) -> bool {
+pub(crate) fn usage<W: Write>(file: &mut W) -> bool {
     let a = line(file, true, b"usage: perch VERB\n");
     let b = line(
         file,
@@ -102,6 +102,6 @@ pub(crate) fn usage(file: i32) -> bool {
 }
 
 // The number is that of `crates/perchpulley/specs/Version.antt`.
-pub(crate) fn version() -> bool {
-    program_io::write_all(STDOUT_FILENO, b"perch 12\n")
+pub(crate) fn version(rt: &HostRuntime) -> bool {
+    program_io::write_all(&mut rt.stdout(), b"perch 12\n")
 }

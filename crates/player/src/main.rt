@@ -4,23 +4,23 @@
 // A byte more than the memory has, so that a longer one is seen. Whether all that is to be written was.
 #![tactic(auto)]
 
-fn play(log: &[u8]) -> bool {
+fn play(rt: &HostRuntime, log: &[u8]) -> bool {
     let mut memory = [0u8; 32769];
-    let r = program_io::read_sample(b"player", &mut memory);
+    let r = program_io::read_sample(rt, b"player", &mut memory);
     if r.failed {
         return true;
     }
     let n = r.count;
-    play_stdout::play(log, &memory[..n])
+    play_stdout::play(rt, log, &memory[..n])
 }
 
 // A byte more than a log may have, so that a longer one is seen.
-fn main() {
+fn main(rt: HostRuntime) {
     let mut log = [0u8; 524289];
-    let r = program_io::read_input(b"player", &mut log);
+    let r = program_io::read_input(&rt, b"player", &mut log);
     if r.failed {
         return;
     }
     let n = r.count;
-    program_io::end(b"player", play(&log[..n]));
+    program_io::end(&rt, b"player", play(&rt, &log[..n]));
 }
