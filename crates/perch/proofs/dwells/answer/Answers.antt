@@ -1,5 +1,5 @@
 use borrow.Author.Rules.{rules}
-use Rattle.io.proofs.Counting.{prefix_len_of_le}
+use Rattle.program_io.proofs.ReadsLaws.{prefix_len_of_le}
 use Rattle.perch_dwell.proofs.Sizes.{whole_text}
 use Rattle.perch.proofs.dwells.answer.Goals as goal
 

@@ -1,4 +1,4 @@
-use Rattle.io.proofs.Counting.{prefix_len_of_le}
+use Rattle.program_io.proofs.ReadsLaws.{prefix_len_of_le}
 use Rattle.perch_sheet.proofs.Texts.{front_is}
 use Rattle.perch.proofs.sheet.answer.Goals as goal
 
