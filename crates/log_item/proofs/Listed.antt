@@ -40,6 +40,10 @@ module _ (log : List ℕ) (k : ℕ) where
       (λ e. rw e (nth_is (acts (tree_of log))))
       (λ e. rw e (refl, refl, refl))
 
+  -- the number that is answered
+  pub item_number_lem : item_number (item_of log k) ≡ item_refusal log k
+  item_number_lem = item_is.0
+
   pub item_numbers : (r : Picked) → r ≡ item_of log k
       → (r ≡ item_of log k) × ((item_number r ≡ item_refusal log k) × ((item_place r ≡ item_refusal_place log) × (item_acts r ≡ item_in log k)))
   item_numbers r e = let i = item_is in rw e (refl, (i.0, (i.1, i.2)))

@@ -34,6 +34,9 @@ measured_is [] = (refl, refl)
 measured_is (x ∷ l) =
     (by_case (any_above (x ∷ l)) (all_are 0 (x ∷ l)) (all_are x l) x (lowest x l) (highest x l), by_levels (any_above (x ∷ l)) (all_are 0 (x ∷ l)) (all_are x l) x (lowest x l) (highest x l))
 
+measured_number_lem : (l : List ℕ) → measured_number (measure_of l) ≡ meter_number l
+measured_number_lem l = (measured_is l).0
+
 -- of an answer that is the list's
 pub measured_numbers : (l : List ℕ) (r : Measured) → r ≡ measure_of l → (r ≡ measure_of l) × MeasuredIs l r
 measured_numbers l r e = (e, rw e (measured_is l))
@@ -58,7 +61,7 @@ number_same Silent = refl
 number_same (Steady v) = refl
 number_same (Moving a b) = refl
 
-pub values_same : (m : Measured) → values_of (in_fractions m) ≡ fractions (measured_levels m)
+values_same : (m : Measured) → values_of (in_fractions m) ≡ fractions (measured_levels m)
 values_same (Refused k) = refl
 values_same NoLevels = refl
 values_same Silent = refl
@@ -66,7 +69,10 @@ values_same (Steady v) = refl
 values_same (Moving a b) = refl
 
 pub metered_number_lem : (l : List ℕ) → metered_number (meter_of l) ≡ meter_number l
-metered_number_lem l = number_same (measure_of l) ∙ (measured_is l).0
+metered_number_lem l = number_same (measure_of l) ∙ measured_number_lem l
 
-pub metered_values : (l : List ℕ) → values_of (meter_of l) ≡ fractions (meter_levels l)
-metered_values l = values_same (measure_of l) ∙ ap fractions (measured_is l).1
+pub metered_values : (l : List ℕ) → values_of (meter_of l) ≡ fractions (measured_levels (measure_of l))
+metered_values l = values_same (measure_of l)
+
+pub metered_levels : (l : List ℕ) → values_of (meter_of l) ≡ fractions (meter_levels l)
+metered_levels l = metered_values l ∙ ap fractions (measured_is l).1
