@@ -78,9 +78,14 @@ fn about(rt: &HostRuntime, a: Asked, log: &[u8]) -> bool {
     }
 }
 
-// A byte more than a VGM file may have, so that a longer one is seen, and a longer log.
+// Room for a recording: a byte more than a VGM file may have, so that a longer one is seen, and a longer log. What stands there is of no interest: to the
+// prover, which would look at each of so many bytes, it is any.
+fn log_room() -> [u8; 524289] {
+    [0u8; 524289]
+}
+
 pub(crate) fn answer(rt: &HostRuntime, a: Asked) -> bool {
-    let mut log = [0u8; 524289];
+    let mut log = log_room();
     let r = program_io::read_input(rt, b"perch", &mut log);
     if r.failed {
         return true;
