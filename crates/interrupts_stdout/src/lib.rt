@@ -10,10 +10,11 @@ ghost use Rattle.interrupts_stdout.specs.Lines.{passed_text};
 
 use play_interrupts::Next;
 
-// The number of the answer, and whether all that there was to write was written.
+// The number of the answer, whether the first line was written, and whether all that there was to write was.
 #[derive(Clone, Copy)]
 pub struct Told {
     pub number: u8,
+    pub begun: bool,
     pub written: bool,
 }
 
@@ -69,6 +70,7 @@ fn head(rt: &HostRuntime) -> bool
 // Writes the changes of a log, or the line of its refusal. How much of that each write takes is the system's affair, and what bytes it sends no contract can say.
 pub fn write(rt: &HostRuntime, log: &[u8], memory: &[u8]) -> Told
     ensures number_value { result.number ≡ play_number log.now memory.now }
+    ensures begun_writes { Writes head_text result.begun }
     ensures writes { Writes (interrupts_text log.now memory.now) result.written }
 {
     let b = play_begin::begin(log, memory);
@@ -76,6 +78,7 @@ pub fn write(rt: &HostRuntime, log: &[u8], memory: &[u8]) -> Told
     if !head(rt) {
         return Told {
             number: number,
+            begun: false,
             written: false,
         };
     }
@@ -83,12 +86,14 @@ pub fn write(rt: &HostRuntime, log: &[u8], memory: &[u8]) -> Told
         let done = changes(rt, log, memory);
         return Told {
             number: 0,
+            begun: true,
             written: done,
         };
     }
     let done = lines_stdout::refused(rt, number, b.place);
     Told {
         number: number,
+        begun: true,
         written: done,
     }
 }

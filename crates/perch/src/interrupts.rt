@@ -3,6 +3,8 @@ use super::refused::explain;
 
 pub(crate) fn tell(rt: &HostRuntime, log: &[u8], memory: &[u8]) -> bool {
     let t = interrupts_stdout::write(rt, log, memory);
-    explain(rt, t.number);
+    if t.begun {
+        explain(rt, t.number);
+    }
     t.written
 }

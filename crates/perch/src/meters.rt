@@ -5,7 +5,9 @@ use super::{arguments, recordings};
 
 pub(crate) fn tell(rt: &HostRuntime, log: &[u8], memory: &[u8], each: bool) -> bool {
     let t = meter_stdout::write(rt, log, memory, each);
-    explain(rt, t.number);
+    if t.written {
+        explain(rt, t.number);
+    }
     t.written
 }
 

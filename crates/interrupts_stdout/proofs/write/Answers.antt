@@ -34,7 +34,7 @@ module _ (log memory : List ℕ) (b : Begun) (e : b ≡ begun_of log memory) whe
 pub returns-then-not-head : goal.returns-then-not-head
 returns-then-not-head c =
     let a = c.args in
-    let b = c.begin-b in record { number_value = numbered a.log.now a.memory.now b.result b.ensures; writes = cut a.log.now a.memory.now b.result b.ensures c.head.result c.if-not-head.true c.head.ensures }
+    let b = c.begin-b in record { number_value = numbered a.log.now a.memory.now b.result b.ensures; begun_writes = rw c.if-not-head.true at c.head.ensures; writes = cut a.log.now a.memory.now b.result b.ensures c.head.result c.if-not-head.true c.head.ensures }
 
 pub changes-done-requires : goal.changes-done-requires
 changes-done-requires c =
@@ -46,10 +46,10 @@ pub returns-then-number-eq0 : goal.returns-then-number-eq0
 returns-then-number-eq0 c =
     let a = c.args in
     let b = c.begin-b in
-    let h = c.head in record { number_value = sym c.if-number-eq0.true ∙ numbered a.log.now a.memory.now b.result b.ensures; writes = passing a.log.now a.memory.now b.result b.ensures h.result c.changes-done.result c.if-not-head.false h.ensures c.if-number-eq0.true c.changes-done.ensures }
+    let h = c.head in record { number_value = sym c.if-number-eq0.true ∙ numbered a.log.now a.memory.now b.result b.ensures; begun_writes = rw c.if-not-head.false at c.head.ensures; writes = passing a.log.now a.memory.now b.result b.ensures h.result c.changes-done.result c.if-not-head.false h.ensures c.if-number-eq0.true c.changes-done.ensures }
 
 pub returns : goal.returns
 returns c =
     let a = c.args in
     let b = c.begin-b in
-    let h = c.head in record { number_value = numbered a.log.now a.memory.now b.result b.ensures; writes = failing a.log.now a.memory.now b.result b.ensures h.result c.refused-done.result c.if-not-head.false h.ensures c.if-number-eq0.false c.refused-done.ensures }
+    let h = c.head in record { number_value = numbered a.log.now a.memory.now b.result b.ensures; begun_writes = rw c.if-not-head.false at c.head.ensures; writes = failing a.log.now a.memory.now b.result b.ensures h.result c.refused-done.result c.if-not-head.false h.ensures c.if-number-eq0.false c.refused-done.ensures }
