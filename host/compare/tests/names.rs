@@ -9,13 +9,15 @@ fn top() -> PathBuf {
     Path::new(env!("CARGO_MANIFEST_DIR")).join("../..")
 }
 
-/// The pages about the crates: README, those of docs and its notes.
+/// The pages about the crates: README, those of docs and its notes. PORT is no such page: it names what stood before beside what stands now.
 fn documents() -> Vec<PathBuf> {
     let mut all = vec![top().join("README.md")];
     for folder in ["docs", "docs/changes"] {
         let entries = fs::read_dir(top().join(folder)).unwrap();
         all.extend(
-            entries.map(|entry| entry.unwrap().path()).filter(|path| path.extension().is_some_and(|e| e == "md")),
+            entries
+                .map(|entry| entry.unwrap().path())
+                .filter(|path| path.extension().is_some_and(|e| e == "md") && !path.ends_with("docs/PORT.md")),
         );
     }
     all.sort();
