@@ -57,6 +57,7 @@ fn draw(memory: &[u8], level: u8, address: u16, n: usize, buffer: &mut [u8])
 }
 
 // The number of the first test that is true, or 0.
+#[tactic(auto, unfolding(crate::specs::Sheet::first_number))]
 fn first_of(unfit: bool, loud: bool, outside: bool, long: bool, tight: bool) -> u8
     ensures { result ≡ first_number unfit loud outside long tight }
 {

@@ -24,6 +24,7 @@ pub enum Reason {
 }
 
 // The reason of the first test that is true; where none is, the channel sounds with what it gives.
+#[tactic(auto, unfolding(crate::specs::Why::first_reason))]
 fn first_of(
     off: bool,
     short: bool,
