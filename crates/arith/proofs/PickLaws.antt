@@ -1,6 +1,7 @@
 -- Laws of `pick` and `both`. Assumes nothing.
 use mathlib.Core.Bool.{Bool, true, false}
 use mathlib.Core.Path.{◌≡◌, refl}
+use mir.Val.{bool_byte}
 use Rattle.arith.specs.Pick.{pick, both}
 
 pub both_left : (a b : Bool) → both a b ≡ true → a ≡ true
@@ -29,3 +30,8 @@ pick_both P false p q = q
 pub pick_each : {A : Type 0} (P : A → Type 0) (t : Bool) {a b : A} → (t ≡ true → P a) → (t ≡ false → P b) → P (pick t a b)
 pick_each P true p q = p refl
 pick_each P false p q = q refl
+
+-- a flag as a number, as the language widens it
+pub flag_number : (b : Bool) → bool_byte b ≡ pick b 1 0
+flag_number true = refl
+flag_number false = refl

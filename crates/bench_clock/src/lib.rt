@@ -14,10 +14,8 @@ fn work(s: State, memory: &[u8], n: u64) -> State
     ensures { result ≡ iterate (chip_clock memory.now) n s }
 {
     let mut state = s;
-    let mut i: u64 = 0;
-    while i < n {
+    for _ in 0..n {
         state = state.clocked(memory);
-        i += 1;
     }
     state
 }

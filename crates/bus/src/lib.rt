@@ -12,10 +12,9 @@ pub enum Access {
 }
 
 // Whether a register is one that can be written.
+#[tactic(auto, unfolding(crate::specs::Register::is_register))]
 pub fn is_register(register: u16) -> bool
     ensures { result ≡ is_register register }
 {
-    let channel = arith::both_of(0x4000 <= register, register <= 0x4013);
-    let status = arith::either_of(register == 0x4015, register == 0x4017);
-    arith::either_of(channel, status)
+    matches!(register, 0x4000..=0x4013 | 0x4015 | 0x4017)
 }

@@ -21,8 +21,7 @@ pub fn state_at(state: &mut [u8], log: &[u8], memory: &[u8], clock: u64) -> u64
     ensures state_after { state.new ≡ at_bytes (at_answer log.now memory.now clock state.old) state.old }
 {
     if state.len() != c_state::SIZE {
-        let number = arith::pick_u8(memory.len() == 32768, 2, 1);
-        return number as u64;
+        return u64::from(c_chip::other_length(memory));
     }
     let a = play_at::state_at(log, memory, clock);
     let s = a.state;

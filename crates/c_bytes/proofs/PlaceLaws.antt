@@ -1,17 +1,11 @@
--- Parts stored one behind the other, and nothing past the end. Assumes nothing.
-use mathlib.Core.Path.{◌≡◌, refl, sym, ap, ◌∙◌}
-use mathlib.Core.List.{List, [], ◌∷◌, ◌++◌, append-nil}
-use Prim.Native.Nat.{ℕ, zero, suc, ◌+◌, ◌≤◌}
+-- Parts stored one behind the other. Assumes nothing.
+use mathlib.Core.Path.{◌≡◌, sym, ap, ◌∙◌}
+use mathlib.Core.List.{List, ◌++◌, append-nil}
+use Prim.Native.Nat.{ℕ, ◌+◌}
 use native.Mathlib.Omega.{arith}
-use lib.ListN.{length, set, drop_of_length-le}
+use lib.ListN.{length, drop_of_length-le}
 use lib.Seq.{sets, sets-eq}
 use Rattle.text_print.proofs.StoreLaws.{sets_append}
-
--- nothing is stored past the end
-pub set_past : (l : List ℕ) (i v : ℕ) → length l ≤ i → set l i v ≡ l
-set_past [] i v h = refl
-set_past (x ∷ l) zero v h = absurd (omega arith)
-set_past (x ∷ l) (suc i) v h = ap (λ (r : List ℕ). x ∷ r) (set_past l i v (omega arith))
 
 -- a part, and another one behind it
 pub put_next : (u v old b₁ b₂ : List ℕ) (i j : ℕ) → i + length u ≡ j → b₁ ≡ sets old i u → b₂ ≡ sets b₁ j v → b₂ ≡ sets old i (u ++ v)

@@ -20,13 +20,11 @@ pub fn flag_at(b: &[u8], i: usize) -> bool
 pub fn byte_after(b: &[u8], at: usize, k: usize) -> u8
     ensures { result ≡ byte_of b.now (at + k) }
 {
-    if b.len() <= at {
-        return 0;
+    if at < b.len() && k < b.len() - at {
+        b[at + k]
+    } else {
+        0
     }
-    if b.len() - at <= k {
-        return 0;
-    }
-    b[at + k]
 }
 
 // A flag k bytes behind a place.
@@ -36,27 +34,21 @@ pub fn flag_after(b: &[u8], at: usize, k: usize) -> bool
     byte_after(b, at, k) == 1
 }
 
-fn pair_of(first: u8, second: u8) -> u16
-    ensures { result ≡ first + 256 * second }
-{
-    first as u16 + 256 * second as u16
-}
-
 // The number whose low byte stands k places after `at`.
 pub fn pair_after(b: &[u8], at: usize, k: u8) -> u16
     ensures { result ≡ pair_of b.now (at + k) }
 {
-    let i = k as usize;
+    let i = usize::from(k);
     let first = byte_after(b, at, i);
     let second = byte_after(b, at, i + 1);
-    pair_of(first, second)
+    u16::from(first) + 256 * u16::from(second)
 }
 
 // A flag as a byte, 0 or 1.
 pub fn flag_byte(on: bool) -> u8
     ensures { result ≡ flag_byte on }
 {
-    if on { 1 } else { 0 }
+    u8::from(on)
 }
 
 // The low byte of a pair.

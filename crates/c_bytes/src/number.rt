@@ -1,7 +1,6 @@
 // Numbers of up to eight bytes, low byte first. Past the bytes' end everything is 0, and nothing is stored.
 ghost use Rattle.std.specs.Prelude.{◌≡◌, ◌+◌, ◌^◌, ◌≤◌, ◌<◌, set};
 ghost use Rattle.std.proofs.lemmas.List.Edits.{sets};
-ghost use Rattle.c_bytes.specs.Fields.{low};
 ghost use Rattle.c_bytes.specs.Numbers.{wide_bytes, wide_of};
 
 // The number in the n bytes from `at` on.
@@ -10,16 +9,13 @@ fn wide_at(b: &[u8], at: usize, n: usize) -> u64
     ensures { (result ≡ wide_of b.now at n) × (result < 256 ^ n) }
 {
     let mut r = 0;
-    let mut i = n;
-    while 0 < i {
-        i -= 1;
-        let first = arith::wide_u8(super::field::byte_after(b, at, i));
-        r = first + 256 * r;
+    for i in (0..n).rev() {
+        r = u64::from(super::field::byte_after(b, at, i)) + 256 * r;
     }
     r
 }
 
-// The same in the types of fields.
+// The same in the types of fields, each a narrowing cast of `wide_at`, since no trait of the library narrows without a test.
 pub fn u8_at(b: &[u8], at: usize) -> u8
     ensures { result ≡ wide_of b.now at 1 }
 {
@@ -47,21 +43,12 @@ pub fn usize_at(b: &[u8], at: usize) -> usize
     wide_at(b, at, 8) as usize
 }
 
-// A number's lowest byte.
-fn low_byte(x: u64) -> u8
-    ensures { result ≡ low x }
-{
-    (x % 256) as u8
-}
-
 // Stores a byte k places after `at`, where there is one.
 fn put_after(b: &mut [u8], at: usize, k: usize, x: u8)
     ensures { b.new ≡ set b.old (at + k) x }
 {
-    if at < b.len() {
-        if k < b.len() - at {
-            b[at + k] = x;
-        }
+    if at < b.len() && k < b.len() - at {
+        b[at + k] = x;
     }
 }
 
@@ -70,10 +57,8 @@ pub fn put_wide(b: &mut [u8], at: usize, n: usize, x: u64)
     ensures { b.new ≡ sets b.old at (wide_bytes n x) }
 {
     let mut rest = x;
-    let mut i = 0;
-    while i < n {
-        put_after(b, at, i, low_byte(rest));
-        rest = rest / 256;
-        i += 1;
+    for i in 0..n {
+        put_after(b, at, i, (rest % 256) as u8);
+        rest /= 256;
     }
 }

@@ -6,6 +6,7 @@ use Rattle.bus.specs.declared.Access.{Access}
 use Rattle.bus.specs.declared.Access.TheVariants.{Write, Read}
 use Rattle.chip.specs.Range.{in_range, power_on}
 use Rattle.chip.specs.declared.State.{State}
+use Rattle.chip_api.specs.Answer.{is_memory}
 use Rattle.chip_api.specs.declared.Moved.{Moved}
 use Rattle.chip_api.specs.declared.Answered.{Answered}
 use Rattle.chip_api.specs.declared.Asserted.{Asserted}
@@ -16,6 +17,10 @@ use Rattle.c_state.specs.Bytes.{state_size, state_bytes, state_in}
 -- "number + 256 x value"
 abbrev pub packed : ℕ → ℕ → ℕ
 packed number value = number + 256 * value
+
+-- the number for bytes of another length than is asked for, "lowest number first": 2, and 1 where the sample memory isn't 32,768 bytes
+abbrev pub other_length : List ℕ → ℕ
+other_length memory = pick (is_memory memory) 2 1
 
 -- the bytes after an answer: done, those of its state; refused, as they were
 abbrev pub bytes_after : ℕ → State → List ℕ → List ℕ

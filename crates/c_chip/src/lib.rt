@@ -7,7 +7,7 @@ ghost use Rattle.arith.specs.Pick.{pick};
 ghost use Rattle.c_state.specs.Bytes.{state_in};
 ghost use Rattle.c_state.specs.Encoded.{encoded};
 ghost use Rattle.chip_api.specs.Answer.{access_answer, line_answer, level_answer, clock_answer};
-ghost use Rattle.c_chip.specs.Boundary.{packed, power_number, power_packed, power_bytes, in_range_packed, access_of, access_packed, access_bytes, line_packed, level_packed, clock_packed, clock_bytes};
+ghost use Rattle.c_chip.specs.Boundary.{packed, other_length, power_number, power_packed, power_bytes, in_range_packed, access_of, access_packed, access_bytes, line_packed, level_packed, clock_packed, clock_bytes};
 
 use bus::Access;
 use chip::State;
@@ -17,7 +17,14 @@ use chip_api::Answered;
 pub fn pack(number: u8, value: u16) -> u64
     ensures { result ≡ packed number value }
 {
-    number as u64 + 256 * value as u64
+    u64::from(number) + 256 * u64::from(value)
+}
+
+// The number of bytes of another length than is asked for: 2, but a sample memory of another length comes before it, by 1.
+pub fn other_length(memory: &[u8]) -> u8
+    ensures { result ≡ other_length memory.now }
+{
+    if memory.len() == 32768 { 2 } else { 1 }
 }
 
 // The state written to the bytes, where the number says that it is done.
@@ -32,8 +39,11 @@ pub fn store(number: u8, s: State, b: &mut [u8])
 fn power_number(machine: u8, b: &[u8]) -> u8
     ensures { result ≡ power_number machine b.now }
 {
-    let right = arith::both_of(b.len() == c_state::SIZE, machine <= 1);
-    arith::pick_u8(right, 0, 2)
+    if b.len() == c_state::SIZE && machine <= 1 {
+        0
+    } else {
+        2
+    }
 }
 
 // Makes the bytes the state at power-on of a machine, 0 NTSC and 1 PAL, whatever they held. Refused: 2, for another length or another machine.
@@ -52,25 +62,27 @@ pub fn in_range(state: &[u8]) -> u64
     ensures { result ≡ in_range_packed state.now }
 {
     let s = c_state_read::state_in(state);
-    let within = chip_api::in_range(s);
-    let value = arith::pick_u16(within, 1, 0);
-    pack(0, value)
+    pack(0, u16::from(chip_api::in_range(s)))
 }
 
+#[tactic(auto, unfolding(crate::specs::Boundary::access_of))]
 fn access_of(read: u8, register: u16, value: u8) -> Access
     ensures { result ≡ access_of read register value }
 {
     if read == 0 {
-        return Access::Write(register, value);
+        Access::Write(register, value)
+    } else {
+        Access::Read
     }
-    Access::Read
 }
 
 fn pack_access(a: Answered) -> u64
     ensures { result ≡ access_packed a }
 {
-    let differs = arith::pick_u16(a.differs, 1, 0);
-    a.number as u64 + 256 * a.byte as u64 + 65536 * a.level as u64 + 4294967296 * differs as u64
+    u64::from(a.number)
+        + 256 * u64::from(a.byte)
+        + 65536 * u64::from(a.level)
+        + 4294967296 * u64::from(a.differs)
 }
 
 // One access: where `read` is 0 a register written with a value, else $4015 read, whatever the register and the value. The answer is number +
@@ -82,8 +94,7 @@ pub fn access(state: &mut [u8], read: u8, register: u16, value: u8) -> u64
     let x = access_of(read, register, value);
     let s = c_state_read::state_in(state);
     let a = chip_api::access(s, x);
-    let after = a.state;
-    store(a.number, after, state);
+    store(a.number, a.state, state);
     pack_access(a)
 }
 
@@ -93,8 +104,7 @@ pub fn interrupt_line(state: &[u8]) -> u64
 {
     let s = c_state_read::state_in(state);
     let m = chip_api::interrupt_line(s);
-    let value = arith::pick_u16(m.asserted, 1, 0);
-    pack(m.number, value)
+    pack(m.number, u16::from(m.asserted))
 }
 
 // The mixed level. Refused: 2.
@@ -113,7 +123,6 @@ pub fn clock(state: &mut [u8], memory: &[u8]) -> u64
 {
     let s = c_state_read::state_in(state);
     let m = chip_api::clock(s, memory);
-    let after = m.state;
-    store(m.number, after, state);
+    store(m.number, m.state, state);
     pack(m.number, 0)
 }

@@ -1,4 +1,5 @@
 -- What a step finds is within document 01's limits, and the cursor keeps the ranges of its types. Assumes nothing.
+use Rattle.std.specs.Prelude.{Result, Ok, Err}
 use mathlib.Core.Path.{◌≡◌, refl}
 use mathlib.Core.List.{List, [], ◌∷◌}
 use Prim.Native.Nat.{ℕ, zero, suc, ◌-◌, ◌^◌, ◌≤◌, ◌<◌}
@@ -6,6 +7,7 @@ use native.Mathlib.Omega.{arith}
 use borrow.Author.Tests.{ltb-true, ltb-false, leb-true}
 use lib.ListN.{length, get_or, set, length-set}
 use lib.Dec.{eqb, leb, ltb}
+use Rattle.refusal.specs.declared.Refusal.{Refusal}
 use Rattle.arith.proofs.PickLaws.{pick_both, pick_each}
 use Rattle.reading.specs.Saying.{Said, over, on, refused}
 use Rattle.log_line.specs.declared.Act.{Act}
@@ -14,13 +16,9 @@ use Rattle.log_line.specs.declared.Line.{Line}
 use Rattle.log_line.specs.declared.Line.TheVariants.{Header, Machine, One, Loop, Done, Stop, NoForm, NoRegister}
 use Rattle.log_line.specs.Printed.{Allowed, Printable}
 use Rattle.log_fault.specs.declared.Stand.{Stand}
-use Rattle.log_fault.specs.declared.Spotted.{Spotted as Spot}
-use Rattle.log_fault.specs.declared.Spotted.TheVariants.{Right, Wrong}
 use Rattle.log_fault.specs.Fault.{spot_of}
 use Rattle.log_fault.proofs.FaultLaws.{right_line}
 use Rattle.log_fault.proofs.Standing.{bounded}
-use Rattle.log_rules.specs.declared.Reading.{Reading}
-use Rattle.log_rules.specs.declared.Reading.TheVariants.{Item, Refused}
 use Rattle.log_rules.specs.Lines.{bytes_at, next_line}
 use Rattle.log_rules.specs.Reading.{taken, standing, read_in}
 use Rattle.log_rules.specs.Tree.{act_clocks}
@@ -35,18 +33,18 @@ use Rattle.c_cursor.proofs.NextLaws.{next_keeps, next_says}
 -- A LINE THAT WAS READ
 
 -- a line that was read at a place: within the limits, and so are its place and the next line's; a refusal's place is in the log
-abbrev ReadWithin : ℕ → Reading → Type 0
-ReadWithin at (Item l p) = Printable l × (at ≤ 60000) × (p ≤ 60000)
-ReadWithin at (Refused k p) = p ≤ 60000
+abbrev ReadWithin : ℕ → Result (Line × ℕ) Refusal → Type 0
+ReadWithin at (Ok (l, p)) = Printable l × (at ≤ 60000) × (p ≤ 60000)
+ReadWithin at (Err e) = e.place ≤ 60000
 
 module _ (st : Stand) (log : List ℕ) (at : ℕ) where
-  taken_within : length log ≤ 60000 → at < length log → (f : Spot) → spot_of st (bytes_at log at) ≡ f → ReadWithin at (taken at (next_line log at) f)
-  taken_within s h (Right l) e =
+  taken_within : length log ≤ 60000 → at < length log → (f : Result Line Refusal) → spot_of st (bytes_at log at) ≡ f → ReadWithin at (taken at (next_line log at) f)
+  taken_within s h (Ok l) e =
       let n = next_le log at (omega arith) in
       ((right_line st (bytes_at log at) l e).within, omega arith, omega arith)
-  taken_within s h (Wrong k i) e =
+  taken_within s h (Err why) e =
       let n = next_le log at (omega arith) in
-      let b = (bounded st (bytes_at log at) k i e).place in
+      let b = (bounded st (bytes_at log at) why.number why.place e).place in
       let l = bytes_long log at in
       omega arith
 
@@ -84,10 +82,10 @@ module _ (c : Cursor) where
   followed_says d p NoForm h k = k
   followed_says d p NoRegister h k = k
 
-  read_says : (r : Reading) → ReadWithin c.at r → SaidIn (read_step c r)
+  read_says : (r : Result (Line × ℕ) Refusal) → ReadWithin c.at r → SaidIn (read_step c r)
   unfolding read_step
-  read_says (Item l p) h = followed_says (loops_open c) p l h.0 h.1
-  read_says (Refused k p) h = h
+  read_says (Ok (l, p)) h = followed_says (loops_open c) p l h.0 h.1
+  read_says (Err e) h = h
 
 step_says : (log : List ℕ) (c : Cursor) → FoundIn (told (step_of log c).said)
 unfolding step_of
@@ -156,10 +154,10 @@ module _ (c : Cursor) (f : CursorFits c) where
   followed_fits d p NoForm h k w = f
   followed_fits d p NoRegister h k w = f
 
-  read_step_fits : (r : Reading) → ReadWithin c.at r → GoFits (read_step c r)
+  read_step_fits : (r : Result (Line × ℕ) Refusal) → ReadWithin c.at r → GoFits (read_step c r)
   unfolding read_step
-  read_step_fits (Item l p) h = followed_fits (loops_open c) p l open_few h.2 h.0
-  read_step_fits (Refused k p) h = f
+  read_step_fits (Ok (l, p)) h = followed_fits (loops_open c) p l open_few h.2 h.0
+  read_step_fits (Err e) h = f
 
 step_fits : (log : List ℕ) (c : Cursor) → CursorFits c → CursorFits (step_of log c).state
 unfolding step_of
@@ -196,10 +194,10 @@ module _ (c : Cursor) where
   followed_stays d p NoForm = λ e. refl
   followed_stays d p NoRegister = λ e. refl
 
-  read_stays : (r : Reading) → Stays c (read_step c r)
+  read_stays : (r : Result (Line × ℕ) Refusal) → Stays c (read_step c r)
   unfolding read_step
-  read_stays (Item l p) = followed_stays (loops_open c) p l
-  read_stays (Refused k p) = λ e. refl
+  read_stays (Ok (l, p)) = followed_stays (loops_open c) p l
+  read_stays (Err why) = λ e. refl
 
 pub step_stays : (log : List ℕ) (c : Cursor) → (step_of log c).said ≡ over → (step_of log c).state ≡ c
 unfolding step_of

@@ -4,8 +4,6 @@ use mathlib.Core.List.{List, [], ◌∷◌}
 use Prim.Native.Nat.{ℕ, zero, suc, ◌-◌, ◌≤◌, ◌<◌}
 use native.Mathlib.Numerals.{sub-one}
 use native.Mathlib.Omega.{arith}
-use types.Run.{OneOf, miss}
-use denote.Enum.Declared.{tag_of}
 use Rattle.reading.specs.Saying.{Said, over, on, says, refused, Turn, Gives, ends, goes, gives}
 use Rattle.reading.proofs.SayingLaws.{within}
 use Rattle.log_line.specs.declared.Act.{Act}
@@ -96,11 +94,8 @@ told_on on e = refl
 told_on (says a) e = let z : ◌≡◌ {A = ℕ} 0 1 = cc in absurd (omega arith)
 told_on (refused k p) e = let z : ◌≡◌ {A = ℕ} 0 1 = cc in absurd (omega arith)
 
-told_no : (w : Said Act) → OneOf (0 ∷ 2 ∷ 3 ∷ []) (tag_of Rattle.log_cursor.specs.contracts.Given.the_type (told w)) → w ≡ on → ⊥
-told_no over o e = let z : ◌≡◌ {A = ℕ} 0 1 = cc in omega arith
-told_no on o e = miss (0 ∷ 2 ∷ 3 ∷ []) 1 tt o
-told_no (says a) o e = let z : ◌≡◌ {A = ℕ} 0 1 = cc in omega arith
-told_no (refused k p) o e = let z : ◌≡◌ {A = ℕ} 0 1 = cc in omega arith
+told_no : (w : Said Act) → (told w ≡ Given.Moved → ⊥) → w ≡ on → ⊥
+told_no w f e = f (ap told e)
 
 module _ (log : List ℕ) (c : Cursor) (f : ℕ) (s : Stepped) (h : 0 < f) (e : s ≡ stepped_of (step_of log c)) where
   pub find_on : s.found ≡ Given.Moved → next_in (step_of log) f c ≡ next_in (step_of log) (f - 1) s.cursor
@@ -108,5 +103,5 @@ module _ (log : List ℕ) (c : Cursor) (f : ℕ) (s : Stepped) (h : 0 < f) (e : 
       turn_on (step_of log) c f h (told_on (step_of log c).said (sym (ap (λ (r : Stepped). r.found) e) ∙ w))
       ∙ ap (next_in (step_of log) (f - 1)) (sym (ap (λ (r : Stepped). r.cursor) e))
 
-  pub find_said : OneOf (0 ∷ 2 ∷ 3 ∷ []) (tag_of Rattle.log_cursor.specs.contracts.Given.the_type s.found) → s ≡ stepped_of (next_in (step_of log) f c)
+  pub find_said : (s.found ≡ Given.Moved → ⊥) → s ≡ stepped_of (next_in (step_of log) f c)
   find_said o = e ∙ ap stepped_of (sym (turn_said (step_of log) c f h (told_no (step_of log c).said (rw e at o))))

@@ -11,15 +11,12 @@ pub(crate) fn find(log: &[u8], c: Cursor) -> Stepped
     ensures { result ≡ next_of log.now c }
 {
     let mut c = c;
-    let mut left: u32 = 2000002;
-    while 0 < left {
+    for _ in 0..2000002u32 {
         let s = log_cursor::step(log, c);
-        let f = s.found;
-        let Given::Moved = f else {
+        let Given::Moved = s.found else {
             return s;
         };
         c = s.cursor;
-        left -= 1;
     }
     Stepped {
         found: Given::Moved,
@@ -30,12 +27,7 @@ pub(crate) fn find(log: &[u8], c: Cursor) -> Stepped
 pub(crate) fn is_refused(f: Given) -> bool
     ensures { result ≡ is_refused f }
 {
-    match f {
-        Given::Act(_) => false,
-        Given::Moved => false,
-        Given::End => false,
-        Given::Refused(_, _) => true,
-    }
+    matches!(f, Given::Refused(_, _))
 }
 
 // What was found in one number.

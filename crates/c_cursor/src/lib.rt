@@ -25,18 +25,15 @@ pub fn size() -> usize
 }
 
 // The cursor that bytes stand for.
+#[tactic(auto, unfolding(crate::specs::Cursors::cursor_of))]
 pub fn decode(b: &[u8]) -> Cursor
     ensures { result ≡ cursor_of b.now }
 {
-    let at = number::usize_at(b, 0);
-    let depth = number::usize_at(b, 8);
-    let starts = reader::starts_at(b);
-    let left = reader::left_at(b);
     Cursor {
-        at: at,
-        depth: depth,
-        starts: starts,
-        left: left,
+        at: number::usize_at(b, 0),
+        depth: number::usize_at(b, 8),
+        starts: reader::starts_at(b),
+        left: reader::left_at(b),
     }
 }
 
@@ -45,11 +42,9 @@ pub fn encode(c: Cursor, b: &mut [u8])
     ensures { b.new ≡ cursor_encoded c b.old }
 {
     if b.len() == SIZE {
-        let starts = c.starts;
-        let left = c.left;
         number::put_wide(b, 0, 8, c.at as u64);
         number::put_wide(b, 8, 8, c.depth as u64);
-        writer::put_loops(&starts, &left, b);
+        writer::put_loops(&c.starts, &c.left, b);
     }
 }
 
@@ -60,19 +55,19 @@ pub fn start(cursor: &mut [u8]) -> u64
 {
     if cursor.len() == SIZE {
         encode(log_cursor::start(), cursor);
-        return 0;
+        0
+    } else {
+        2
     }
-    2
 }
 
 // The cursor written to the bytes, unless what was found is a refusal.
 fn store(f: Given, c: Cursor, b: &mut [u8])
     ensures { b.new ≡ pick (is_refused f) b.old (cursor_encoded c b.old) }
 {
-    if found::is_refused(f) {
-        return;
+    if !found::is_refused(f) {
+        encode(c, b);
     }
-    encode(c, b);
 }
 
 // The next item of a log, its value the act's, and the cursor moved behind it; value 0 at the log's end; 4 x 2^24 where 2,000,002 steps
@@ -85,8 +80,6 @@ pub fn next(cursor: &mut [u8], log: &[u8]) -> u64
         return 2;
     }
     let s = found::find(log, decode(cursor));
-    let f = s.found;
-    let c = s.cursor;
-    store(f, c, cursor);
-    found::pack(f)
+    store(s.found, s.cursor, cursor);
+    found::pack(s.found)
 }

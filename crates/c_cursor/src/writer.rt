@@ -11,10 +11,8 @@ fn put_starts(b: &mut [u8], at: usize, starts: &[usize])
     requires { at + 8 * length starts.now ≤ length b.old }
     ensures { b.new ≡ sets b.old at (wides_bytes 8 starts.now) }
 {
-    let mut k = 0;
-    while k < starts.len() {
+    for k in 0..starts.len() {
         number::put_wide(b, at + 8 * k, 8, starts[k] as u64);
-        k += 1;
     }
 }
 
@@ -23,10 +21,8 @@ fn put_left(b: &mut [u8], at: usize, left: &[u8])
     requires { at + length left.now ≤ length b.old }
     ensures { b.new ≡ sets b.old at (wides_bytes 1 left.now) }
 {
-    let mut k = 0;
-    while k < left.len() {
-        number::put_wide(b, at + k, 1, left[k] as u64);
-        k += 1;
+    for k in 0..left.len() {
+        number::put_wide(b, at + k, 1, u64::from(left[k]));
     }
 }
 

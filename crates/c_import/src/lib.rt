@@ -13,8 +13,7 @@ fn value_of(a: Imported) -> u64
     requires { a.number ≡ 0 → a.length ≤ 60000 }
     ensures { (result ≡ import_value a) × (result < 2 ^ 56) }
 {
-    let number = a.number;
-    if number == 0 {
+    if a.number == 0 {
         return a.length as u64;
     }
     a.place as u64 % 72057594037927936
@@ -25,7 +24,7 @@ fn packed(a: Imported) -> u64
     requires { a.number ≡ 0 → a.length ≤ 60000 }
     ensures { result ≡ answer_packed a }
 {
-    a.number as u64 + 256 * value_of(a)
+    u64::from(a.number) + 256 * value_of(a)
 }
 
 // Brings a stream in as a log for a machine, 0 NTSC and 1 PAL, over the front of lent bytes; the value is the log's length. A log that is written passes

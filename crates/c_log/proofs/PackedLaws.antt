@@ -1,5 +1,6 @@
 -- Answers about a log: each part of the number can be had again, and the body of a loop is the part of the log that the answer says. Assumes
 -- nothing.
+use Rattle.std.specs.Prelude.{Ok}
 use Prim.Native.Nat.{ℕ, ◌+◌, ◌*◌, ◌/◌, ◌%◌, ◌^◌, ◌≤◌, ◌<◌}
 use mathlib.Core.Path.{◌≡◌}
 use mathlib.Core.List.{List}
@@ -9,7 +10,6 @@ use borrow.Author.Tests.{eq-eqb}
 use lib.ListN.{length, take, drop}
 use Rattle.arith.specs.Pick.{pick}
 use Rattle.log_line.specs.declared.Line.{Line}
-use Rattle.log_rules.specs.declared.Reading.TheVariants.{Item}
 use Rattle.log_rules.specs.Lines.{next_line}
 use Rattle.log_rules.specs.Reading.{read_at}
 use Rattle.log_rules.proofs.PlaceLaws.{had_at}
@@ -29,7 +29,7 @@ value_apart clocks false h = (omega arith, omega arith)
 
 module _ (log : List ℕ) (o : ℕ) where
   -- what `body_value` adds up
-  pub body_value_is : (body_check_of log o).number ≡ 0 → (l : Line) (start : ℕ) → read_at log o ≡ Item l start → (part : List ℕ) → part ≡ body_of log o
+  pub body_value_is : (body_check_of log o).number ≡ 0 → (l : Line) (start : ℕ) → read_at log o ≡ Ok (l, start) → (part : List ℕ) → part ≡ body_of log o
       → (start + 65536 * length part ≡ body_value log o) × (start + 65536 * length part < 2 ^ 32)
   unfolding body_value
   body_value_is h l start e part f =

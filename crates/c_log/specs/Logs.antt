@@ -1,5 +1,6 @@
 -- Logs at the boundary: the check, the totals, item k and a loop's body, each answer in one number. A refusal has its place, and value 0.
-use Rattle.std.specs.Prelude.{ℕ, ◌+◌, ◌*◌, ◌^◌, List, [], ◌∷◌, Bool, length, eqb}
+use Rattle.std.specs.Prelude.{ℕ, ◌+◌, ◌*◌, ◌^◌, List, [], ◌∷◌, Bool, length, eqb, Result}
+use Rattle.refusal.specs.declared.Refusal.{Refusal}
 use Rattle.arith.specs.Pick.{pick}
 use Rattle.bus.specs.declared.Access.{Access}
 use Rattle.bus.specs.declared.Access.TheVariants.{Write, Read}
@@ -7,7 +8,6 @@ use Rattle.log_line.specs.declared.Act.{Act}
 use Rattle.log_line.specs.declared.Act.TheVariants.{Wait}
 use Rattle.log_rules.specs.Lines.{next_line}
 use Rattle.log_rules.specs.Whole.{check_of}
-use Rattle.log_item.specs.declared.Picked.{Picked}
 use Rattle.log_item.specs.Items.{item_number, item_place, item_acts, item_of}
 use Rattle.log_body.specs.Bodies.{body_check_of, body_of}
 
@@ -43,7 +43,7 @@ abbrev pub acts_value : List Act → ℕ
 acts_value [] = 0
 acts_value (a ∷ l) = act_value a
 
-abbrev pub found_packed : Picked → ℕ
+abbrev pub found_packed : Result Act Refusal → ℕ
 found_packed f = log_packed (item_number f) (item_place f) (acts_value (item_acts f))
 
 -- item k

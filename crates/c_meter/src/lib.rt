@@ -4,21 +4,20 @@
 ghost use Rattle.std.specs.Prelude.{◌≡◌};
 ghost use Rattle.chip_mixer.specs.Fraction.{fraction_of};
 ghost use Rattle.meter.specs.Measure.{measure_of};
-ghost use Rattle.c_meter.specs.Packed.{meter_packed, before_of, records_packed};
+ghost use Rattle.c_meter.specs.Packed.{meter_packed, records_packed};
 
 use meter::Measured;
-use meter::records::Before;
 
 // An answer in one number.
 fn pack(m: Measured) -> u64
     ensures { result ≡ meter_packed m }
 {
     match m {
-        Measured::Refused(number) => number as u64,
+        Measured::Refused(number) => u64::from(number),
         Measured::NoLevels => 0,
         Measured::Silent => 256,
-        Measured::Steady(level) => 512 + 65536 * level as u64 + 4294967296 * level as u64,
-        Measured::Moving(low, high) => 768 + 65536 * low as u64 + 4294967296 * high as u64,
+        Measured::Steady(level) => 512 + 65536 * u64::from(level) + 4294967296 * u64::from(level),
+        Measured::Moving(low, high) => 768 + 65536 * u64::from(low) + 4294967296 * u64::from(high),
     }
 }
 
@@ -26,27 +25,16 @@ fn pack(m: Measured) -> u64
 pub fn meter(levels: &[u32]) -> u64
     ensures { result ≡ meter_packed (measure_of levels.now) }
 {
-    let m = meter::measure(levels);
-    pack(m)
+    pack(meter::measure(levels))
 }
 
-// The level before the first record; a number of more than 32 bits counts nothing.
-fn before_of(before: u64) -> Before
-    ensures { result ≡ before_of before }
-{
-    if before < 4294967296 {
-        return Before::Level(before as u32);
-    }
-    Before::Nothing
-}
-
-// What the levels of `count` records from record `start` on are, of those that are there. Refused: 29.
+// What the levels of `count` records from record `start` on are, of those that are there, with the level before them; one of more than 32 bits counts nothing.
+// Refused: 29.
 pub fn meter_records(words: &[u32], start: u64, count: u64, before: u64) -> u64
     ensures { result ≡ records_packed words.now start count before }
 {
-    let b = before_of(before);
-    let m = meter::records::measure(b, words, start as usize, count as usize);
-    pack(m)
+    let before = u32::try_from(before).ok();
+    pack(meter::records::measure(before, words, start as usize, count as usize))
 }
 
 // A level as the exact fraction of 32,768, also one above 32,767.

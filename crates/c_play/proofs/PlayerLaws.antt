@@ -25,7 +25,8 @@ use Rattle.play_begin.specs.Whole.{play_place, begun_of}
 use Rattle.play_text.proofs.TextLaws.{refusal_size}
 use Rattle.c_player.specs.Player.{player_size, player_bytes, player_in, player_encoded}
 use Rattle.c_log.specs.Logs.{log_packed}
-use Rattle.c_play.specs.Players.{player_after, other_length, begin_number, begin_place, begin_packed, begin_bytes}
+use Rattle.c_chip.specs.Boundary.{other_length}
+use Rattle.c_play.specs.Players.{player_after, begin_number, begin_place, begin_packed, begin_bytes}
 use Rattle.c_chip.proofs.StoreLaws.{written_by_lem}
 use Rattle.c_player.proofs.CodeLaws.{in_long}
 

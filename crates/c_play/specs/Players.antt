@@ -1,7 +1,7 @@
 -- The player at the boundary. A player crosses as bytes (crate `c_player`), which the caller keeps between two pieces.
 use Rattle.std.specs.Prelude.{ℕ, ◌+◌, ◌*◌, ◌^◌, ◌<◌, ◌%◌, ◌≡◌, List, length, eqb}
 use Rattle.arith.specs.Pick.{pick}
-use Rattle.chip_api.specs.Answer.{is_memory}
+use Rattle.c_chip.specs.Boundary.{other_length}
 use Rattle.c_bytes.specs.Fields.{flag_byte}
 use Rattle.text_print.specs.Printed.{placed}
 use Rattle.play_rules.specs.declared.Player.{Player}
@@ -15,10 +15,6 @@ use Rattle.c_log.specs.Logs.{log_packed}
 -- the bytes after an answer: done, those of its player; refused, as they were
 abbrev pub player_after : ℕ → Player → List ℕ → List ℕ
 player_after number p b = pick (eqb number 0) (player_bytes p) b
-
--- the number where other than a player's bytes are lent: "Lowest number first"
-abbrev pub other_length : List ℕ → ℕ
-other_length memory = pick (is_memory memory) 2 1
 
 -- a beginning: 1, then 2 (other than a player's bytes are lent), then the log's number with its place
 unfoldable pub begin_number : List ℕ → List ℕ → List ℕ → ℕ

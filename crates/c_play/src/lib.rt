@@ -28,7 +28,7 @@ pub fn begin(player: &mut [u8], log: &[u8], memory: &[u8]) -> u64
     ensures player_after { player.new ≡ begin_bytes log.now memory.now player.old }
 {
     if player.len() != c_player::SIZE {
-        let number = arith::pick_u8(memory.len() == 32768, 2, 1);
+        let number = c_chip::other_length(memory);
         return c_log::pack(number, 0, 0);
     }
     let g = play_begin::begin(log, memory);
@@ -43,18 +43,18 @@ fn play_from(b: &[u8], log: &[u8], memory: &[u8], text: &mut [u8]) -> Played
 {
     let p = c_player::player_in(b);
     // As many bytes of the text as the answer can count.
-    let end = arith::least_usize(text.len(), 4294967295);
+    let end = text.len().min(4294967295);
     play::play_on(p, log, memory, &mut text[..end])
 }
 
 // A piece's answer in one number.
+#[tactic(auto, unfolding(crate::specs::Players::piece_packed))]
 fn pack_piece(r: Played) -> u64
     requires { r.length ≤ 4294967295 }
     ensures { result ≡ piece_packed r }
 {
     if r.number == 0 {
-        let over = arith::pick_u16(r.over, 1, 0);
-        return 256 * over as u64 + 4294967296 * r.length as u64;
+        return 256 * u64::from(r.over) + 4294967296 * r.length as u64;
     }
     c_log::pack(r.number, r.place, 0)
 }

@@ -30,47 +30,39 @@ pub fn size() -> usize
 pub fn is_player(b: &[u8]) -> bool
     ensures { result ≡ is_player b.now }
 {
-    let part = reader::state_part(b);
-    let right = c_state::is_state(part);
-    arith::both_of(b.len() == SIZE, right)
+    b.len() == SIZE && c_state::is_state(reader::state_part(b))
 }
 
 // The player read from bytes, whatever they are.
+#[tactic(auto, unfolding(crate::specs::Player::player_at))]
 pub fn decode(b: &[u8]) -> Player
     ensures { result ≡ player_at b.now }
 {
-    let phase = number::u8_at(b, 0);
-    let wait = number::u32_at(b, 1);
-    let time = number::u32_at(b, 5);
-    let last = number::u16_at(b, 9);
-    let cursor = c_recording::decode(reader::cursor_part(b));
-    let state = c_state_read::decode(reader::state_part(b));
     Player {
-        phase: phase,
-        wait: wait,
-        time: time,
-        last: last,
-        state: state,
-        cursor: cursor,
+        phase: number::u8_at(b, 0),
+        wait: number::u32_at(b, 1),
+        time: number::u32_at(b, 5),
+        last: number::u16_at(b, 9),
+        state: c_state_read::decode(reader::state_part(b)),
+        cursor: c_recording::decode(reader::cursor_part(b)),
     }
 }
 
 // The player that bytes stand for; bytes that are no player's stand for one whose state is out of range.
+#[tactic(auto, unfolding(crate::specs::Player::player_in, crate::specs::Player::outside_player, c_state::specs::Bytes::outside))]
 pub fn player_in(b: &[u8]) -> Player
     ensures { result ≡ player_in b.now }
 {
     if is_player(b) {
         return decode(b);
     }
-    let cursor = c_recording::decode(b"");
-    let state = c_state_read::decode(b"\xff");
     Player {
         phase: 0,
         wait: 0,
         time: 0,
         last: 0,
-        state: state,
-        cursor: cursor,
+        state: c_state_read::decode(b"\xff"),
+        cursor: c_recording::decode(b""),
     }
 }
 

@@ -15,10 +15,10 @@ use recording_cursor::Cursor;
 pub(crate) fn put_numbers(phase: u8, wait: u32, time: u32, last: u16, b: &mut [u8])
     ensures { b.new ≡ sets b.old 0 (wide_bytes 1 phase ++ (wide_bytes 4 wait ++ (wide_bytes 4 time ++ wide_bytes 2 last))) }
 {
-    number::put_wide(b, 0, 1, phase as u64);
-    number::put_wide(b, 1, 4, wait as u64);
-    number::put_wide(b, 5, 4, time as u64);
-    number::put_wide(b, 9, 2, last as u64);
+    number::put_wide(b, 0, 1, u64::from(phase));
+    number::put_wide(b, 1, 4, u64::from(wait));
+    number::put_wide(b, 5, 4, u64::from(time));
+    number::put_wide(b, 9, 2, u64::from(last));
 }
 
 // The cursor, as the crate `c_recording` writes it.

@@ -23,17 +23,14 @@ fn front(b: &[u8]) -> &[u8]
 }
 
 // The cursor that bytes stand for.
+#[tactic(auto, unfolding(crate::specs::Cursors::cursor_of))]
 pub fn decode(b: &[u8]) -> Cursor
     ensures { result ≡ cursor_of b.now }
 {
-    let part = front(b);
-    let log = c_cursor::decode(part);
-    let samples = number::u32_at(b, 88);
-    let clock = number::u32_at(b, 92);
     Cursor {
-        log: log,
-        samples: samples,
-        clock: clock,
+        log: c_cursor::decode(front(b)),
+        samples: number::u32_at(b, 88),
+        clock: number::u32_at(b, 92),
     }
 }
 
@@ -51,9 +48,8 @@ pub fn encode(c: Cursor, b: &mut [u8])
     ensures { b.new ≡ cursor_encoded c b.old }
 {
     if b.len() == SIZE {
-        let log = c.log;
-        put_log(log, b);
-        number::put_wide(b, 88, 4, c.samples as u64);
-        number::put_wide(b, 92, 4, c.clock as u64);
+        put_log(c.log, b);
+        number::put_wide(b, 88, 4, u64::from(c.samples));
+        number::put_wide(b, 92, 4, u64::from(c.clock));
     }
 }

@@ -13,7 +13,7 @@ fn pack_run(r: Ran) -> u64
     requires { r.done ≤ 1000000 }
     ensures { result ≡ ran_packed r }
 {
-    r.number as u64 + 256 * r.done as u64 + 4294967296 * r.records as u64
+    u64::from(r.number) + 256 * u64::from(r.done) + 4294967296 * u64::from(r.records)
 }
 
 // The number where the lent counts are no table.
@@ -21,10 +21,7 @@ fn no_table(s: State, memory: &[u8], count: u64) -> u8
     ensures { result ≡ no_table memory.now s count }
 {
     let number = run_answer::number_of(s, memory, count);
-    if number != 0 {
-        return number;
-    }
-    13
+    if number != 0 { number } else { 13 }
 }
 
 fn leaping_on(s: State, memory: &[u8], count: u64, words: &mut [u32], counts: &mut [u32]) -> Ran
@@ -35,10 +32,8 @@ fn leaping_on(s: State, memory: &[u8], count: u64, words: &mut [u32], counts: &m
     if counts.len() == 128 {
         let table = c_counts::decode(counts);
         let r = run::run(s, memory, table, count, words);
-        let after = r.counts;
-        c_counts::store(after, counts);
-        let ran = r.ran;
-        return ran;
+        c_counts::store(r.counts, counts);
+        return r.ran;
     }
     let number = no_table(s, memory, count);
     run_answer::refuse(number, s)
@@ -60,8 +55,7 @@ pub fn run(
 {
     let s = c_state_read::state_in(state);
     let r = leaping_on(s, memory, count, words, counts);
-    let after = r.state;
-    c_chip::store(r.number, after, state);
+    c_chip::store(r.number, r.state, state);
     pack_run(r)
 }
 
@@ -73,10 +67,8 @@ fn plain_on(s: State, memory: &[u8], count: u64, words: &mut [u32], counts: &mut
     if counts.len() == 128 {
         let table = c_counts::decode(counts);
         let r = run_plain::run_plain(s, memory, table, count, words);
-        let after = r.counts;
-        c_counts::store(after, counts);
-        let ran = r.ran;
-        return ran;
+        c_counts::store(r.counts, counts);
+        return r.ran;
     }
     let number = no_table(s, memory, count);
     run_answer::refuse(number, s)
@@ -97,7 +89,6 @@ pub fn run_plain(
 {
     let s = c_state_read::state_in(state);
     let r = plain_on(s, memory, count, words, counts);
-    let after = r.state;
-    c_chip::store(r.number, after, state);
+    c_chip::store(r.number, r.state, state);
     pack_run(r)
 }

@@ -8,15 +8,13 @@ ghost use Rattle.c_samples.specs.Packed.{filled_value, samples_packed};
 use vgm_blocks::Filled;
 
 // How many blocks there are, or the place of a refusal.
+#[tactic(auto, unfolding(crate::specs::Packed::filled_value))]
 fn value_of(f: Filled) -> u64
     ensures value { result ≡ filled_value f }
     ensures upper_bound { result < 2 ^ 56 }
 {
-    let number = f.number;
-    if number == 0 {
-        return f.blocks as u64 % 72057594037927936;
-    }
-    f.place as u64 % 72057594037927936
+    let value = if f.number == 0 { f.blocks } else { f.place };
+    value as u64 % 72057594037927936
 }
 
 // Makes lent memory that of the blocks in front of a stream, 0 where they say nothing; the value is how many sample blocks there are. Refused, and the memory
@@ -26,5 +24,5 @@ pub fn samples(stream: &[u8], memory: &mut [u8]) -> u64
     ensures memory_after { memory.new ≡ samples_left stream.now memory.old }
 {
     let f = vgm_blocks::samples(stream, memory);
-    f.number as u64 + 256 * value_of(f)
+    u64::from(f.number) + 256 * value_of(f)
 }

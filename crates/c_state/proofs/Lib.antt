@@ -1,3 +1,2 @@
 pub mod BackLaws
 pub mod CodeLaws
-pub mod FlagLaws

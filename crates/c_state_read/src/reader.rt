@@ -1,4 +1,6 @@
 // The parts of a state, read from bytes: each function reads the part whose first byte stands at `at`.
+#![tactic(auto, unfolding(c_state::specs::Bytes::square_of, c_state::specs::Bytes::triangle_of, c_state::specs::Bytes::noise_of, c_state::specs::Bytes::dmc_of, c_state::specs::Bytes::frame_of))]
+
 ghost use Rattle.std.specs.Prelude.{◌≡◌};
 ghost use Rattle.c_state.specs.Bytes.{square_of, triangle_of, noise_of, dmc_of, frame_of};
 
@@ -19,75 +21,53 @@ use chip_triangle::Triangle;
 fn square_sequencer(b: &[u8], at: usize) -> chip_square::Sequencer
     ensures { result ≡ (square_of b.now at).sequencer }
 {
-    let period = field::pair_after(b, at, 10);
-    let count = field::pair_after(b, at, 12);
-    let half = field::flag_after(b, at, 14);
-    let position = field::byte_after(b, at, 15);
     chip_square::Sequencer {
         timer: Timer {
-            period: period,
-            count: count,
+            period: field::pair_after(b, at, 10),
+            count: field::pair_after(b, at, 12),
         },
-        half: half,
-        position: position,
+        half: field::flag_after(b, at, 14),
+        position: field::byte_after(b, at, 15),
     }
 }
 
 fn square_envelope(b: &[u8], at: usize) -> Envelope
     ensures { result ≡ (square_of b.now at).envelope }
 {
-    let looped = field::flag_after(b, at, 1);
-    let constant = field::flag_after(b, at, 2);
-    let n = field::byte_after(b, at, 3);
-    let start = field::flag_after(b, at, 16);
-    let divider = field::byte_after(b, at, 17);
-    let counter = field::byte_after(b, at, 18);
     Envelope {
-        looped: looped,
-        constant: constant,
-        n: n,
-        start: start,
-        divider: divider,
-        counter: counter,
+        looped: field::flag_after(b, at, 1),
+        constant: field::flag_after(b, at, 2),
+        n: field::byte_after(b, at, 3),
+        start: field::flag_after(b, at, 16),
+        divider: field::byte_after(b, at, 17),
+        counter: field::byte_after(b, at, 18),
     }
 }
 
 fn square_sweep(b: &[u8], at: usize) -> Sweep
     ensures { result ≡ (square_of b.now at).sweep }
 {
-    let enable = field::flag_after(b, at, 4);
-    let negate = field::flag_after(b, at, 5);
-    let period = field::byte_after(b, at, 6);
-    let shift = field::byte_after(b, at, 7);
-    let written = field::flag_after(b, at, 8);
-    let divider = field::byte_after(b, at, 9);
     Sweep {
-        enable: enable,
-        negate: negate,
-        period: period,
-        shift: shift,
-        written: written,
-        divider: divider,
+        enable: field::flag_after(b, at, 4),
+        negate: field::flag_after(b, at, 5),
+        period: field::byte_after(b, at, 6),
+        shift: field::byte_after(b, at, 7),
+        written: field::flag_after(b, at, 8),
+        divider: field::byte_after(b, at, 9),
     }
 }
 
 pub(crate) fn square_at(b: &[u8], at: usize) -> Square
     ensures { result ≡ square_of b.now at }
 {
-    let duty = field::byte_at(b, at);
-    let sequencer = square_sequencer(b, at);
-    let envelope = square_envelope(b, at);
-    let sweep = square_sweep(b, at);
-    let count = field::byte_after(b, at, 19);
-    let enabled = field::flag_after(b, at, 20);
     Square {
-        duty: duty,
-        sequencer: sequencer,
-        envelope: envelope,
-        sweep: sweep,
+        duty: field::byte_at(b, at),
+        sequencer: square_sequencer(b, at),
+        envelope: square_envelope(b, at),
+        sweep: square_sweep(b, at),
         length: Length {
-            count: count,
-            enabled: enabled,
+            count: field::byte_after(b, at, 19),
+            enabled: field::flag_after(b, at, 20),
         },
     }
 }
@@ -95,90 +75,67 @@ pub(crate) fn square_at(b: &[u8], at: usize) -> Square
 fn triangle_linear(b: &[u8], at: usize) -> Linear
     ensures { result ≡ (triangle_of b.now at).linear }
 {
-    let control = field::flag_at(b, at);
-    let reload = field::byte_after(b, at, 1);
-    let count = field::byte_after(b, at, 2);
-    let halt = field::flag_after(b, at, 3);
     Linear {
-        control: control,
-        reload: reload,
-        count: count,
-        halt: halt,
+        control: field::flag_at(b, at),
+        reload: field::byte_after(b, at, 1),
+        count: field::byte_after(b, at, 2),
+        halt: field::flag_after(b, at, 3),
     }
 }
 
 fn triangle_sequencer(b: &[u8], at: usize) -> chip_triangle::Sequencer
     ensures { result ≡ (triangle_of b.now at).sequencer }
 {
-    let period = field::pair_after(b, at, 4);
-    let count = field::pair_after(b, at, 6);
-    let position = field::byte_after(b, at, 8);
     chip_triangle::Sequencer {
         timer: Timer {
-            period: period,
-            count: count,
+            period: field::pair_after(b, at, 4),
+            count: field::pair_after(b, at, 6),
         },
-        position: position,
+        position: field::byte_after(b, at, 8),
     }
 }
 
 pub(crate) fn triangle_at(b: &[u8], at: usize) -> Triangle
     ensures { result ≡ triangle_of b.now at }
 {
-    let sequencer = triangle_sequencer(b, at);
-    let linear = triangle_linear(b, at);
-    let count = field::byte_after(b, at, 9);
-    let enabled = field::flag_after(b, at, 10);
     Triangle {
-        sequencer: sequencer,
-        linear: linear,
+        sequencer: triangle_sequencer(b, at),
+        linear: triangle_linear(b, at),
         length: Length {
-            count: count,
-            enabled: enabled,
+            count: field::byte_after(b, at, 9),
+            enabled: field::flag_after(b, at, 10),
         },
     }
 }
 
+// A square's envelope stands with a gap between its flags and its counters, so it has a function of its own.
 fn noise_envelope(b: &[u8], at: usize) -> Envelope
     ensures { result ≡ (noise_of b.now at).envelope }
 {
-    let looped = field::flag_at(b, at);
-    let constant = field::flag_after(b, at, 1);
-    let n = field::byte_after(b, at, 2);
-    let start = field::flag_after(b, at, 3);
-    let divider = field::byte_after(b, at, 4);
-    let counter = field::byte_after(b, at, 5);
     Envelope {
-        looped: looped,
-        constant: constant,
-        n: n,
-        start: start,
-        divider: divider,
-        counter: counter,
+        looped: field::flag_at(b, at),
+        constant: field::flag_after(b, at, 1),
+        n: field::byte_after(b, at, 2),
+        start: field::flag_after(b, at, 3),
+        divider: field::byte_after(b, at, 4),
+        counter: field::byte_after(b, at, 5),
     }
 }
 
 pub(crate) fn noise_at(b: &[u8], at: usize) -> Noise
     ensures { result ≡ noise_of b.now at }
 {
-    let envelope = noise_envelope(b, at);
-    let count = field::byte_after(b, at, 6);
-    let enabled = field::flag_after(b, at, 7);
-    let mode = field::flag_after(b, at, 8);
-    let index = field::byte_after(b, at, 9);
-    let timer = field::pair_after(b, at, 10);
-    let register = field::pair_after(b, at, 12);
     Noise {
-        mode: mode,
-        index: index,
+        mode: field::flag_after(b, at, 8),
+        index: field::byte_after(b, at, 9),
         shifter: Shifter {
-            timer: timer,
-            register: register,
+            timer: field::pair_after(b, at, 10),
+            register: field::pair_after(b, at, 12),
         },
-        envelope: envelope,
+        envelope: noise_envelope(b, at),
         length: Length {
-            count: count,
-            enabled: enabled,
+            count: field::byte_after(b, at, 6),
+            enabled: field::flag_after(b, at, 7),
         },
     }
 }
@@ -186,78 +143,56 @@ pub(crate) fn noise_at(b: &[u8], at: usize) -> Noise
 fn dmc_registers(b: &[u8], at: usize) -> Registers
     ensures { result ≡ (dmc_of b.now at).registers }
 {
-    let enable = field::flag_at(b, at);
-    let looped = field::flag_after(b, at, 1);
-    let index = field::byte_after(b, at, 2);
-    let start = field::byte_after(b, at, 6);
-    let size = field::byte_after(b, at, 7);
     Registers {
-        enable: enable,
-        looped: looped,
-        index: index,
-        start: start,
-        size: size,
+        enable: field::flag_at(b, at),
+        looped: field::flag_after(b, at, 1),
+        index: field::byte_after(b, at, 2),
+        start: field::byte_after(b, at, 6),
+        size: field::byte_after(b, at, 7),
     }
 }
 
 fn dmc_output(b: &[u8], at: usize) -> Output
     ensures { result ≡ (dmc_of b.now at).output }
 {
-    let timer = field::pair_after(b, at, 3);
-    let level = field::byte_after(b, at, 5);
-    let shift = field::byte_after(b, at, 14);
-    let bits = field::byte_after(b, at, 15);
-    let silence = field::flag_after(b, at, 16);
     Output {
-        timer: timer,
-        level: level,
-        shift: shift,
-        bits: bits,
-        silence: silence,
+        timer: field::pair_after(b, at, 3),
+        level: field::byte_after(b, at, 5),
+        shift: field::byte_after(b, at, 14),
+        bits: field::byte_after(b, at, 15),
+        silence: field::flag_after(b, at, 16),
     }
 }
 
 fn dmc_reader(b: &[u8], at: usize) -> Reader
     ensures { result ≡ (dmc_of b.now at).reader }
 {
-    let address = field::pair_after(b, at, 8);
-    let remaining = field::pair_after(b, at, 10);
-    let buffer = field::byte_after(b, at, 12);
-    let full = field::flag_after(b, at, 13);
-    let interrupt = field::flag_after(b, at, 17);
     Reader {
-        address: address,
-        remaining: remaining,
-        buffer: buffer,
-        full: full,
-        interrupt: interrupt,
+        address: field::pair_after(b, at, 8),
+        remaining: field::pair_after(b, at, 10),
+        buffer: field::byte_after(b, at, 12),
+        full: field::flag_after(b, at, 13),
+        interrupt: field::flag_after(b, at, 17),
     }
 }
 
 pub(crate) fn dmc_at(b: &[u8], at: usize) -> Dmc
     ensures { result ≡ dmc_of b.now at }
 {
-    let registers = dmc_registers(b, at);
-    let output = dmc_output(b, at);
-    let reader = dmc_reader(b, at);
     Dmc {
-        registers: registers,
-        output: output,
-        reader: reader,
+        registers: dmc_registers(b, at),
+        output: dmc_output(b, at),
+        reader: dmc_reader(b, at),
     }
 }
 
 pub(crate) fn frame_at(b: &[u8], at: usize) -> Frame
     ensures { result ≡ frame_of b.now at }
 {
-    let mode = field::flag_at(b, at);
-    let disable = field::flag_after(b, at, 1);
-    let clock = field::pair_after(b, at, 2);
-    let interrupt = field::flag_after(b, at, 4);
     Frame {
-        mode: mode,
-        disable: disable,
-        clock: clock,
-        interrupt: interrupt,
+        mode: field::flag_at(b, at),
+        disable: field::flag_after(b, at, 1),
+        clock: field::pair_after(b, at, 2),
+        interrupt: field::flag_after(b, at, 4),
     }
 }

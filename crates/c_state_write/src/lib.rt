@@ -14,11 +14,11 @@ pub fn encode(s: State, b: &mut [u8])
     ensures { b.new ≡ encoded s b.old }
 {
     if b.len() == SIZE {
-        writer::put_square(s.square1, b, 0);
-        writer::put_square(s.square2, b, 21);
-        writer::put_triangle(s.triangle, b, 42);
-        writer::put_noise(s.noise, b, 53);
-        writer::put_dmc(s.dmc, b, 67);
-        writer::put_frame(s.frame, s.pal, b, 85);
+        b[0..21].copy_from_slice(&writer::square_bytes(s.square1));
+        b[21..42].copy_from_slice(&writer::square_bytes(s.square2));
+        b[42..53].copy_from_slice(&writer::triangle_bytes(s.triangle));
+        b[53..67].copy_from_slice(&writer::noise_bytes(s.noise));
+        b[67..85].copy_from_slice(&writer::dmc_bytes(s.dmc));
+        b[85..91].copy_from_slice(&writer::frame_bytes(s.frame, s.pal));
     }
 }

@@ -33,7 +33,8 @@ use Rattle.play_wav.specs.declared.Sounded.{Sounded}
 use Rattle.play_wav.specs.Pieces.{begun_of, sounded_of, Piece, Untouched, Headed, Answered, Where, WrittenOn}
 use Rattle.play_wav.proofs.Whole.{right}
 use Rattle.c_wav.specs.Wavs.{wav_size, encoded_wav, wav_in, wav_encoded}
-use Rattle.c_wav.specs.Files.{wav_after, other_length, begin_number, begin_place, begin_size, begin_packed, begin_bytes}
+use Rattle.c_chip.specs.Boundary.{other_length}
+use Rattle.c_wav.specs.Files.{wav_after, begin_number, begin_place, begin_size, begin_packed, begin_bytes}
 use Rattle.c_wav.proofs.CodeLaws.{in_long}
 
 where_on : {A B C D : Type 0} (t : Bool) → (A → C) → (B → D) → Where t A B → Where t C D

@@ -24,7 +24,8 @@ use Rattle.play_wav.specs.Pieces.{begun_of, WrittenOn}
 use Rattle.play_wav.specs.Calls as calling
 use Rattle.play_wav.proofs.Whole.{right, Beginning, pieces_whole, call_on, comes_to_end}
 use Rattle.c_wav.specs.Wavs.{wav_size, encoded_wav, wav_in, WavFits}
-use Rattle.c_wav.specs.Files.{wav_after, other_length, begin_number, begin_place, begin_size, begin_packed, begin_bytes, Continued}
+use Rattle.c_chip.specs.Boundary.{other_length}
+use Rattle.c_wav.specs.Files.{wav_after, begin_number, begin_place, begin_size, begin_packed, begin_bytes, Continued}
 use Rattle.c_wav.specs.Pieces.{number_of, size_of, over_of, Pieces, none, piece}
 use Rattle.c_wav.proofs.CodeLaws.{written_in}
 use Rattle.c_wav.proofs.FileLaws.{begun_low}

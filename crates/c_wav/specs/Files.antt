@@ -1,7 +1,7 @@
 -- A log as a WAV file at the boundary. The file under way crosses as bytes (Wavs), which the caller keeps between two pieces.
 use Rattle.std.specs.Prelude.{ℕ, ◌+◌, ◌*◌, ◌^◌, ◌<◌, ◌%◌, ◌≡◌, List, length, eqb}
 use Rattle.arith.specs.Pick.{pick}
-use Rattle.chip_api.specs.Answer.{is_memory}
+use Rattle.c_chip.specs.Boundary.{other_length}
 use Rattle.c_bytes.specs.Fields.{flag_byte}
 use Rattle.c_log.specs.Logs.{log_packed}
 use Rattle.wav_rules.specs.declared.Wav.{Wav}
@@ -12,10 +12,6 @@ use Rattle.c_wav.specs.Wavs.{wav_size, encoded_wav, wav_in, WavFits}
 -- the bytes after an answer: done, those of its file; refused, as they were
 abbrev pub wav_after : ℕ → Wav → List ℕ → List ℕ
 wav_after number w b = pick (eqb number 0) (encoded_wav w) b
-
--- the number where other than such a file's bytes are lent: "Lowest number first"
-abbrev pub other_length : List ℕ → ℕ
-other_length memory = pick (is_memory memory) 2 1
 
 -- a beginning: 1, then 2 (other than such a file's bytes are lent), then the number of the log or the rate with its place; done, how many bytes the file has in
 -- all

@@ -35,10 +35,7 @@ pub fn size() -> usize
 fn is_wav(b: &[u8]) -> bool
     ensures { result ≡ is_wav b.now }
 {
-    let part = reader::state_part(b);
-    let state = c_state::is_state(part);
-    let right = arith::both_of(field::byte_at(b, 0) <= 1, state);
-    arith::both_of(b.len() == SIZE, right)
+    b.len() == SIZE && field::byte_at(b, 0) <= 1 && c_state::is_state(reader::state_part(b))
 }
 
 // The file read from bytes, whatever they are.
@@ -130,7 +127,7 @@ pub fn begin(wav: &mut [u8], log: &[u8], memory: &[u8], rate: u32) -> u64
     ensures wav_after { wav.new ≡ begin_bytes log.now memory.now rate wav.old }
 {
     if wav.len() != SIZE {
-        let number = arith::pick_u8(memory.len() == 32768, 2, 1);
+        let number = c_chip::other_length(memory);
         return c_log::pack(number, 0, 0);
     }
     let g = play_wav::begin(log, memory, rate);
@@ -145,18 +142,18 @@ fn wav_from(b: &[u8], log: &[u8], memory: &[u8], out: &mut [u8]) -> Sounded
 {
     let w = wav_in(b);
     // As many bytes of the piece as the answer can count.
-    let end = arith::least_usize(out.len(), 4294967295);
+    let end = out.len().min(4294967295);
     play_wav::wav_on(w, log, memory, &mut out[..end])
 }
 
 // A piece's answer in one number.
+#[tactic(auto, unfolding(crate::specs::Files::piece_packed))]
 fn pack_piece(r: Sounded) -> u64
     requires { r.length ≤ 4294967295 }
     ensures { result ≡ piece_packed r }
 {
     if r.number == 0 {
-        let over = arith::pick_u16(r.over, 1, 0);
-        return 256 * over as u64 + 4294967296 * r.length as u64;
+        return 256 * u64::from(r.over) + 4294967296 * r.length as u64;
     }
     c_log::pack(r.number, r.place, 0)
 }

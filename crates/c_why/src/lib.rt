@@ -21,7 +21,7 @@ fn value_of(r: Reason) -> u16
         Reason::TargetHigh => 4,
         Reason::StepLow => 5,
         Reason::VolumeZero => 6,
-        Reason::Sounds(n) => 16 + n as u16,
+        Reason::Sounds(n) => 16 + u16::from(n),
     }
 }
 
@@ -32,7 +32,5 @@ pub fn why(state: &[u8], channel: u64) -> u64
 {
     let s = c_state_read::state_in(state);
     let r = chip_why::why(s, channel);
-    let number = chip_why::number_of(r);
-    let value = value_of(r);
-    c_chip::pack(number, value)
+    c_chip::pack(chip_why::number_of(r), value_of(r))
 }

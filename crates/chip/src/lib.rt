@@ -3,7 +3,7 @@
 #![tactic(auto)]
 
 ghost use Rattle.std.specs.Prelude.{◌≡◌};
-ghost use Rattle.chip.specs.Clock.{timers_clocked, reader_clocked, quarter_frame, half_frame, quarter_if, half_if, stepped, framed, chip_clock};
+ghost use Rattle.chip.specs.Clock.{timers_clocked, reader_clocked, quarter_frame, half_frame, stepped, framed, chip_clock};
 ghost use Rattle.chip.specs.Level.{state_level};
 ghost use Rattle.chip.specs.Line.{line_asserted};
 ghost use Rattle.chip.specs.Range.{in_range, power_on};
@@ -27,49 +27,38 @@ pub struct State {
 }
 
 // The state at power-on.
+#[tactic(auto, unfolding(crate::specs::Range::power_on))]
 pub fn power_on(pal: bool) -> State
     ensures { result ≡ power_on pal }
 {
-    let noise_first = chip_tables::noise_period(pal, 0);
-    let dmc_first = chip_tables::dmc_period(pal, 0);
     let square = Square::power_on();
-    let triangle = Triangle::power_on();
-    let noise = Noise::power_on(noise_first);
-    let dmc = Dmc::power_on(dmc_first);
-    let frame = Frame::power_on();
     State {
         square1: square,
         square2: square,
-        triangle: triangle,
-        noise: noise,
-        dmc: dmc,
-        frame: frame,
-        pal: pal,
+        triangle: Triangle::power_on(),
+        noise: Noise::power_on(chip_tables::noise_period(pal, 0)),
+        dmc: Dmc::power_on(chip_tables::dmc_period(pal, 0)),
+        frame: Frame::power_on(),
+        pal,
     }
 }
 
 impl State {
     // Whether every field is within its range.
+    #[tactic(auto, unfolding(crate::specs::Range::in_range))]
     pub fn in_range(self) -> bool
         ensures { result ≡ in_range self }
     {
-        let a = self.square1.in_range();
-        let b = self.square2.in_range();
-        let t = self.triangle.in_range();
-        let noise_top = chip_tables::noise_top(self.pal);
-        let n = self.noise.in_range(noise_top);
-        let dmc_top = chip_tables::dmc_top(self.pal);
-        let d = self.dmc.in_range(dmc_top);
-        let times = chip_tables::frame_times(self.pal);
-        let f = self.frame.in_range(times);
-        let df = arith::both_of(d, f);
-        let ndf = arith::both_of(n, df);
-        let tndf = arith::both_of(t, ndf);
-        let rest = arith::both_of(b, tndf);
-        arith::both_of(a, rest)
+        self.square1.in_range()
+            && self.square2.in_range()
+            && self.triangle.in_range()
+            && self.noise.in_range(chip_tables::noise_top(self.pal))
+            && self.dmc.in_range(chip_tables::dmc_top(self.pal))
+            && self.frame.in_range(chip_tables::frame_times(self.pal))
     }
 
     // The timers with what they drive.
+    #[tactic(auto, unfolding(crate::specs::Clock::timers_clocked))]
     fn timed(self) -> State
         ensures { result ≡ timers_clocked self }
     {
@@ -85,6 +74,7 @@ impl State {
     }
 
     // The DMC reader, by itself: a DMC taken whole through `Dmc::fed` would be copied.
+    #[tactic(auto, unfolding(crate::specs::Clock::reader_clocked, chip_dmc::specs::Clock::dmc_read))]
     fn fed(self, memory: &[u8]) -> State
         ensures { result ≡ reader_clocked memory.now self }
     {
@@ -95,6 +85,7 @@ impl State {
         s
     }
 
+    #[tactic(auto, unfolding(crate::specs::Clock::quarter_frame))]
     fn quarter_frame(self) -> State
         ensures { result ≡ quarter_frame self }
     {
@@ -106,6 +97,7 @@ impl State {
         s
     }
 
+    #[tactic(auto, unfolding(crate::specs::Clock::half_frame))]
     fn half_frame(self) -> State
         ensures { result ≡ half_frame self }
     {
@@ -117,31 +109,24 @@ impl State {
         s
     }
 
-    fn quarter_if(self, on: bool) -> State
-        ensures { result ≡ quarter_if on self }
-    {
-        if on { self.quarter_frame() } else { self }
-    }
-
-    fn half_if(self, on: bool) -> State
-        ensures { result ≡ half_if on self }
-    {
-        if on { self.half_frame() } else { self }
-    }
-
     // A step of the frame.
+    #[tactic(auto, unfolding(crate::specs::Clock::stepped))]
     pub fn step(self, step: u8) -> State
         ensures { result ≡ stepped step self }
     {
-        let quarter = self.frame.is_quarter(step);
-        let half = self.frame.is_half(step);
-        let e = self.quarter_if(quarter);
-        let mut s = e.half_if(half);
+        let mut s = self;
+        if self.frame.is_quarter(step) {
+            s = s.quarter_frame();
+        }
+        if self.frame.is_half(step) {
+            s = s.half_frame();
+        }
         s.frame = self.frame.stepped(step);
         s
     }
 
     // The frame's clock number, and its step if due.
+    #[tactic(auto, unfolding(crate::specs::Clock::framed, chip_frame::specs::Frame::frame_due))]
     fn frame_clocked(self) -> State
         ensures { result ≡ framed self }
     {
@@ -149,30 +134,27 @@ impl State {
         let step = self.frame.next_step(times);
         let mut s = self;
         s.frame = self.frame.moved(times);
-        if step == 0 {
-            return s;
-        }
-        s.step(step)
+        if step == 0 { s } else { s.step(step) }
     }
 
     // One clock.
+    #[tactic(auto, unfolding(crate::specs::Clock::chip_clock))]
     pub fn clocked(self, memory: &[u8]) -> State
         ensures { result ≡ chip_clock memory.now self }
     {
-        let t = self.timed();
-        let r = t.fed(memory);
-        r.frame_clocked()
+        self.timed().fed(memory).frame_clocked()
     }
 
     // Whether the interrupt line is asserted.
+    #[tactic(auto, unfolding(crate::specs::Line::line_asserted))]
     pub fn asserts(self) -> bool
         ensures { result ≡ line_asserted self }
     {
-        let frame = self.frame.asserts();
-        arith::either_of(frame, self.dmc.reader.interrupt)
+        self.frame.asserts() || self.dmc.reader.interrupt
     }
 
     // The mixed level.
+    #[tactic(auto, unfolding(crate::specs::Level::state_level))]
     pub fn level(self) -> u16
         ensures { result ≡ state_level self }
     {
@@ -181,6 +163,6 @@ impl State {
         let t = self.triangle.output();
         let n = self.noise.output();
         let d = self.dmc.output_of();
-        chip_mixer::mix(a as u32, b as u32, t as u32, n as u32, d as u32)
+        chip_mixer::mix(a.into(), b.into(), t.into(), n.into(), d.into())
     }
 }

@@ -25,17 +25,14 @@ pub fn accessed(s: State, x: Access) -> Outcome
 {
     match x {
         Access::Write(register, value) => {
-            let after = registers::register_written(s, register, value);
-            Outcome {
-                byte: 0,
-                state: after,
-            }
+            let state = registers::register_written(s, register, value);
+            Outcome { byte: 0, state }
         }
         Access::Read => {
-            let after = registers::status_read(s);
+            let state = registers::status_read(s);
             Outcome {
                 byte: registers::status_byte(s),
-                state: after,
+                state,
             }
         }
     }

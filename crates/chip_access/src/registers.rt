@@ -2,122 +2,100 @@
 // answer for every state, every register and every value; which registers there are is the crate `bus`.
 ghost use Rattle.std.specs.Prelude.{◌≡◌, ◌≤◌};
 ghost use Rattle.arith.specs.Pick.{pick};
-ghost use Rattle.chip.specs.Clock.{with_dmc, stepped};
-ghost use Rattle.chip_square.specs.Write.{square_write};
-ghost use Rattle.chip_triangle.specs.Write.{triangle_write};
-ghost use Rattle.chip_noise.specs.Noise.{noise_write};
-ghost use Rattle.chip_dmc.specs.Write.{dmc_write};
 ghost use Rattle.chip_access.specs.Status.{status_byte, status_read};
-ghost use Rattle.chip_access.specs.Write.{with_square1, with_square2, with_triangle, with_noise, enables_written, sequencer_written, control_written, channel_written, register_written};
+ghost use Rattle.chip_access.specs.Write.{enables_written, sequencer_written, control_written, channel_written, register_written};
 
 use chip::State;
 
-// The step that a $4017 write with bit 7 set brings at once.
-fn first_step_if(s: State, on: bool) -> State
-    ensures { result ≡ pick on (stepped 1 s) s }
-{
-    if on { s.step(1) } else { s }
-}
-
+#[tactic(auto, unfolding(crate::specs::Write::enables_written))]
 fn enables_written(s: State, value: u8) -> State
     ensures { result ≡ enables_written value s }
 {
-    let square1 = arith::bit_u8(value, 0);
-    let mut after = s;
-    after.square1 = s.square1.enabled(square1);
-    after.square2 = s.square2.enabled(value / 2 % 2 == 1);
-    after.triangle = s.triangle.enabled(value / 4 % 2 == 1);
-    after.noise = s.noise.enabled(value / 8 % 2 == 1);
-    after.dmc = s.dmc.enabled(value / 16 % 2 == 1);
-    after
+    State {
+        square1: s.square1.enabled(value % 2 == 1),
+        square2: s.square2.enabled(value / 2 % 2 == 1),
+        triangle: s.triangle.enabled(value / 4 % 2 == 1),
+        noise: s.noise.enabled(value / 8 % 2 == 1),
+        dmc: s.dmc.enabled(value / 16 % 2 == 1),
+        ..s
+    }
 }
 
+#[tactic(auto, unfolding(crate::specs::Write::sequencer_written))]
 fn sequencer_written(s: State, value: u8) -> State
     ensures { result ≡ sequencer_written value s }
 {
-    let mut after = s;
-    after.frame = s.frame.written(value);
-    first_step_if(after, value / 128 % 2 == 1)
+    let after = State {
+        frame: s.frame.written(value),
+        ..s
+    };
+    // With bit 7 set step 1 comes at once.
+    if value / 128 % 2 == 1 {
+        after.step(1)
+    } else {
+        after
+    }
 }
 
+#[tactic(auto, unfolding(crate::specs::Write::control_written))]
 fn control_written(s: State, place: u16, value: u8) -> State
     ensures { result ≡ control_written place value s }
 {
     if place == 1 {
-        return enables_written(s, value);
+        enables_written(s, value)
+    } else {
+        sequencer_written(s, value)
     }
-    sequencer_written(s, value)
 }
 
-fn write_square1(s: State, place: u16, value: u8) -> State
-    ensures { result ≡ with_square1 s (square_write place value s.square1) }
-{
-    let mut after = s;
-    after.square1 = s.square1.write(place, value);
-    after
-}
-
-fn write_square2(s: State, place: u16, value: u8) -> State
-    ensures { result ≡ with_square2 s (square_write place value s.square2) }
-{
-    let mut after = s;
-    after.square2 = s.square2.write(place, value);
-    after
-}
-
-fn write_triangle(s: State, place: u16, value: u8) -> State
-    ensures { result ≡ with_triangle s (triangle_write place value s.triangle) }
-{
-    let mut after = s;
-    after.triangle = s.triangle.write(place, value);
-    after
-}
-
-fn write_noise(s: State, place: u16, value: u8) -> State
-    ensures { result ≡ with_noise s (noise_write place value s.noise) }
-{
-    let mut after = s;
-    after.noise = s.noise.write(place, value);
-    after
-}
-
-fn write_dmc(s: State, place: u16, value: u8) -> State
-    ensures { result ≡ with_dmc s (dmc_write place value s.dmc) }
-{
-    let mut after = s;
-    after.dmc = s.dmc.write(place, value);
-    after
-}
-
+#[tactic(auto, unfolding(crate::specs::Write::channel_written))]
 fn channel_written(s: State, channel: u16, place: u16, value: u8) -> State
     ensures { result ≡ channel_written channel place value s }
 {
     match channel {
-        0 => write_square1(s, place, value),
-        1 => write_square2(s, place, value),
-        2 => write_triangle(s, place, value),
-        3 => write_noise(s, place, value),
-        4 => write_dmc(s, place, value),
+        0 => State {
+            square1: s.square1.write(place, value),
+            ..s
+        },
+        1 => State {
+            square2: s.square2.write(place, value),
+            ..s
+        },
+        2 => State {
+            triangle: s.triangle.write(place, value),
+            ..s
+        },
+        3 => State {
+            noise: s.noise.write(place, value),
+            ..s
+        },
+        4 => State {
+            dmc: s.dmc.write(place, value),
+            ..s
+        },
         _ => control_written(s, place, value),
     }
 }
 
 // A register written.
+#[tactic(auto, unfolding(crate::specs::Write::register_written))]
 pub fn register_written(s: State, register: u16, value: u8) -> State
     ensures { result ≡ register_written register value s }
 {
-    let offset = arith::minus_u16(register, 0x4000);
-    channel_written(s, offset / 4, register % 4, value)
+    let channel = register.saturating_sub(0x4000) / 4;
+    channel_written(s, channel, register % 4, value)
 }
 
 // A bit's weight where its flag is set.
-fn flag(on: bool, weight: u16) -> u16
-    ensures { (result ≡ pick on weight 0) × (result ≤ weight) }
+fn flag(on: bool, weight: u8) -> u8
+    ensures value { result ≡ pick on weight 0 }
+    ensures upper_bound { result ≤ weight }
 {
     if on { weight } else { 0 }
 }
 
 // The byte that a status read gives.
+#[tactic(auto, unfolding(crate::specs::Status::status_byte))]
 pub fn status_byte(s: State) -> u8
     ensures { result ≡ status_byte s }
 {
@@ -128,14 +106,16 @@ pub fn status_byte(s: State) -> u8
     let triangle = flag(0 < s.triangle.length.count, 4);
     let square2 = flag(0 < s.square2.length.count, 2);
     let square1 = flag(0 < s.square1.length.count, 1);
-    (dmc + frame + sample + noise + triangle + square2 + square1) as u8
+    dmc + frame + sample + noise + triangle + square2 + square1
 }
 
 // The state after a status read.
+#[tactic(auto, unfolding(crate::specs::Status::status_read))]
 pub fn status_read(s: State) -> State
     ensures { result ≡ status_read s }
 {
-    let mut after = s;
-    after.frame = s.frame.read();
-    after
+    State {
+        frame: s.frame.read(),
+        ..s
+    }
 }

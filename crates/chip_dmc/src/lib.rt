@@ -43,17 +43,18 @@ impl Dmc {
             interrupt: false,
         };
         Dmc {
-            registers: registers,
-            output: output,
-            reader: reader,
+            registers,
+            output,
+            reader,
         }
     }
 
     // One clock of the timer, with what it drives.
+    #[tactic(auto, unfolding(crate::specs::Clock::dmc_timed))]
     pub fn timed(self, period: u16) -> Dmc
         ensures { result ≡ dmc_timed period self }
     {
-        let taken = arith::both_of(self.output.timer <= 1, self.output.bits <= 1);
+        let taken = self.output.timer <= 1 && self.output.bits <= 1;
         let mut d = self;
         d.output = self
             .output
@@ -63,55 +64,60 @@ impl Dmc {
     }
 
     // One clock of the reader.
+    #[tactic(auto, unfolding(crate::specs::Clock::dmc_read))]
     pub fn fed(self, memory: &[u8]) -> Dmc
         ensures { result ≡ dmc_read memory.now self }
     {
-        let mut d = self;
-        d.reader = self.reader.clocked(memory, self.registers);
-        d
+        Dmc {
+            reader: self.reader.clocked(memory, self.registers),
+            ..self
+        }
     }
 
     // One clock of both.
+    #[tactic(auto, unfolding(crate::specs::Clock::dmc_clock))]
     pub fn clocked(self, memory: &[u8], period: u16) -> Dmc
         ensures { result ≡ dmc_clock memory.now period self }
     {
-        let d = self.timed(period);
-        d.fed(memory)
+        self.timed(period).fed(memory)
     }
 
     // What the mixer takes.
+    #[tactic(auto, unfolding(crate::specs::Clock::dmc_output))]
     pub fn output_of(self) -> u8
         ensures { result ≡ dmc_output self }
     {
         self.output.level
     }
 
+    #[tactic(auto, unfolding(crate::specs::Write::dmc_write0))]
     fn write0(self, value: u8) -> Dmc
         ensures { result ≡ dmc_write0 value self }
     {
         let enable = value / 128 % 2 == 1;
         let registers = Registers {
-            enable: enable,
+            enable,
             looped: value / 64 % 2 == 1,
             index: value % 16,
-            start: self.registers.start,
-            size: self.registers.size,
+            ..self.registers
         };
-        let mut d = self;
-        d.registers = registers;
-        d.reader = self.reader.cleared(enable);
-        d
+        Dmc {
+            registers,
+            reader: self.reader.cleared(enable),
+            ..self
+        }
     }
 
+    #[tactic(auto, unfolding(crate::specs::Write::dmc_write1))]
     fn write1(self, value: u8) -> Dmc
         ensures { result ≡ dmc_write1 value self }
     {
-        let level = value % 128;
         let mut d = self;
-        d.output.level = level;
+        d.output.level = value % 128;
         d
     }
 
+    #[tactic(auto, unfolding(crate::specs::Write::dmc_write2))]
     fn write2(self, value: u8) -> Dmc
         ensures { result ≡ dmc_write2 value self }
     {
@@ -120,6 +126,7 @@ impl Dmc {
         d
     }
 
+    #[tactic(auto, unfolding(crate::specs::Write::dmc_write3))]
     fn write3(self, value: u8) -> Dmc
         ensures { result ≡ dmc_write3 value self }
     {
@@ -129,6 +136,7 @@ impl Dmc {
     }
 
     // One of $4010 to $4013 written, by its place from 0.
+    #[tactic(auto, unfolding(crate::specs::Write::dmc_write))]
     pub fn write(self, place: u16, value: u8) -> Dmc
         ensures { result ≡ dmc_write place value self }
     {
@@ -141,23 +149,22 @@ impl Dmc {
     }
 
     // Its bit of $4015 written.
+    #[tactic(auto, unfolding(crate::specs::Write::dmc_enabled))]
     pub fn enabled(self, on: bool) -> Dmc
         ensures { result ≡ dmc_enabled on self }
     {
-        let r = self.reader.cleared(false);
-        let mut d = self;
-        d.reader = r.switched_by(on, self.registers);
-        d
+        let reader = self.reader.cleared(false);
+        Dmc {
+            reader: reader.switched_by(on, self.registers),
+            ..self
+        }
     }
 
     // `top` is the largest period.
+    #[tactic(auto, unfolding(crate::specs::Range::dmc_in))]
     pub fn in_range(self, top: u16) -> bool
         ensures { result ≡ dmc_in top self }
     {
-        let o = self.output.in_range(top);
-        let r = self.reader.in_range();
-        let s = self.registers.in_range();
-        let rest = arith::both_of(o, r);
-        arith::both_of(s, rest)
+        self.registers.in_range() && self.output.in_range(top) && self.reader.in_range()
     }
 }

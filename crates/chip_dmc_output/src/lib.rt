@@ -28,31 +28,33 @@ fn raised(level: u8) -> u8
 }
 
 // The level moved by bit 0 of a byte.
+#[tactic(auto, unfolding(crate::specs::Output::level_moved))]
 pub fn level_moved(byte: u8, level: u8) -> u8
     ensures { result ≡ level_moved byte level }
 {
-    let down = lowered(level);
-    let up = raised(level);
-    arith::pick_u8(byte % 2 == 0, down, up)
+    if byte % 2 == 0 {
+        lowered(level)
+    } else {
+        raised(level)
+    }
 }
 
 impl Output {
+    #[tactic(auto, unfolding(crate::specs::Output::output_step))]
     fn stepped(self, period: u16, full: bool, buffer: u8) -> Output
         ensures { result ≡ output_step period full buffer self }
     {
         let last = self.bits <= 1;
-        let moved = level_moved(self.shift, self.level);
-        let level = arith::pick_u8(self.silence, self.level, moved);
-        let takes = arith::both_of(last, full);
-        let shift = arith::pick_u8(takes, buffer, self.shift / 2);
-        let bits = divider::tick_u8(8, self.bits);
-        let silence = arith::pick_bool(last, !full, self.silence);
         Output {
             timer: period,
-            level: level,
-            shift: shift,
-            bits: bits,
-            silence: silence,
+            level: if self.silence {
+                self.level
+            } else {
+                level_moved(self.shift, self.level)
+            },
+            shift: if last && full { buffer } else { self.shift / 2 },
+            bits: divider::tick_u8(8, self.bits),
+            silence: if last { !full } else { self.silence },
         }
     }
 
@@ -60,29 +62,30 @@ impl Output {
     pub fn at(self, timer: u16) -> Output
         ensures { result ≡ with_timer self timer }
     {
-        let mut o = self;
-        o.timer = timer;
-        o
+        Output { timer, ..self }
     }
 
     // One clock of the timer, with what it drives: `full` and `buffer` are the reader's.
+    #[tactic(auto, unfolding(crate::specs::Output::output_clock))]
     pub fn clocked(self, period: u16, full: bool, buffer: u8) -> Output
         ensures { result ≡ output_clock period full buffer self }
     {
         if self.timer <= 1 {
-            return self.stepped(period, full, buffer);
+            self.stepped(period, full, buffer)
+        } else {
+            self.at(self.timer - 1)
         }
-        self.at(self.timer - 1)
     }
 
     // `top` is the largest period.
+    #[tactic(auto, unfolding(crate::specs::Output::output_in))]
     pub fn in_range(self, top: u16) -> bool
         ensures { result ≡ output_in top self }
     {
-        let timer = arith::both_of(1 <= self.timer, self.timer <= top);
-        let bits = arith::both_of(1 <= self.bits, self.bits <= 8);
-        let shift = arith::both_of(self.shift <= 255, bits);
-        let level = arith::both_of(self.level <= 127, shift);
-        arith::both_of(timer, level)
+        1 <= self.timer
+            && self.timer <= top
+            && self.level <= 127
+            && 1 <= self.bits
+            && self.bits <= 8
     }
 }

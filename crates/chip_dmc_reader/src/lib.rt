@@ -26,14 +26,16 @@ pub struct Reader {
 }
 
 // The byte of sample memory at an address.
+#[tactic(auto, unfolding(crate::specs::Reader::byte_at))]
 pub fn byte_of(memory: &[u8], address: u16) -> u8
     ensures { result ≡ byte_at memory.now address }
 {
-    let i = (address % 32768) as usize;
-    if i < memory.len() { memory[i] } else { 0 }
+    let i = usize::from(address % 32768);
+    memory.get(i).copied().unwrap_or(0)
 }
 
 // The address after one: after $FFFF comes $8000.
+#[tactic(auto, unfolding(crate::specs::Reader::next_address))]
 pub fn address_after(a: u16) -> u16
     ensures { result ≡ next_address a }
 {
@@ -42,119 +44,131 @@ pub fn address_after(a: u16) -> u16
 
 impl Registers {
     // Whether every field is in its range.
+    #[tactic(auto, unfolding(crate::specs::Reader::registers_in))]
     pub fn in_range(self) -> bool
         ensures { result ≡ registers_in self }
     {
-        let bytes = arith::both_of(self.start <= 255, self.size <= 255);
-        arith::both_of(self.index <= 15, bytes)
+        self.index <= 15
     }
 }
 
 impl Reader {
     // Its buffer used up, or not.
+    #[tactic(auto, unfolding(crate::specs::Reader::emptied))]
     pub fn after(self, taken: bool) -> Reader
         ensures { result ≡ emptied taken self }
     {
-        let mut r = self;
-        r.full = arith::both_of(!taken, self.full);
-        r
+        Reader {
+            full: !taken && self.full,
+            ..self
+        }
     }
 
+    #[tactic(auto, unfolding(crate::specs::Reader::restarted))]
     fn restart(self, s: Registers) -> Reader
         ensures { result ≡ restarted s self }
     {
-        let mut r = self;
-        r.address = (s.start as u16) * 64 + 0xC000;
-        r.remaining = (s.size as u16) * 16 + 1;
-        r
+        Reader {
+            address: u16::from(s.start) * 64 + 0xC000,
+            remaining: u16::from(s.size) * 16 + 1,
+            ..self
+        }
     }
 
+    #[tactic(auto, unfolding(crate::specs::Reader::flagged))]
     fn flagged_by(self, enable: bool) -> Reader
         ensures { result ≡ flagged enable self }
     {
-        let mut r = self;
-        r.interrupt = arith::pick_bool(enable, true, self.interrupt);
-        r
+        Reader {
+            interrupt: enable || self.interrupt,
+            ..self
+        }
     }
 
+    #[tactic(auto, unfolding(crate::specs::Reader::sample_ended))]
     fn ended_by(self, s: Registers) -> Reader
         ensures { result ≡ sample_ended s self }
     {
-        if self.remaining == 0 {
-            if s.looped {
-                return self.restart(s);
-            }
-            return self.flagged_by(s.enable);
+        if 0 < self.remaining {
+            self
+        } else if s.looped {
+            self.restart(s)
+        } else {
+            self.flagged_by(s.enable)
         }
-        self
     }
 
+    #[tactic(auto, unfolding(crate::specs::Reader::fetched))]
     fn fetch(self, memory: &[u8]) -> Reader
         ensures { result ≡ fetched memory.now self }
     {
-        let byte = byte_of(memory, self.address);
-        let mut r = self;
-        r.address = address_after(self.address);
-        r.remaining = arith::less_u16(self.remaining);
-        r.buffer = byte;
-        r.full = true;
-        r
+        Reader {
+            address: address_after(self.address),
+            remaining: self.remaining.saturating_sub(1),
+            buffer: byte_of(memory, self.address),
+            full: true,
+            ..self
+        }
     }
 
     // Whether a fetch is due.
+    #[tactic(auto, unfolding(crate::specs::Reader::pending))]
     pub fn waits(self) -> bool
         ensures { result ≡ pending self }
     {
-        arith::both_of(!self.full, 0 < self.remaining)
+        !self.full && 0 < self.remaining
     }
 
     // One clock of the reader.
+    #[tactic(auto, unfolding(crate::specs::Reader::reader_clock))]
     pub fn clocked(self, memory: &[u8], s: Registers) -> Reader
         ensures { result ≡ reader_clock memory.now s self }
     {
         if self.waits() {
-            let r = self.fetch(memory);
-            return r.ended_by(s);
+            self.fetch(memory).ended_by(s)
+        } else {
+            self
         }
-        self
     }
 
     // The interrupt flag kept or cleared.
     pub fn cleared(self, keep: bool) -> Reader
         ensures { result ≡ with_interrupt self (both keep self.interrupt) }
     {
-        let mut r = self;
-        r.interrupt = arith::both_of(keep, self.interrupt);
-        r
+        Reader {
+            interrupt: keep && self.interrupt,
+            ..self
+        }
     }
 
     fn stopped(self) -> Reader
         ensures { result ≡ with_remaining self 0 }
     {
-        let mut r = self;
-        r.remaining = 0;
-        r
+        Reader {
+            remaining: 0,
+            ..self
+        }
     }
 
     // Its bit of $4015 written.
+    #[tactic(auto, unfolding(crate::specs::Reader::switched))]
     pub fn switched_by(self, on: bool, s: Registers) -> Reader
         ensures { result ≡ switched on s self }
     {
-        if on {
-            if self.remaining == 0 {
-                return self.restart(s);
-            }
-            return self;
+        if !on {
+            self.stopped()
+        } else if self.remaining == 0 {
+            self.restart(s)
+        } else {
+            self
         }
-        self.stopped()
     }
 
     // Whether every field is in its range.
+    #[tactic(auto, unfolding(crate::specs::Reader::reader_in))]
     pub fn in_range(self) -> bool
         ensures { result ≡ reader_in self }
     {
-        let address = arith::both_of(32768 <= self.address, self.address <= 65535);
-        let rest = arith::both_of(self.remaining <= 4081, self.buffer <= 255);
-        arith::both_of(address, rest)
+        32768 <= self.address && self.remaining <= 4081
     }
 }

@@ -15,12 +15,17 @@ pub struct Envelope {
     pub counter: u8,
 }
 
+#[tactic(auto, unfolding(crate::specs::Envelope::decayed))]
 fn decayed_from(looped: bool, counter: u8) -> u8
     ensures { result ≡ decayed looped counter }
 {
-    let around = arith::pick_u8(looped, 15, 0);
-    let less = arith::less_u8(counter);
-    arith::pick_u8(counter == 0, around, less)
+    if 0 < counter {
+        counter - 1
+    } else if looped {
+        15
+    } else {
+        0
+    }
 }
 
 impl Envelope {
@@ -38,27 +43,32 @@ impl Envelope {
         }
     }
 
+    #[tactic(auto, unfolding(crate::specs::Envelope::envelope_started))]
     fn started(self) -> Envelope
         ensures { result ≡ envelope_started self }
     {
-        let mut e = self;
-        e.start = false;
-        e.divider = self.n % 16 + 1;
-        e.counter = 15;
-        e
+        Envelope {
+            start: false,
+            divider: self.n % 16 + 1,
+            counter: 15,
+            ..self
+        }
     }
 
+    #[tactic(auto, unfolding(crate::specs::Envelope::envelope_divided))]
     fn divided(self) -> Envelope
         ensures { result ≡ envelope_divided self }
     {
-        let next = decayed_from(self.looped, self.counter);
         let mut e = self;
         e.divider = divider::tick_u8(self.n % 16 + 1, self.divider);
-        e.counter = arith::pick_u8(self.divider <= 1, next, self.counter);
+        if self.divider <= 1 {
+            e.counter = decayed_from(self.looped, self.counter);
+        }
         e
     }
 
     // One clock of the frame sequencer.
+    #[tactic(auto, unfolding(crate::specs::Envelope::envelope_clock))]
     pub fn clocked(self) -> Envelope
         ensures { result ≡ envelope_clock self }
     {
@@ -70,6 +80,7 @@ impl Envelope {
     }
 
     // The volume: n if constant, else the counter.
+    #[tactic(auto, unfolding(crate::specs::Envelope::volume))]
     pub fn volume_of(self) -> u8
         ensures { result ≡ volume self }
     {
@@ -77,31 +88,34 @@ impl Envelope {
     }
 
     // The channel's first register written.
+    #[tactic(auto, unfolding(crate::specs::Envelope::envelope_set))]
     pub fn set(self, value: u8) -> Envelope
         ensures { result ≡ envelope_set value self }
     {
-        let mut e = self;
-        e.looped = value / 32 % 2 == 1;
-        e.constant = value / 16 % 2 == 1;
-        e.n = value % 16;
-        e
+        Envelope {
+            looped: value / 32 % 2 == 1,
+            constant: value / 16 % 2 == 1,
+            n: value % 16,
+            ..self
+        }
     }
 
     // The channel's fourth register written.
+    #[tactic(auto, unfolding(crate::specs::Envelope::envelope_begun))]
     pub fn begun(self) -> Envelope
         ensures { result ≡ envelope_begun self }
     {
-        let mut e = self;
-        e.start = true;
-        e
+        Envelope {
+            start: true,
+            ..self
+        }
     }
 
     // Whether every field is in its range.
+    #[tactic(auto, unfolding(crate::specs::Envelope::envelope_in))]
     pub fn in_range(self) -> bool
         ensures { result ≡ envelope_in self }
     {
-        let divider = arith::both_of(1 <= self.divider, self.divider <= 16);
-        let rest = arith::both_of(divider, self.counter <= 15);
-        arith::both_of(self.n <= 15, rest)
+        self.n <= 15 && 1 <= self.divider && self.divider <= 16 && self.counter <= 15
     }
 }

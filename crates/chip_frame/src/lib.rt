@@ -29,23 +29,27 @@ impl Times {
     pub fn last(self, mode: bool) -> u16
         ensures { result ≡ last_number self mode }
     {
-        arith::pick_u16(mode, self.fifth, self.fourth)
+        if mode { self.fifth } else { self.fourth }
     }
 
     // The step that comes at a clock number, and 0 where none comes.
+    #[tactic(auto, unfolding(crate::specs::Frame::step_at))]
     fn step_at(self, mode: bool, clock: u16) -> u8
         ensures { result ≡ step_at self mode clock }
     {
-        let at_fifth = arith::both_of(mode, clock == self.fifth);
-        let at_fourth = arith::pick_u8(mode, 5, 4);
-        let at_third = arith::pick_u8(mode, 4, 3);
-        let at_second = arith::pick_u8(mode, 3, 2);
-        let at_first = arith::pick_u8(mode, 2, 1);
-        let fifth = arith::pick_u8(at_fifth, 1, 0);
-        let fourth = arith::pick_u8(clock == self.fourth, at_fourth, fifth);
-        let third = arith::pick_u8(clock == self.third, at_third, fourth);
-        let second = arith::pick_u8(clock == self.second, at_second, third);
-        arith::pick_u8(clock == self.first, at_first, second)
+        if clock == self.first {
+            if mode { 2 } else { 1 }
+        } else if clock == self.second {
+            if mode { 3 } else { 2 }
+        } else if clock == self.third {
+            if mode { 4 } else { 3 }
+        } else if clock == self.fourth {
+            if mode { 5 } else { 4 }
+        } else if mode && clock == self.fifth {
+            1
+        } else {
+            0
+        }
     }
 }
 
@@ -70,13 +74,15 @@ impl Frame {
     }
 
     // One clock of the clock number.
+    #[tactic(auto, unfolding(crate::specs::Frame::frame_moved))]
     pub fn moved(self, t: Times) -> Frame
         ensures { result ≡ frame_moved t self }
     {
         let last = t.last(self.mode);
-        let mut f = self;
-        f.clock = number_after(self.clock, last);
-        f
+        Frame {
+            clock: number_after(self.clock, last),
+            ..self
+        }
     }
 
     // The step that the next clock brings, and 0 where it brings none.
@@ -88,45 +94,53 @@ impl Frame {
     }
 
     // Whether a step clocks envelopes and the linear counter.
+    #[tactic(auto, unfolding(crate::specs::Frame::is_quarter))]
     pub fn is_quarter(self, step: u8) -> bool
         ensures { result ≡ is_quarter step self }
     {
-        arith::pick_bool(self.mode, step <= 4, true)
+        !self.mode || step <= 4
     }
 
     // Whether a step clocks lengths and sweeps.
+    #[tactic(auto, unfolding(crate::specs::Frame::is_half))]
     pub fn is_half(self, step: u8) -> bool
         ensures { result ≡ is_half step self }
     {
-        let five = arith::either_of(step == 1, step == 3);
-        let four = arith::either_of(step == 2, step == 4);
-        arith::pick_bool(self.mode, five, four)
+        if self.mode {
+            step == 1 || step == 3
+        } else {
+            step == 2 || step == 4
+        }
     }
 
     // A step's flag.
+    #[tactic(auto, unfolding(crate::specs::Frame::frame_stepped))]
     pub fn stepped(self, step: u8) -> Frame
         ensures { result ≡ frame_stepped step self }
     {
-        let fourth = arith::both_of(!self.mode, step == 4);
-        let flag = arith::both_of(!self.disable, fourth);
-        let mut f = self;
-        f.interrupt = arith::pick_bool(flag, true, self.interrupt);
-        f
+        let flag = !self.disable && !self.mode && step == 4;
+        Frame {
+            interrupt: flag || self.interrupt,
+            ..self
+        }
     }
 
     // $4017 written: the frame begins anew; with bit 6 set the flag is cleared.
+    #[tactic(auto, unfolding(crate::specs::Frame::frame_written))]
     pub fn written(self, value: u8) -> Frame
         ensures { result ≡ frame_written value self }
     {
-        let mut f = self;
-        f.mode = value / 128 % 2 == 1;
-        f.disable = value / 64 % 2 == 1;
-        f.clock = 0;
-        f.interrupt = arith::pick_bool(value / 64 % 2 == 1, false, self.interrupt);
-        f
+        let disable = value / 64 % 2 == 1;
+        Frame {
+            mode: value / 128 % 2 == 1,
+            disable,
+            clock: 0,
+            interrupt: !disable && self.interrupt,
+        }
     }
 
     // The flag cleared by a status read.
+    #[tactic(auto, unfolding(crate::specs::Frame::frame_read))]
     pub fn read(self) -> Frame
         ensures { result ≡ frame_read self }
     {
@@ -136,18 +150,19 @@ impl Frame {
     }
 
     // Whether its flag asserts the interrupt line.
+    #[tactic(auto, unfolding(crate::specs::Frame::frame_asserts))]
     pub fn asserts(self) -> bool
         ensures { result ≡ frame_asserts self }
     {
-        arith::both_of(self.interrupt, !self.disable)
+        self.interrupt && !self.disable
     }
 
     // Whether the clock number is one of the mode's and the flag is clear while its interrupt is disabled.
+    #[tactic(auto, unfolding(crate::specs::Frame::frame_in))]
     pub fn in_range(self, t: Times) -> bool
         ensures { result ≡ frame_in t self }
     {
-        let last = t.last(self.mode);
-        let barred = arith::both_of(self.disable, self.interrupt);
-        arith::both_of(self.clock <= last, !barred)
+        let barred = self.disable && self.interrupt;
+        self.clock <= t.last(self.mode) && !barred
     }
 }

@@ -10,7 +10,7 @@ pub struct Length {
     pub enabled: bool,
 }
 
-const LENGTHS: [u8; 32] = [
+static LENGTHS: [u8; 32] = [
     10, 254, 20, 2, 40, 4, 80, 6, 160, 8, 60, 10, 14, 12, 26, 14, 12, 16, 24, 18, 48, 20, 96, 22,
     192, 24, 72, 26, 16, 28, 32, 30,
 ];
@@ -19,8 +19,7 @@ const LENGTHS: [u8; 32] = [
 pub fn length_of(value: u8) -> u8
     ensures { result ≡ length_of value }
 {
-    let i = (value / 8) as usize;
-    LENGTHS[i]
+    LENGTHS[usize::from(value / 8)]
 }
 
 impl Length {
@@ -35,41 +34,51 @@ impl Length {
     }
 
     // Loaded by the fourth register's value, if the channel is enabled.
+    #[tactic(auto, unfolding(crate::specs::Length::length_loaded))]
     pub fn loaded(self, value: u8) -> Length
         ensures { result ≡ length_loaded value self }
     {
-        let length = length_of(value);
-        let mut l = self;
-        l.count = arith::pick_u8(self.enabled, length, self.count);
-        l
+        if self.enabled {
+            Length {
+                count: length_of(value),
+                ..self
+            }
+        } else {
+            self
+        }
     }
 
     // One less, unless it is halted or 0.
+    #[tactic(auto, unfolding(crate::specs::Length::length_clock))]
     pub fn clocked(self, halt: bool) -> Length
         ensures { result ≡ length_clock halt self }
     {
-        let less = arith::less_u8(self.count);
-        let mut l = self;
-        l.count = arith::pick_u8(halt, self.count, less);
-        l
+        if halt {
+            self
+        } else {
+            Length {
+                count: self.count.saturating_sub(1),
+                ..self
+            }
+        }
     }
 
     // The channel enabled or not; not enabled, its length is 0.
+    #[tactic(auto, unfolding(crate::specs::Length::length_enabled))]
     pub fn enabled_by(self, on: bool) -> Length
         ensures { result ≡ length_enabled on self }
     {
-        let count = arith::pick_u8(on, self.count, 0);
         Length {
-            count: count,
+            count: if on { self.count } else { 0 },
             enabled: on,
         }
     }
 
     // Whether the length is in its range, and 0 where the channel isn't enabled.
+    #[tactic(auto, unfolding(crate::specs::Length::length_in))]
     pub fn in_range(self) -> bool
         ensures { result ≡ length_in self }
     {
-        let fits = arith::pick_bool(self.enabled, true, self.count == 0);
-        arith::both_of(self.count <= 254, fits)
+        self.count <= 254 && (self.enabled || self.count == 0)
     }
 }

@@ -15,39 +15,46 @@ pub struct Linear {
 
 impl Linear {
     // One clock of the frame sequencer.
+    #[tactic(auto, unfolding(crate::specs::Linear::linear_clock))]
     pub fn clocked(self) -> Linear
         ensures { result ≡ linear_clock self }
     {
-        let less = arith::less_u8(self.count);
-        let mut l = self;
-        l.count = arith::pick_u8(self.halt, self.reload, less);
-        l.halt = arith::pick_bool(self.control, self.halt, false);
-        l
+        Linear {
+            count: if self.halt {
+                self.reload
+            } else {
+                self.count.saturating_sub(1)
+            },
+            halt: self.control && self.halt,
+            ..self
+        }
     }
 
     // $4008 written.
+    #[tactic(auto, unfolding(crate::specs::Linear::linear_set))]
     pub fn set(self, value: u8) -> Linear
         ensures { result ≡ linear_set value self }
     {
-        let mut l = self;
-        l.control = value / 128 % 2 == 1;
-        l.reload = value % 128;
-        l
+        Linear {
+            control: value / 128 % 2 == 1,
+            reload: value % 128,
+            ..self
+        }
     }
 
     // $400B written.
+    #[tactic(auto, unfolding(crate::specs::Linear::linear_halted))]
     pub fn halted(self) -> Linear
         ensures { result ≡ linear_halted self }
     {
-        let mut l = self;
-        l.halt = true;
-        l
+        Linear { halt: true, ..self }
     }
 
     // Whether every field is in its range.
+    #[tactic(auto, unfolding(crate::specs::Linear::linear_in))]
     pub fn in_range(self) -> bool
         ensures { result ≡ linear_in self }
     {
-        arith::both_of(self.reload <= 127, self.count <= 127)
+        self.reload <= 127 && self.count <= 127
     }
 }

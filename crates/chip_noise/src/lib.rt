@@ -32,6 +32,7 @@ pub fn tap(mode: bool) -> u16
 }
 
 // The shift register's next value.
+#[tactic(auto, unfolding(crate::specs::Shifter::shifted_of))]
 pub fn shifted(mode: bool, register: u16) -> u16
     ensures { result ≡ shifted_of mode register }
 {
@@ -43,28 +44,28 @@ pub fn shifted(mode: bool, register: u16) -> u16
 
 impl Shifter {
     // One clock of the timer, with what it drives.
+    #[tactic(auto, unfolding(crate::specs::Shifter::shifter_clock))]
     pub fn clocked(self, period: u16, mode: bool) -> Shifter
         ensures { result ≡ shifter_clock period mode self }
     {
         if self.timer <= 1 {
-            let register = shifted(mode, self.register);
-            return Shifter {
+            Shifter {
                 timer: period,
-                register: register,
-            };
-        }
-        Shifter {
-            timer: self.timer - 1,
-            register: self.register,
+                register: shifted(mode, self.register),
+            }
+        } else {
+            Shifter {
+                timer: self.timer - 1,
+                ..self
+            }
         }
     }
 
+    #[tactic(auto, unfolding(crate::specs::Shifter::shifter_in))]
     fn in_range(self, top: u16) -> bool
         ensures { result ≡ shifter_in top self }
     {
-        let timer = arith::both_of(1 <= self.timer, self.timer <= top);
-        let register = arith::both_of(1 <= self.register, self.register <= 32767);
-        arith::both_of(timer, register)
+        1 <= self.timer && self.timer <= top && 1 <= self.register && self.register <= 32767
     }
 }
 
@@ -77,96 +78,117 @@ impl Noise {
             timer: period,
             register: 1,
         };
-        let envelope = Envelope::power_on();
-        let length = Length::power_on();
         Noise {
             mode: false,
             index: 0,
-            shifter: shifter,
-            envelope: envelope,
-            length: length,
+            shifter,
+            envelope: Envelope::power_on(),
+            length: Length::power_on(),
         }
     }
 
     // One clock.
+    #[tactic(auto, unfolding(crate::specs::Noise::noise_timed))]
     pub fn timed(self, period: u16) -> Noise
         ensures { result ≡ noise_timed period self }
     {
-        let mut c = self;
-        c.shifter = self.shifter.clocked(period, self.mode);
-        c
+        Noise {
+            shifter: self.shifter.clocked(period, self.mode),
+            ..self
+        }
     }
 
     // At a quarter frame.
+    #[tactic(auto, unfolding(crate::specs::Noise::noise_enveloped))]
     pub fn envelope_clocked(self) -> Noise
         ensures { result ≡ noise_enveloped self }
     {
-        let mut c = self;
-        c.envelope = self.envelope.clocked();
-        c
+        Noise {
+            envelope: self.envelope.clocked(),
+            ..self
+        }
     }
 
     // At a half frame.
+    #[tactic(auto, unfolding(crate::specs::Noise::noise_lengthened))]
     pub fn length_clocked(self) -> Noise
         ensures { result ≡ noise_lengthened self }
     {
-        let mut c = self;
-        c.length = self.length.clocked(self.envelope.looped);
-        c
+        Noise {
+            length: self.length.clocked(self.envelope.looped),
+            ..self
+        }
     }
 
     // Its bit of $4015 written.
+    #[tactic(auto, unfolding(crate::specs::Noise::noise_enabled))]
     pub fn enabled(self, on: bool) -> Noise
         ensures { result ≡ noise_enabled on self }
     {
-        let mut c = self;
-        c.length = self.length.enabled_by(on);
-        c
+        Noise {
+            length: self.length.enabled_by(on),
+            ..self
+        }
     }
 
     // What it gives while bit 0 of the shift register is clear.
+    #[tactic(auto, unfolding(crate::specs::Noise::noise_amount))]
     pub fn amount(self) -> u8
         ensures { result ≡ noise_amount self }
     {
-        let volume = self.envelope.volume_of();
-        arith::pick_u8(self.length.count == 0, 0, volume)
+        if self.length.count == 0 {
+            0
+        } else {
+            self.envelope.volume_of()
+        }
     }
 
     // What the mixer takes.
+    #[tactic(auto, unfolding(crate::specs::Noise::noise_output))]
     pub fn output(self) -> u8
         ensures { result ≡ noise_output self }
     {
-        let amount = self.amount();
-        arith::pick_u8(self.shifter.register % 2 == 1, 0, amount)
+        if self.shifter.register % 2 == 1 {
+            0
+        } else {
+            self.amount()
+        }
     }
 
+    #[tactic(auto, unfolding(crate::specs::Noise::noise_write0))]
     fn write0(self, value: u8) -> Noise
         ensures { result ≡ noise_write0 value self }
     {
-        let mut c = self;
-        c.envelope = self.envelope.set(value);
-        c
+        Noise {
+            envelope: self.envelope.set(value),
+            ..self
+        }
     }
 
+    #[tactic(auto, unfolding(crate::specs::Noise::noise_write2))]
     fn write2(self, value: u8) -> Noise
         ensures { result ≡ noise_write2 value self }
     {
-        let mut c = self;
-        c.mode = value / 128 % 2 == 1;
-        c.index = value % 16;
-        c
+        Noise {
+            mode: value / 128 % 2 == 1,
+            index: value % 16,
+            ..self
+        }
     }
 
+    #[tactic(auto, unfolding(crate::specs::Noise::noise_write3))]
     fn write3(self, value: u8) -> Noise
         ensures { result ≡ noise_write3 value self }
     {
-        let mut c = self;
-        c.envelope = self.envelope.begun();
-        c.length = self.length.loaded(value);
-        c
+        Noise {
+            envelope: self.envelope.begun(),
+            length: self.length.loaded(value),
+            ..self
+        }
     }
 
     // One of $400C to $400F written, by its place from 0.
+    #[tactic(auto, unfolding(crate::specs::Noise::noise_write))]
     pub fn write(self, place: u16, value: u8) -> Noise
         ensures { result ≡ noise_write place value self }
     {
@@ -179,14 +201,13 @@ impl Noise {
     }
 
     // `top` is the largest period.
+    #[tactic(auto, unfolding(crate::specs::Noise::noise_in))]
     pub fn in_range(self, top: u16) -> bool
         ensures { result ≡ noise_in top self }
     {
-        let s = self.shifter.in_range(top);
-        let e = self.envelope.in_range();
-        let l = self.length.in_range();
-        let units = arith::both_of(e, l);
-        let rest = arith::both_of(s, units);
-        arith::both_of(self.index <= 15, rest)
+        self.index <= 15
+            && self.shifter.in_range(top)
+            && self.envelope.in_range()
+            && self.length.in_range()
     }
 }

@@ -2,12 +2,12 @@
 #![tactic(auto)]
 
 ghost use Rattle.std.specs.Prelude.{◌≡◌};
-ghost use Rattle.chip_seen.specs.Seen.{flag, seen_of, same_seen};
+ghost use Rattle.chip_seen.specs.Seen.{seen_of, same_seen};
 
 use chip::State;
 
 // The line and the flags are 0 or 1.
-#[derive(Clone, Copy)]
+#[derive(Clone, Copy, PartialEq, Eq)]
 pub struct Seen {
     pub level: u16,
     pub square1: u8,
@@ -20,14 +20,8 @@ pub struct Seen {
     pub dmc_flag: u8,
 }
 
-// A flag as a number.
-fn flag_of(b: bool) -> u8
-    ensures { result ≡ flag b }
-{
-    arith::pick_u8(b, 1, 0)
-}
-
 // What is seen of a state.
+#[tactic(auto, unfolding(crate::specs::Seen::seen_of, chip::specs::Level::state_level))]
 pub fn seen_of(s: State) -> Seen
     ensures { result ≡ seen_of s }
 {
@@ -36,33 +30,23 @@ pub fn seen_of(s: State) -> Seen
     let t = s.triangle.output();
     let n = s.noise.output();
     let d = s.dmc.output_of();
-    let level = chip_mixer::mix(a as u32, b as u32, t as u32, n as u32, d as u32);
-    let line = flag_of(s.asserts());
-    let frame_flag = flag_of(s.frame.interrupt);
-    let dmc_flag = flag_of(s.dmc.reader.interrupt);
     Seen {
-        level: level,
+        level: chip_mixer::mix(a.into(), b.into(), t.into(), n.into(), d.into()),
         square1: a,
         square2: b,
         triangle: t,
         noise: n,
         dmc: d,
-        line: line,
-        frame_flag: frame_flag,
-        dmc_flag: dmc_flag,
+        line: s.asserts().into(),
+        frame_flag: s.frame.interrupt.into(),
+        dmc_flag: s.dmc.reader.interrupt.into(),
     }
 }
 
 // Whether nothing that is seen differs.
+#[tactic(auto, unfolding(crate::specs::Seen::same_seen))]
 pub fn same_seen(a: Seen, b: Seen) -> bool
     ensures { result ≡ same_seen a b }
 {
-    let flags = arith::both_of(a.frame_flag == b.frame_flag, a.dmc_flag == b.dmc_flag);
-    let line = arith::both_of(a.line == b.line, flags);
-    let dmc = arith::both_of(a.dmc == b.dmc, line);
-    let noise = arith::both_of(a.noise == b.noise, dmc);
-    let triangle = arith::both_of(a.triangle == b.triangle, noise);
-    let square2 = arith::both_of(a.square2 == b.square2, triangle);
-    let square1 = arith::both_of(a.square1 == b.square1, square2);
-    arith::both_of(a.level == b.level, square1)
+    a == b
 }

@@ -6,6 +6,7 @@ ghost use Rattle.chip_sheet.specs.Byte.{eight_steps};
 ghost use Rattle.chip_sheet.specs.Sheet.{sheet_levels, first_number, sheet_number, sheet_answer, sheet_buffer};
 
 // A number, and how many levels were written.
+// Flat, with the number first, as document 01 has it: "a refusal returns its number and place, the state as given, 0 or no for the rest".
 #[derive(Clone, Copy)]
 pub struct Written {
     pub number: u8,
@@ -16,28 +17,23 @@ pub struct Written {
 fn stepped(byte: u8, level: u8) -> u8
     ensures { result ≡ eight_steps byte level }
 {
-    let mut left = byte;
     let mut l = level;
-    let mut i: u8 = 0;
-    while i < 8 {
-        l = chip_dmc_output::level_moved(left, l);
-        left = left / 2;
-        i += 1;
+    for i in 0..8u32 {
+        l = chip_dmc_output::level_moved(byte >> i, l);
     }
     l
 }
 
 // The level after a byte: by its count of ones where no step can meet an end, else step by step.
+#[tactic(auto, using(crate::proofs::Steps::agree, crate::proofs::Steps::ones_most))]
 pub fn level_after(byte: u8, level: u8) -> u8
     ensures { result ≡ eight_steps byte level }
 {
-    if level < 16 {
-        return stepped(byte, level);
+    if level < 16 || 111 < level {
+        stepped(byte, level)
+    } else {
+        (u32::from(level) + 4 * byte.count_ones() - 16) as u8
     }
-    if 111 < level {
-        return stepped(byte, level);
-    }
-    (level as u32 + 4 * u8::count_ones(byte) - 16) as u8
 }
 
 // The first n bytes of the buffer made the levels.
@@ -47,12 +43,10 @@ fn draw(memory: &[u8], level: u8, address: u16, n: usize, buffer: &mut [u8])
 {
     let mut l = level;
     let mut a = address;
-    let mut i = 0;
-    while i < n {
+    for i in 0..n {
         l = level_after(chip_dmc_reader::byte_of(memory, a), l);
         a = chip_dmc_reader::address_after(a);
         buffer[i] = l;
-        i += 1;
     }
 }
 
@@ -80,15 +74,14 @@ fn first_of(unfit: bool, loud: bool, outside: bool, long: bool, tight: bool) -> 
 }
 
 // The refusal, or 0; `room` is the buffer's length.
+#[tactic(auto, unfolding(crate::specs::Sheet::sheet_number))]
 fn number_of(memory: &[u8], level: u64, address: u64, length: u64, room: usize) -> u8
     ensures { result ≡ sheet_number memory.now level address length room }
 {
-    let fit = memory.len() == 32768;
-    let outside = arith::either_of(address < 32768, 65535 < address);
     first_of(
-        !fit,
+        memory.len() != 32768,
         127 < level,
-        outside,
+        address < 32768 || 65535 < address,
         4081 < length,
         room < length as usize,
     )
@@ -102,13 +95,11 @@ pub fn sheet(memory: &[u8], level: u64, address: u64, length: u64, buffer: &mut 
     let number = number_of(memory, level, address, length, buffer.len());
     if number == 0 {
         draw(memory, level as u8, address as u16, length as usize, buffer);
-        return Written {
+        Written {
             number: 0,
             length: length as u16,
-        };
-    }
-    Written {
-        number: number,
-        length: 0,
+        }
+    } else {
+        Written { number, length: 0 }
     }
 }

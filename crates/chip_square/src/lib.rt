@@ -36,8 +36,8 @@ const DUTIES: u32 = 0xF91E0602;
 pub fn duty_bit(duty: u8, position: u8) -> u8
     ensures { result ≡ duty_bit duty position }
 {
-    let i = (duty % 4 * 8 + position % 8) as u32;
-    ((DUTIES >> i) % 2) as u8
+    let bit = duty % 4 * 8 + position % 8;
+    ((DUTIES >> bit) % 2) as u8
 }
 
 fn position_after(position: u8) -> u8
@@ -48,17 +48,20 @@ fn position_after(position: u8) -> u8
 
 impl Sequencer {
     // One clock.
+    #[tactic(auto, unfolding(crate::specs::Sequencer::sequencer_clock))]
     pub fn clocked(self) -> Sequencer
         ensures { result ≡ sequencer_clock self }
     {
         let output = self.timer.count <= 1;
-        let advances = arith::both_of(output, self.half);
-        let next = position_after(self.position);
-        let mut q = self;
-        q.timer = self.timer.clocked();
-        q.half = arith::pick_bool(output, !self.half, self.half);
-        q.position = arith::pick_u8(advances, next, self.position);
-        q
+        Sequencer {
+            timer: self.timer.clocked(),
+            half: if output { !self.half } else { self.half },
+            position: if output && self.half {
+                position_after(self.position)
+            } else {
+                self.position
+            },
+        }
     }
 
     fn with_period(self, period: u16) -> Sequencer
@@ -70,29 +73,33 @@ impl Sequencer {
     }
 
     // The low 8 bits of the period written.
+    #[tactic(auto, unfolding(crate::specs::Write::sequencer_low))]
     fn period_low(self, value: u8) -> Sequencer
         ensures { result ≡ sequencer_low value self }
     {
-        let mut q = self;
-        q.timer = self.timer.period_low(value);
-        q
+        Sequencer {
+            timer: self.timer.period_low(value),
+            ..self
+        }
     }
 
     // The high 3 bits of the period written.
+    #[tactic(auto, unfolding(crate::specs::Write::sequencer_high))]
     fn period_high(self, value: u8) -> Sequencer
         ensures { result ≡ sequencer_high value self }
     {
-        let mut q = self;
-        q.timer = self.timer.period_high(value);
-        q.position = 0;
-        q
+        Sequencer {
+            timer: self.timer.period_high(value),
+            position: 0,
+            ..self
+        }
     }
 
+    #[tactic(auto, unfolding(crate::specs::Range::sequencer_in))]
     fn in_range(self) -> bool
         ensures { result ≡ sequencer_in self }
     {
-        let timer = self.timer.in_range();
-        arith::both_of(timer, self.position <= 7)
+        self.timer.in_range() && self.position <= 7
     }
 }
 
@@ -101,13 +108,11 @@ impl Square {
     pub fn power_on() -> Square
         ensures { result ≡ square_on }
     {
-        let timer = Timer::power_on();
         let sequencer = Sequencer {
-            timer: timer,
+            timer: Timer::power_on(),
             half: false,
             position: 0,
         };
-        let envelope = Envelope::power_on();
         let sweep = Sweep {
             enable: false,
             negate: false,
@@ -116,113 +121,132 @@ impl Square {
             written: false,
             divider: 1,
         };
-        let length = Length::power_on();
         Square {
             duty: 0,
-            sequencer: sequencer,
-            envelope: envelope,
-            sweep: sweep,
-            length: length,
+            sequencer,
+            envelope: Envelope::power_on(),
+            sweep,
+            length: Length::power_on(),
         }
     }
 
     // One clock.
+    #[tactic(auto, unfolding(crate::specs::Square::square_timed))]
     pub fn timed(self) -> Square
         ensures { result ≡ square_timed self }
     {
+        // Changed in place: a square built anew with `..self` costs each clock a copy.
         let mut s = self;
         s.sequencer = self.sequencer.clocked();
         s
     }
 
     // At a quarter frame.
+    #[tactic(auto, unfolding(crate::specs::Square::square_enveloped))]
     pub fn envelope_clocked(self) -> Square
         ensures { result ≡ square_enveloped self }
     {
-        let mut s = self;
-        s.envelope = self.envelope.clocked();
-        s
+        Square {
+            envelope: self.envelope.clocked(),
+            ..self
+        }
     }
 
     // Its length and its sweep clocked.
+    #[tactic(auto, unfolding(crate::specs::Square::square_swept))]
     pub fn swept(self, second: bool) -> Square
         ensures { result ≡ square_swept second self }
     {
         let period = self.sweep.swept(second, self.sequencer.timer.period);
-        let mut s = self;
-        s.sequencer = self.sequencer.with_period(period);
-        s.sweep = self.sweep.clocked();
-        s.length = self.length.clocked(self.envelope.looped);
-        s
+        Square {
+            sequencer: self.sequencer.with_period(period),
+            sweep: self.sweep.clocked(),
+            length: self.length.clocked(self.envelope.looped),
+            ..self
+        }
     }
 
     // Its bit of $4015 written.
+    #[tactic(auto, unfolding(crate::specs::Square::square_enabled))]
     pub fn enabled(self, on: bool) -> Square
         ensures { result ≡ square_enabled on self }
     {
-        let mut s = self;
-        s.length = self.length.enabled_by(on);
-        s
+        Square {
+            length: self.length.enabled_by(on),
+            ..self
+        }
     }
 
     // What it gives while the duty bit is 1.
+    #[tactic(auto, unfolding(crate::specs::Square::square_amount, chip_sweep::specs::Sweep::muted))]
     pub fn amount(self, second: bool) -> u8
         ensures { result ≡ square_amount second self }
     {
         let period = self.sequencer.timer.period;
-        let volume = self.envelope.volume_of();
-        let high = self.sweep.is_high(second, period);
-        let swept = arith::pick_u8(high, 0, volume);
-        let low = chip_sweep::is_low(period);
-        let heard = arith::pick_u8(low, 0, swept);
-        arith::pick_u8(self.length.count == 0, 0, heard)
+        if self.length.count == 0 || self.sweep.mutes(second, period) {
+            0
+        } else {
+            self.envelope.volume_of()
+        }
     }
 
     // What the mixer takes.
+    #[tactic(auto, unfolding(crate::specs::Square::square_output))]
     pub fn output(self, second: bool) -> u8
         ensures { result ≡ square_output second self }
     {
-        let bit = duty_bit(self.duty, self.sequencer.position);
-        let amount = self.amount(second);
-        arith::pick_u8(bit == 1, amount, 0)
+        if duty_bit(self.duty, self.sequencer.position) == 1 {
+            self.amount(second)
+        } else {
+            0
+        }
     }
 
+    #[tactic(auto, unfolding(crate::specs::Write::square_write0))]
     fn write0(self, value: u8) -> Square
         ensures { result ≡ square_write0 value self }
     {
-        let mut s = self;
-        s.duty = value / 64;
-        s.envelope = self.envelope.set(value);
-        s
+        Square {
+            duty: value / 64,
+            envelope: self.envelope.set(value),
+            ..self
+        }
     }
 
+    #[tactic(auto, unfolding(crate::specs::Write::square_write1))]
     fn write1(self, value: u8) -> Square
         ensures { result ≡ square_write1 value self }
     {
-        let mut s = self;
-        s.sweep = self.sweep.set(value);
-        s
+        Square {
+            sweep: self.sweep.set(value),
+            ..self
+        }
     }
 
+    #[tactic(auto, unfolding(crate::specs::Write::square_write2))]
     fn write2(self, value: u8) -> Square
         ensures { result ≡ square_write2 value self }
     {
-        let mut s = self;
-        s.sequencer = self.sequencer.period_low(value);
-        s
+        Square {
+            sequencer: self.sequencer.period_low(value),
+            ..self
+        }
     }
 
+    #[tactic(auto, unfolding(crate::specs::Write::square_write3))]
     fn write3(self, value: u8) -> Square
         ensures { result ≡ square_write3 value self }
     {
-        let mut s = self;
-        s.sequencer = self.sequencer.period_high(value);
-        s.envelope = self.envelope.begun();
-        s.length = self.length.loaded(value);
-        s
+        Square {
+            sequencer: self.sequencer.period_high(value),
+            envelope: self.envelope.begun(),
+            length: self.length.loaded(value),
+            ..self
+        }
     }
 
     // One of its four registers written, by its place from 0.
+    #[tactic(auto, unfolding(crate::specs::Write::square_write))]
     pub fn write(self, place: u16, value: u8) -> Square
         ensures { result ≡ square_write place value self }
     {
@@ -235,16 +259,14 @@ impl Square {
     }
 
     // Whether every field is in its range.
+    #[tactic(auto, unfolding(crate::specs::Range::square_in))]
     pub fn in_range(self) -> bool
         ensures { result ≡ square_in self }
     {
-        let q = self.sequencer.in_range();
-        let e = self.envelope.in_range();
-        let w = self.sweep.in_range();
-        let l = self.length.in_range();
-        let end = arith::both_of(w, l);
-        let units = arith::both_of(e, end);
-        let rest = arith::both_of(q, units);
-        arith::both_of(self.duty <= 3, rest)
+        self.duty <= 3
+            && self.sequencer.in_range()
+            && self.envelope.in_range()
+            && self.sweep.in_range()
+            && self.length.in_range()
     }
 }

@@ -6,7 +6,7 @@ use native.Mathlib.Nat.{le_trans, mul-le-mul_right, mul-div-le, div-le_self}
 use native.Mathlib.Omega.{arith}
 use lib.IntN.{ℤ, pos, negsuc, ◌+ℤ◌, +ℤ_one, nat_abs, sub_ℕ}
 use lib.Signed.{non_neg, lt_z, le_z}
-use lib.Dec.{T, ltb, leb, le→leb}
+use lib.Dec.{T, ltb, le→leb}
 use lib.Pow.{pow_mono}
 use borrow.Author.Tests.{le-ltb, ltb-true, ltb-false}
 use Rattle.arith.specs.Pick.{either}

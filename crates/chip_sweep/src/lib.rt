@@ -1,7 +1,7 @@
 // The sweep of a square's period. `second` says that it is square 2's.
 #![tactic(auto)]
 
-ghost use Rattle.std.specs.Prelude.{◌≡◌};
+ghost use Rattle.std.specs.Prelude.{◌≡◌, ◌/◌, ◌^◌};
 ghost use Rattle.chip_sweep.specs.Sweep.{target, low_period, high_target, muted, sweeps, swept_period, sweep_clock, sweep_set, sweep_in};
 
 // `period` and `shift` are document 01's P and S, `written` its sweep-written flag.
@@ -15,14 +15,20 @@ pub struct Sweep {
     pub divider: u8,
 }
 
+// A period shifted right; past its last bit 0 is left.
+fn shifted(period: u16, places: u8) -> u16
+    ensures { result ≡ period / 2 ^ places }
+{
+    if places < 16 { period >> places } else { 0 }
+}
+
 impl Sweep {
     // The period that the sweep is heading for, as a signed number.
     pub fn target_of(self, second: bool, period: u16) -> i32
         ensures { result ≡ target second self period }
     {
-        let shifted = arith::shifted_u16(period, self.shift as u64);
-        let p = period as i32;
-        let s = shifted as i32;
+        let p = i32::from(period);
+        let s = i32::from(shifted(period, self.shift));
         if self.negate {
             if second { p + (!s + 1) } else { p + !s }
         } else {
@@ -31,6 +37,7 @@ impl Sweep {
     }
 
     // Whether the target is above 2047; `second` is square 2.
+    #[tactic(auto, unfolding(crate::specs::Sweep::high_target))]
     pub fn is_high(self, second: bool, period: u16) -> bool
         ensures { result ≡ high_target second self period }
     {
@@ -38,20 +45,18 @@ impl Sweep {
     }
 
     // Whether it silences its square.
+    #[tactic(auto, unfolding(crate::specs::Sweep::muted))]
     pub fn mutes(self, second: bool, period: u16) -> bool
         ensures { result ≡ muted second self period }
     {
-        let high = self.is_high(second, period);
-        arith::either_of(is_low(period), high)
+        is_low(period) || self.is_high(second, period)
     }
 
+    #[tactic(auto, unfolding(crate::specs::Sweep::sweeps))]
     fn moves(self, second: bool, period: u16) -> bool
         ensures { result ≡ sweeps second self period }
     {
-        let mutes = self.mutes(second, period);
-        let free = arith::both_of(0 < self.shift, !mutes);
-        let on = arith::both_of(self.enable, free);
-        arith::both_of(self.divider <= 1, on)
+        self.divider <= 1 && self.enable && 0 < self.shift && !self.mutes(second, period)
     }
 
     // The square's period after a clock of the sweep.
@@ -59,47 +64,55 @@ impl Sweep {
         ensures { result ≡ swept_period second self period }
     {
         if self.moves(second, period) {
-            return self.target_of(second, period) as u16;
+            self.target_of(second, period) as u16
+        } else {
+            period
         }
-        period
     }
 
     // One clock of the frame sequencer.
+    #[tactic(auto, unfolding(crate::specs::Sweep::sweep_clock))]
     pub fn clocked(self) -> Sweep
         ensures { result ≡ sweep_clock self }
     {
         let n = self.period % 8 + 1;
-        let next = divider::tick_u8(n, self.divider);
-        let mut w = self;
-        w.written = false;
-        w.divider = arith::pick_u8(self.written, n, next);
-        w
+        Sweep {
+            written: false,
+            divider: if self.written {
+                n
+            } else {
+                divider::tick_u8(n, self.divider)
+            },
+            ..self
+        }
     }
 
     // The square's second register written.
+    #[tactic(auto, unfolding(crate::specs::Sweep::sweep_set))]
     pub fn set(self, value: u8) -> Sweep
         ensures { result ≡ sweep_set value self }
     {
-        let mut w = self;
-        w.enable = value / 128 % 2 == 1;
-        w.negate = value / 8 % 2 == 1;
-        w.period = value / 16 % 8;
-        w.shift = value % 8;
-        w.written = true;
-        w
+        Sweep {
+            enable: value / 128 % 2 == 1,
+            negate: value / 8 % 2 == 1,
+            period: value / 16 % 8,
+            shift: value % 8,
+            written: true,
+            ..self
+        }
     }
 
     // Whether every field is in its range.
+    #[tactic(auto, unfolding(crate::specs::Sweep::sweep_in))]
     pub fn in_range(self) -> bool
         ensures { result ≡ sweep_in self }
     {
-        let divider = arith::both_of(1 <= self.divider, self.divider <= 8);
-        let rest = arith::both_of(self.shift <= 7, divider);
-        arith::both_of(self.period <= 7, rest)
+        self.period <= 7 && self.shift <= 7 && 1 <= self.divider && self.divider <= 8
     }
 }
 
 // A period too low to be heard.
+#[tactic(auto, unfolding(crate::specs::Sweep::low_period))]
 pub fn is_low(period: u16) -> bool
     ensures { result ≡ low_period period }
 {

@@ -24,21 +24,21 @@ fn word_line(out: &mut [u8], at: usize, channel: &[u8], key: &[u8], n: u16) -> u
     ensures { Puts out.old at (field_line channel.now key.now n) out.new result }
 {
     let a = text_print::fixed(out, at, channel);
-    text_lines::keyed_line(out, a, key, n as u64)
+    text_lines::keyed_line(out, a, key, n.into())
 }
 
 // Of one byte.
 fn byte_line(out: &mut [u8], at: usize, channel: &[u8], key: &[u8], n: u8) -> usize
     ensures { Puts out.old at (field_line channel.now key.now n) out.new result }
 {
-    word_line(out, at, channel, key, n as u16)
+    word_line(out, at, channel, key, n.into())
 }
 
 // Of a flag.
 fn flag_line(out: &mut [u8], at: usize, channel: &[u8], key: &[u8], flag: bool) -> usize
     ensures { Puts out.old at (flag_line channel.now key.now flag) out.new result }
 {
-    byte_line(out, at, channel, key, arith::pick_u8(flag, 1, 0))
+    byte_line(out, at, channel, key, flag.into())
 }
 
 // Loop, constant and n.

@@ -22,37 +22,43 @@ impl Timer {
     }
 
     // One clock.
+    #[tactic(auto, unfolding(crate::specs::Timer::timer_clock))]
     pub fn clocked(self) -> Timer
         ensures { result ≡ timer_clock self }
     {
-        let mut t = self;
-        t.count = divider::tick_u16(self.period % 2048 + 1, self.count);
-        t
+        Timer {
+            count: divider::tick_u16(self.period % 2048 + 1, self.count),
+            ..self
+        }
     }
 
     // Its low 8 bits written.
+    #[tactic(auto, unfolding(crate::specs::Timer::period_low))]
     pub fn period_low(self, value: u8) -> Timer
         ensures { result ≡ period_low value self }
     {
-        let mut t = self;
-        t.period = self.period / 256 * 256 + value as u16;
-        t
+        Timer {
+            period: self.period / 256 * 256 + u16::from(value),
+            ..self
+        }
     }
 
     // Its high 3 bits written.
+    #[tactic(auto, unfolding(crate::specs::Timer::period_high))]
     pub fn period_high(self, value: u8) -> Timer
         ensures { result ≡ period_high value self }
     {
-        let mut t = self;
-        t.period = (value % 8) as u16 * 256 + self.period % 256;
-        t
+        Timer {
+            period: u16::from(value % 8) * 256 + self.period % 256,
+            ..self
+        }
     }
 
     // Whether period and count are in their ranges.
+    #[tactic(auto, unfolding(crate::specs::Timer::timer_in))]
     pub fn in_range(self) -> bool
         ensures { result ≡ timer_in self }
     {
-        let count = arith::both_of(1 <= self.count, self.count <= 2048);
-        arith::both_of(self.period <= 2047, count)
+        self.period <= 2047 && 1 <= self.count && self.count <= 2048
     }
 }

@@ -30,6 +30,7 @@ fn position_after(position: u8) -> u8
 }
 
 // What a position gives.
+#[tactic(auto, unfolding(crate::specs::Triangle::triangle_at))]
 pub fn value_at(position: u8) -> u8
     ensures { result ≡ triangle_at position }
 {
@@ -39,30 +40,31 @@ pub fn value_at(position: u8) -> u8
 
 impl Sequencer {
     // One clock; `on` says that the counters let it advance.
+    #[tactic(auto, unfolding(crate::specs::Triangle::triangle_sequenced))]
     pub fn clocked(self, on: bool) -> Sequencer
         ensures { result ≡ triangle_sequenced on self }
     {
-        let advances = arith::both_of(self.timer.count <= 1, on);
-        let next = position_after(self.position);
-        let mut q = self;
-        q.timer = self.timer.clocked();
-        q.position = arith::pick_u8(advances, next, self.position);
-        q
+        Sequencer {
+            timer: self.timer.clocked(),
+            position: if self.timer.count <= 1 && on {
+                position_after(self.position)
+            } else {
+                self.position
+            },
+        }
     }
 
     fn with_timer(self, timer: Timer) -> Sequencer
         ensures { result ≡ with_timer self timer }
     {
-        let mut q = self;
-        q.timer = timer;
-        q
+        Sequencer { timer, ..self }
     }
 
+    #[tactic(auto, unfolding(crate::specs::Triangle::triangle_sequencer_in))]
     fn in_range(self) -> bool
         ensures { result ≡ triangle_sequencer_in self }
     {
-        let timer = self.timer.in_range();
-        arith::both_of(timer, self.position <= 31)
+        self.timer.in_range() && self.position <= 31
     }
 }
 
@@ -71,9 +73,8 @@ impl Triangle {
     pub fn power_on() -> Triangle
         ensures { result ≡ triangle_on }
     {
-        let timer = Timer::power_on();
         let sequencer = Sequencer {
-            timer: timer,
+            timer: Timer::power_on(),
             position: 0,
         };
         let linear = Linear {
@@ -82,94 +83,109 @@ impl Triangle {
             count: 0,
             halt: false,
         };
-        let length = Length::power_on();
         Triangle {
-            sequencer: sequencer,
-            linear: linear,
-            length: length,
+            sequencer,
+            linear,
+            length: Length::power_on(),
         }
     }
 
     // Whether its two counters let it advance.
+    #[tactic(auto, unfolding(crate::specs::Triangle::runs))]
     pub fn is_running(self) -> bool
         ensures { result ≡ runs self }
     {
-        arith::both_of(0 < self.length.count, 0 < self.linear.count)
+        0 < self.length.count && 0 < self.linear.count
     }
 
     // One clock.
+    #[tactic(auto, unfolding(crate::specs::Triangle::triangle_timed))]
     pub fn timed(self) -> Triangle
         ensures { result ≡ triangle_timed self }
     {
-        let on = self.is_running();
-        let mut t = self;
-        t.sequencer = self.sequencer.clocked(on);
-        t
+        Triangle {
+            sequencer: self.sequencer.clocked(self.is_running()),
+            ..self
+        }
     }
 
     // At a quarter frame.
+    #[tactic(auto, unfolding(crate::specs::Triangle::triangle_linear))]
     pub fn linear_clocked(self) -> Triangle
         ensures { result ≡ triangle_linear self }
     {
-        let mut t = self;
-        t.linear = self.linear.clocked();
-        t
+        Triangle {
+            linear: self.linear.clocked(),
+            ..self
+        }
     }
 
     // At a half frame.
+    #[tactic(auto, unfolding(crate::specs::Triangle::triangle_lengthened))]
     pub fn length_clocked(self) -> Triangle
         ensures { result ≡ triangle_lengthened self }
     {
-        let mut t = self;
-        t.length = self.length.clocked(self.linear.control);
-        t
+        Triangle {
+            length: self.length.clocked(self.linear.control),
+            ..self
+        }
     }
 
     // Its bit of $4015 written.
+    #[tactic(auto, unfolding(crate::specs::Triangle::triangle_enabled))]
     pub fn enabled(self, on: bool) -> Triangle
         ensures { result ≡ triangle_enabled on self }
     {
-        let mut t = self;
-        t.length = self.length.enabled_by(on);
-        t
+        Triangle {
+            length: self.length.enabled_by(on),
+            ..self
+        }
     }
 
     // What the mixer takes, whether it advances or not.
+    #[tactic(auto, unfolding(crate::specs::Triangle::triangle_output))]
     pub fn output(self) -> u8
         ensures { result ≡ triangle_output self }
     {
         value_at(self.sequencer.position)
     }
 
+    #[tactic(auto, unfolding(crate::specs::Write::triangle_write0))]
     fn write0(self, value: u8) -> Triangle
         ensures { result ≡ triangle_write0 value self }
     {
-        let mut t = self;
-        t.linear = self.linear.set(value);
-        t
+        Triangle {
+            linear: self.linear.set(value),
+            ..self
+        }
     }
 
+    #[tactic(auto, unfolding(crate::specs::Write::triangle_write2))]
     fn write2(self, value: u8) -> Triangle
         ensures { result ≡ triangle_write2 value self }
     {
         let timer = self.sequencer.timer.period_low(value);
-        let mut t = self;
-        t.sequencer = self.sequencer.with_timer(timer);
-        t
+        Triangle {
+            sequencer: self.sequencer.with_timer(timer),
+            ..self
+        }
     }
 
+    #[tactic(auto, unfolding(crate::specs::Write::triangle_write3))]
     fn write3(self, value: u8) -> Triangle
         ensures { result ≡ triangle_write3 value self }
     {
         let timer = self.sequencer.timer.period_high(value);
-        let mut t = self;
-        t.sequencer = self.sequencer.with_timer(timer);
-        t.linear = self.linear.halted();
-        t.length = self.length.loaded(value);
-        t
+        Triangle {
+            sequencer: self.sequencer.with_timer(timer),
+            linear: self.linear.halted(),
+            length: self.length.loaded(value),
+            ..self
+        }
     }
 
     // One of $4008 to $400B written, by its place from 0.
+    #[tactic(auto, unfolding(crate::specs::Write::triangle_write))]
     pub fn write(self, place: u16, value: u8) -> Triangle
         ensures { result ≡ triangle_write place value self }
     {
@@ -182,13 +198,10 @@ impl Triangle {
     }
 
     // Whether every field is in its range.
+    #[tactic(auto, unfolding(crate::specs::Triangle::triangle_in))]
     pub fn in_range(self) -> bool
         ensures { result ≡ triangle_in self }
     {
-        let q = self.sequencer.in_range();
-        let l = self.linear.in_range();
-        let n = self.length.in_range();
-        let rest = arith::both_of(l, n);
-        arith::both_of(q, rest)
+        self.sequencer.in_range() && self.linear.in_range() && self.length.in_range()
     }
 }

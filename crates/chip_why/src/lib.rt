@@ -11,6 +11,7 @@ use chip_square::Square;
 
 // The reasons in the order in which they are asked for; `StepLow` is a square's duty step, or bit 0 of the noise. What sounds has
 // the number that the channel gives.
+// No Result: request 6 names the reasons, and `why_answer` the refusal among them.
 #[derive(Clone, Copy)]
 pub enum Reason {
     Refused(u8),
@@ -58,6 +59,7 @@ fn first_of(
 }
 
 // Why a square is silent; `second` says that it is square 2.
+#[tactic(auto, unfolding(crate::specs::Why::square_why))]
 fn square_why(s: Square, second: bool) -> Reason
     ensures { result ≡ square_why second s }
 {
@@ -73,6 +75,7 @@ fn square_why(s: Square, second: bool) -> Reason
 }
 
 // Why the noise is silent: it has no sweep.
+#[tactic(auto, unfolding(crate::specs::Why::noise_why))]
 fn noise_why(c: Noise) -> Reason
     ensures { result ≡ noise_why c }
 {
@@ -85,6 +88,7 @@ fn noise_why(c: Noise) -> Reason
 }
 
 // Why a channel of a state in range is silent.
+#[tactic(auto, unfolding(crate::specs::Why::channel_why))]
 fn channel_why(s: State, channel: u64) -> Reason
     ensures { result ≡ channel_why channel s }
 {
@@ -103,9 +107,10 @@ pub fn why(s: State, channel: u64) -> Reason
     ensures result_value_2 { reason_value result ≡ why_value channel s }
 {
     if s.in_range() {
-        return channel_why(s, channel);
+        channel_why(s, channel)
+    } else {
+        Reason::Refused(2)
     }
-    Reason::Refused(2)
 }
 
 // The number that an answer carries.
@@ -114,13 +119,7 @@ pub fn number_of(r: Reason) -> u8
 {
     match r {
         Reason::Refused(n) => n,
-        Reason::NotEnabled => 0,
-        Reason::LengthZero => 0,
-        Reason::PeriodLow => 0,
-        Reason::TargetHigh => 0,
-        Reason::StepLow => 0,
-        Reason::VolumeZero => 0,
-        Reason::Sounds(_) => 0,
+        _ => 0,
     }
 }
 

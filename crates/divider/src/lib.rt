@@ -11,7 +11,7 @@ pub fn tick_u8(n: u8, count: u8) -> u8
     if count <= 1 { n } else { count - 1 }
 }
 
-// The count after one tick of a divider with period n.
+// The same for 16 bits: a type parameter with its bounds would put integers for numbers into the clause, and be no plainer.
 pub fn tick_u16(n: u16, count: u16) -> u16
     ensures { result ≡ tick n count }
 {
@@ -32,17 +32,18 @@ fn short_of(n: u64, a: u64) -> u64
 }
 
 // The outputs in g ticks of a divider with period n.
+#[tactic(auto, unfolding(crate::specs::Divider::outputs))]
 pub fn outputs_in(n: u32, count: u32, g: u32) -> u64
     ensures { result ≡ outputs n count g }
 {
     if g < count {
         return 0;
     }
-    let q = quotient(g - count, n);
-    q as u64 + 1
+    u64::from(quotient(g - count, n)) + 1
 }
 
 // The count after g ticks of a divider with period n.
+#[tactic(auto, unfolding(crate::specs::Divider::count_after))]
 pub fn count_in(n: u64, count: u64, g: u64) -> u64
     ensures { result ≡ count_after n count g }
 {

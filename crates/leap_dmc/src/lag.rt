@@ -16,25 +16,27 @@ pub struct DmcLag {
 
 impl DmcLag {
     // Kept from clock at on.
+    #[tactic(auto, unfolding(crate::specs::Lag::dmc_lag))]
     pub fn new(n: u16, dmc: Dmc, at: u32) -> DmcLag
         ensures { result ≡ dmc_lag n dmc at }
     {
         let still = super::still_for(dmc, n);
         let out = dmc.output_of();
         DmcLag {
-            dmc: dmc,
-            n: n,
-            at: at,
-            next: at as u64 + still as u64 + 1,
-            out: out,
+            dmc,
+            n,
+            at,
+            next: u64::from(at) + u64::from(still) + 1,
+            out,
         }
     }
 
     // At clock e: brought up to it where that is its next change.
+    #[tactic(auto, unfolding(crate::specs::Lag::dmc_renewed))]
     pub fn renewed(self, memory: &[u8], e: u32) -> DmcLag
         ensures { result ≡ dmc_renewed memory.now self e }
     {
-        if self.next == e as u64 {
+        if self.next == u64::from(e) {
             let dmc = super::turn(self.dmc, memory, self.n);
             return DmcLag::new(self.n, dmc, e);
         }
@@ -42,10 +44,10 @@ impl DmcLag {
     }
 
     // The DMC at clock k, before its next change.
+    #[tactic(auto, unfolding(crate::specs::Lag::dmc_at))]
     pub fn dmc_at(self, k: u32) -> Dmc
         ensures { result ≡ dmc_at self k }
     {
-        let g = arith::minus_u32(k, self.at);
-        super::advance(self.dmc, self.n, g)
+        super::advance(self.dmc, self.n, k.saturating_sub(self.at))
     }
 }

@@ -1,7 +1,7 @@
 // The DMC's part in the leap: for how many clocks it surely only counts, the DMC g such clocks on, and at its next change.
 #![tactic(auto)]
 
-ghost use Rattle.std.specs.Prelude.{◌≡◌, ◌+◌, ◌-◌, ◌*◌};
+ghost use Rattle.std.specs.Prelude.{◌≡◌, ◌+◌, ◌-◌, ◌*◌, ◌/◌, ◌^◌};
 ghost use Rattle.arith.specs.Pick.{pick};
 ghost use Rattle.leap_still.specs.Forever.{forever};
 ghost use Rattle.leap_dmc.specs.Leap.{output_still, dmc_still, with_tape, output_advanced, dmc_advanced, output_brink, dmc_brink, dmc_turned};
@@ -10,6 +10,13 @@ use chip_dmc::Dmc;
 use chip_dmc_output::Output;
 
 pub mod lag;
+
+// A byte shifted right by any number of places; past its last bit 0 is left.
+fn shifted(byte: u8, places: u64) -> u8
+    ensures { result ≡ byte / 2 ^ places }
+{
+    if places < 8 { byte >> places } else { 0 }
+}
 
 // The output unit with another timer count, shift byte and bits.
 fn with_tape(output: Output, timer: u16, byte: u8, bits: u8) -> Output
@@ -23,13 +30,14 @@ fn with_tape(output: Output, timer: u16, byte: u8, bits: u8) -> Output
 }
 
 // The output unit g clocks on, while nothing is taken from the buffer.
+#[tactic(auto, unfolding(crate::specs::Leap::output_advanced), using(divider::proofs::DividerLaws::count_after_top))]
 fn output_advance(output: Output, period: u16, g: u32) -> Output
     ensures { result ≡ output_advanced period g output }
 {
-    let k = divider::outputs_in(period as u32, output.timer as u32, g);
-    let timer = divider::count_in(period as u64, output.timer as u64, g as u64);
-    let byte = arith::shifted_u8(output.shift, k);
-    let bits = divider::count_in(8, output.bits as u64, k);
+    let k = divider::outputs_in(u32::from(period), u32::from(output.timer), g);
+    let timer = divider::count_in(u64::from(period), u64::from(output.timer), u64::from(g));
+    let byte = shifted(output.shift, k);
+    let bits = divider::count_in(8, u64::from(output.bits), k);
     with_tape(output, timer as u16, byte, bits as u8)
 }
 
@@ -37,39 +45,41 @@ fn output_advance(output: Output, period: u16, g: u32) -> Output
 fn silent_for(output: Output, period: u16, full: bool) -> u32
     ensures { result ≡ pick full (output.timer - 1 + (output.bits - 1) * period) forever }
 {
-    let timer = arith::less_u16(output.timer);
-    let bits = arith::less_u8(output.bits);
     if full {
-        timer as u32 + bits as u32 * period as u32
+        let timer = output.timer.saturating_sub(1);
+        let bits = output.bits.saturating_sub(1);
+        u32::from(timer) + u32::from(bits) * u32::from(period)
     } else {
         100000
     }
 }
 
 // For how many clocks the output unit surely only counts.
+#[tactic(auto, unfolding(crate::specs::Leap::output_still))]
 fn output_still_for(output: Output, period: u16, full: bool) -> u32
     ensures { result ≡ output_still period full output }
 {
     if output.silence {
         return silent_for(output, period, full);
     }
-    let timer = arith::less_u16(output.timer);
-    timer as u32
+    u32::from(output.timer.saturating_sub(1))
 }
 
 // The output unit at the clock before its next change.
+#[tactic(auto, unfolding(crate::specs::Leap::output_brink))]
 fn output_at_brink(output: Output) -> Output
     ensures { result ≡ output_brink output }
 {
     if output.silence {
-        let k = arith::less_u8(output.bits);
-        let byte = arith::shifted_u8(output.shift, k as u64);
+        let k = output.bits.saturating_sub(1);
+        let byte = shifted(output.shift, u64::from(k));
         return with_tape(output, 1, byte, 1);
     }
     output.at(1)
 }
 
 // For how many clocks the DMC surely only counts.
+#[tactic(auto, unfolding(crate::specs::Leap::dmc_still))]
 pub fn still_for(dmc: Dmc, period: u16) -> u32
     ensures { result ≡ dmc_still period dmc }
 {
@@ -80,6 +90,7 @@ pub fn still_for(dmc: Dmc, period: u16) -> u32
 }
 
 // The DMC g clocks on; what clocks make of it for g up to still_for.
+#[tactic(auto, unfolding(crate::specs::Leap::dmc_advanced))]
 pub fn advance(dmc: Dmc, period: u16, g: u32) -> Dmc
     ensures { result ≡ dmc_advanced period g dmc }
 {
@@ -89,6 +100,7 @@ pub fn advance(dmc: Dmc, period: u16, g: u32) -> Dmc
 }
 
 // The DMC at the clock before its next change.
+#[tactic(auto, unfolding(crate::specs::Leap::dmc_brink))]
 pub fn at_brink(dmc: Dmc) -> Dmc
     ensures { result ≡ dmc_brink dmc }
 {
@@ -101,6 +113,7 @@ pub fn at_brink(dmc: Dmc) -> Dmc
 }
 
 // The DMC at its next change.
+#[tactic(auto, unfolding(crate::specs::Leap::dmc_turned))]
 pub fn turn(dmc: Dmc, memory: &[u8], period: u16) -> Dmc
     ensures { result ≡ dmc_turned memory.now period dmc }
 {

@@ -10,42 +10,45 @@ use chip_frame::{Frame, Times};
 fn until(time: u16, clock: u16) -> u16
     ensures { result ≡ time - 1 - clock }
 {
-    let brink = arith::less_u16(time);
-    arith::minus_u16(brink, clock)
+    time.saturating_sub(1).saturating_sub(clock)
 }
 
 // The clock number g clocks on, where `last` is the last of the frame.
 fn number_on(clock: u16, g: u32, last: u16) -> u16
     ensures { result ≡ (clock + g) % (last + 1) }
 {
-    let n = (clock as u64 + g as u64) % (last as u64 + 1);
-    n as u16
+    ((u64::from(clock) + u64::from(g)) % (u64::from(last) + 1)) as u16
 }
 
 // The clocks before a frame's next step.
+#[tactic(auto, unfolding(crate::specs::Leap::frame_before))]
 pub fn before(f: Frame, t: Times) -> u32
     ensures { result ≡ frame_before t f }
 {
-    let below_fifth = arith::both_of(f.mode, f.clock < t.fifth);
-    let to_fifth = until(t.fifth, f.clock);
-    let to_fourth = until(t.fourth, f.clock);
-    let to_third = until(t.third, f.clock);
-    let to_second = until(t.second, f.clock);
-    let to_first = until(t.first, f.clock);
-    let fifth = arith::pick_u16(below_fifth, to_fifth, t.first);
-    let fourth = arith::pick_u16(f.clock < t.fourth, to_fourth, fifth);
-    let third = arith::pick_u16(f.clock < t.third, to_third, fourth);
-    let second = arith::pick_u16(f.clock < t.second, to_second, third);
-    let first = arith::pick_u16(f.clock < t.first, to_first, second);
-    first as u32
+    let clocks = if f.clock < t.first {
+        until(t.first, f.clock)
+    } else if f.clock < t.second {
+        until(t.second, f.clock)
+    } else if f.clock < t.third {
+        until(t.third, f.clock)
+    } else if f.clock < t.fourth {
+        until(t.fourth, f.clock)
+    } else if f.mode && f.clock < t.fifth {
+        until(t.fifth, f.clock)
+    } else {
+        t.first
+    };
+    u32::from(clocks)
 }
 
 // g clocks that bring no step.
+#[tactic(auto, unfolding(crate::specs::Leap::frame_passed))]
 pub fn passed(f: Frame, t: Times, g: u32) -> Frame
     ensures { result ≡ frame_passed t g f }
 {
     let last = t.last(f.mode);
-    let mut after = f;
-    after.clock = number_on(f.clock, g, last);
-    after
+    Frame {
+        clock: number_on(f.clock, g, last),
+        ..f
+    }
 }

@@ -3,7 +3,6 @@
 #![tactic(auto)]
 
 ghost use Rattle.std.specs.Prelude.{◌≡◌, ◌+◌, ◌-◌, ◌*◌};
-ghost use Rattle.arith.specs.Pick.{pick};
 ghost use Rattle.leap_line.specs.Until.{frame_until, takes_in, last_fetch, dmc_until, sooner, frame_flag_until, dmc_flag_until, line_until};
 
 use chip::State;
@@ -11,72 +10,80 @@ use chip_dmc::Dmc;
 use chip_dmc_output::Output;
 use chip_frame::{Frame, Times};
 
-fn pick_u64(test: bool, a: u64, b: u64) -> u64
-    ensures { result ≡ pick test a b }
-{
-    if test { a } else { b }
-}
-
 // The clocks up to the frame's flag.
+#[tactic(auto, unfolding(crate::specs::Until::frame_until))]
 fn frame_until(f: Frame, t: Times) -> u64
     ensures { result ≡ frame_until t f }
 {
-    let counts = arith::both_of(!f.mode, !f.disable);
-    let left = arith::minus_u16(t.fourth, f.clock);
-    let until = pick_u64(f.clock < t.fourth, left as u64, t.fourth as u64 + 1);
-    pick_u64(counts, until, 0)
+    if f.mode || f.disable {
+        0
+    } else if f.clock < t.fourth {
+        u64::from(t.fourth - f.clock)
+    } else {
+        u64::from(t.fourth) + 1
+    }
 }
 
 // The clocks up to the one in which the buffer's byte is taken.
+#[tactic(auto, unfolding(crate::specs::Until::takes_in))]
 fn takes_in(o: Output, period: u16) -> u32
     ensures { result ≡ takes_in period o }
 {
-    let bits = arith::less_u8(o.bits);
-    o.timer as u32 + bits as u32 * period as u32
+    u32::from(o.timer) + u32::from(o.bits.saturating_sub(1)) * u32::from(period)
 }
 
 // The clocks up to the last of the fetches behind a first one.
 fn fetches_in(first: u32, bytes: u16, period: u16) -> u64
     ensures { result ≡ first + bytes * (8 * period) }
 {
-    first as u64 + bytes as u64 * (8 * period as u64)
+    u64::from(first) + u64::from(bytes) * (8 * u64::from(period))
 }
 
 // The clocks up to the fetch of the last byte.
+#[tactic(auto, unfolding(crate::specs::Until::last_fetch))]
 fn last_fetch(period: u16, full: bool, taken: u32, bytes: u16) -> u64
     ensures { result ≡ last_fetch period full taken bytes }
 {
-    let one = arith::less_u16(bytes);
-    let two = arith::minus_u16(bytes, 2);
-    let filled = fetches_in(taken, one, period);
-    let at_once = fetches_in(1, one, period);
-    let behind = fetches_in(taken, two, period);
-    let later = pick_u64(taken == 1, at_once, behind);
-    let empty = pick_u64(bytes == 1, 1, later);
-    pick_u64(full, filled, empty)
+    if full {
+        fetches_in(taken, bytes.saturating_sub(1), period)
+    } else if bytes == 1 {
+        1
+    } else if taken == 1 {
+        fetches_in(1, bytes.saturating_sub(1), period)
+    } else {
+        fetches_in(taken, bytes.saturating_sub(2), period)
+    }
 }
 
 // The clocks up to the DMC's flag.
+#[tactic(auto, unfolding(crate::specs::Until::dmc_until))]
 fn dmc_until(d: Dmc, period: u16) -> u64
     ensures { result ≡ dmc_until period d }
 {
-    let once = arith::both_of(!d.registers.looped, 0 < d.reader.remaining);
-    let counts = arith::both_of(d.registers.enable, once);
-    let taken = takes_in(d.output, period);
-    let last = last_fetch(period, d.reader.full, taken, d.reader.remaining);
-    pick_u64(counts, last, 0)
+    if d.registers.enable && !d.registers.looped && 0 < d.reader.remaining {
+        let taken = takes_in(d.output, period);
+        last_fetch(period, d.reader.full, taken, d.reader.remaining)
+    } else {
+        0
+    }
 }
 
 // The sooner of two, 0 being never.
+#[tactic(auto, unfolding(crate::specs::Until::sooner))]
 fn sooner_of(a: u64, b: u64) -> u64
     ensures { result ≡ sooner a b }
 {
-    let least = arith::least_u64(a, b);
-    let second = pick_u64(b == 0, a, least);
-    pick_u64(a == 0, b, second)
+    if a == 0 {
+        b
+    } else if b == 0 {
+        a
+    } else {
+        a.min(b)
+    }
 }
 
 // The clocks up to the one that sets the frame's flag.
+#[tactic(auto, unfolding(crate::specs::Until::frame_flag_until))]
 pub fn until_frame(s: State) -> u64
     ensures { result ≡ frame_flag_until s }
 {
@@ -85,6 +92,7 @@ pub fn until_frame(s: State) -> u64
 }
 
 // The clocks up to the one that sets the DMC's flag.
+#[tactic(auto, unfolding(crate::specs::Until::dmc_flag_until))]
 pub fn until_dmc(s: State) -> u64
     ensures { result ≡ dmc_flag_until s }
 {
@@ -93,6 +101,7 @@ pub fn until_dmc(s: State) -> u64
 }
 
 // The clocks up to the one that asserts the line.
+#[tactic(auto, unfolding(crate::specs::Until::line_until))]
 pub fn until(s: State) -> u64
     ensures { result ≡ line_until s }
 {

@@ -19,27 +19,29 @@ pub struct NoiseLag {
 
 impl NoiseLag {
     // Kept from clock at on.
+    #[tactic(auto, unfolding(crate::specs::Lag::noise_lag))]
     pub fn new(n: u16, mode: bool, amount: u8, shifter: Shifter, at: u32) -> NoiseLag
         ensures { result ≡ noise_lag n mode amount shifter at }
     {
         let still = super::still_for(shifter, amount, n);
         let out = super::gives(shifter, amount);
         NoiseLag {
-            shifter: shifter,
-            n: n,
-            mode: mode,
-            amount: amount,
-            at: at,
-            next: at as u64 + still as u64 + 1,
-            out: out,
+            shifter,
+            n,
+            mode,
+            amount,
+            at,
+            next: u64::from(at) + u64::from(still) + 1,
+            out,
         }
     }
 
     // At clock e: brought up to it where that is its next change.
+    #[tactic(auto, unfolding(crate::specs::Lag::noise_renewed))]
     pub fn renewed(self, e: u32) -> NoiseLag
         ensures { result ≡ noise_renewed self e }
     {
-        if self.next == e as u64 {
+        if self.next == u64::from(e) {
             let shifter = super::turn(self.shifter, self.n, self.mode);
             return NoiseLag::new(self.n, self.mode, self.amount, shifter, e);
         }
@@ -47,10 +49,10 @@ impl NoiseLag {
     }
 
     // What its timer moves, at clock k.
+    #[tactic(auto, unfolding(crate::specs::Lag::noise_shifter_at))]
     pub fn shifter_at(self, k: u32) -> Shifter
         ensures { result ≡ noise_shifter_at self k }
     {
-        let g = arith::minus_u32(k, self.at);
-        super::advance(self.shifter, self.n, self.mode, g)
+        super::advance(self.shifter, self.n, self.mode, k.saturating_sub(self.at))
     }
 }

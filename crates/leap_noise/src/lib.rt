@@ -20,28 +20,26 @@ fn jump(mode: bool, register: u16, k: u16) -> u16
 }
 
 // The register k outputs on, one by one.
+#[tactic(auto, using(arith::proofs::IterateLaws::iterate_zero, arith::proofs::IterateLaws::iterate_more))]
 fn singles(mode: bool, register: u16, k: u64) -> u16
     ensures { result ≡ iterate (shifted_of mode) k register }
 {
     let mut x = register;
-    let mut i: u64 = 0;
-    while i < k {
+    for _i in 0..k {
         x = chip_noise::shifted(mode, x);
-        i += 1;
     }
     x
 }
 
 // The register 8 q outputs on, block by block.
+#[tactic(auto, using(arith::proofs::IterateLaws::iterate_zero, chip_noise::proofs::ShifterLaws::shifts_most, crate::proofs::RoundLaws::block_more))]
 fn block_by_block(mode: bool, register: u16, q: u64) -> u16
     requires { register ≤ 32767 }
     ensures { result ≡ iterate (shifted_of mode) (8 * q) register }
 {
     let mut x = register;
-    let mut i: u64 = 0;
-    while i < q {
+    for _i in 0..q {
         x = jump(mode, x, 8);
-        i += 1;
     }
     x
 }
@@ -69,6 +67,7 @@ fn shifted_few(mode: bool, register: u16, k: u64) -> u16
 }
 
 // The register 256 outputs on while mode is clear: XOR of the register 1 output on and 4 outputs on.
+#[tactic(auto, using(crate::proofs::RoundLaws::leap_of))]
 fn leap(register: u16) -> u16
     requires { register ≤ 32767 }
     ensures { result ≡ iterate (shifted_of false) 256 register }
@@ -79,15 +78,14 @@ fn leap(register: u16) -> u16
 }
 
 // The register 256 q outputs on while mode is clear.
+#[tactic(auto, using(arith::proofs::IterateLaws::iterate_zero, chip_noise::proofs::ShifterLaws::shifts_most, crate::proofs::RoundLaws::block_more))]
 fn leaps(register: u16, q: u64) -> u16
     requires { register ≤ 32767 }
     ensures { result ≡ iterate (shifted_of false) (256 * q) register }
 {
     let mut x = register;
-    let mut i: u64 = 0;
-    while i < q {
+    for _i in 0..q {
         x = leap(x);
-        i += 1;
     }
     x
 }
@@ -110,51 +108,54 @@ pub fn shifted_by(mode: bool, register: u16, k: u64) -> u16
 fn alike_of(register: u16) -> u16
     ensures { result ≡ alike 14 register }
 {
-    let zeros = u16::trailing_zeros(register / 2 + register % 2);
-    arith::least_u32(zeros, 14) as u16
+    let zeros = (register / 2 + register % 2).trailing_zeros();
+    zeros.min(14) as u16
 }
 
 // What the noise gives, from what it gives while bit 0 is clear (`Noise::amount`).
+#[tactic(auto, unfolding(crate::specs::Leap::shifter_gives))]
 pub fn gives(shifter: Shifter, amount: u8) -> u8
     ensures { result ≡ shifter_gives amount shifter }
 {
-    arith::pick_u8(shifter.register % 2 == 1, 0, amount)
+    if shifter.register % 2 == 1 { 0 } else { amount }
 }
 
 // For how many clocks it surely gives the same.
+#[tactic(auto, unfolding(crate::specs::Leap::noise_still))]
 pub fn still_for(shifter: Shifter, amount: u8, period: u16) -> u32
     ensures { result ≡ noise_still amount period shifter }
 {
-    let timer = arith::less_u16(shifter.timer);
     let turns = alike_of(shifter.register);
     if amount == 0 {
         100000
     } else {
-        timer as u32 + turns as u32 * period as u32
+        u32::from(shifter.timer.saturating_sub(1)) + u32::from(turns) * u32::from(period)
     }
 }
 
 // Its timer and register g clocks on.
+#[tactic(auto, unfolding(crate::specs::Leap::shifter_advanced), using(divider::proofs::DividerLaws::count_after_top))]
 pub fn advance(shifter: Shifter, period: u16, mode: bool, g: u32) -> Shifter
     ensures { result ≡ shifter_advanced period mode g shifter }
 {
-    let k = divider::outputs_in(period as u32, shifter.timer as u32, g);
-    let timer = divider::count_in(period as u64, shifter.timer as u64, g as u64);
+    let k = divider::outputs_in(u32::from(period), u32::from(shifter.timer), g);
+    let timer = divider::count_in(u64::from(period), u64::from(shifter.timer), u64::from(g));
     let register = shifted_by(mode, shifter.register, k);
     Shifter {
         timer: timer as u16,
-        register: register,
+        register,
     }
 }
 
 // Its timer and register at its next change.
+#[tactic(auto, unfolding(crate::specs::Leap::shifter_turned))]
 pub fn turn(shifter: Shifter, period: u16, mode: bool) -> Shifter
     ensures { result ≡ shifter_turned period mode shifter }
 {
     let turns = alike_of(shifter.register);
-    let register = shifted_few(mode, shifter.register, turns as u64 + 1);
+    let register = shifted_few(mode, shifter.register, u64::from(turns) + 1);
     Shifter {
         timer: period,
-        register: register,
+        register,
     }
 }

@@ -91,6 +91,7 @@ fn runs_entry(place: u32) -> u32
     }
 }
 
+#[tactic(auto, unfolding(crate::specs::Packed::runs_at))]
 fn runs_at(row: u32, steps: u32) -> u32
     ensures { result ≡ runs_at row steps }
 {
@@ -101,15 +102,15 @@ fn runs_at(row: u32, steps: u32) -> u32
 fn still_for(amount: u32, n: u32, count: u32, turns: u32) -> u64
     ensures { result ≡ pick (amount == 0) forever (count - 1 + turns * n) }
 {
-    let left = arith::minus_u32(count, 1);
     if amount == 0 {
         100000
     } else {
-        left as u64 + turns as u64 * n as u64
+        u64::from(count.saturating_sub(1)) + u64::from(turns) * u64::from(n)
     }
 }
 
 // What it gives, from its amount and the duty bit. A product, since a test would make jumps of the look-up before it.
+#[tactic(auto, using(crate::proofs::PackedLaws::product))]
 fn gives(amount: u32, bit: u32) -> u32
     requires { bit ≤ 1 }
     ensures { result ≡ pick (bit == 1) amount 0 }
@@ -118,10 +119,11 @@ fn gives(amount: u32, bit: u32) -> u32
 }
 
 // What it gives and the clocks of its next run, as one number.
+#[tactic(auto, unfolding(crate::specs::Lag::run_word))]
 fn run_word(out: u32, span: u32) -> u64
     ensures { result ≡ run_word out span }
 {
-    out as u64 * 4294967296 + span as u64
+    u64::from(out) * 4294967296 + u64::from(span)
 }
 
 // The clocks of two runs, which are the sixteen outputs of a duty's row; with an amount of 0 each lasts for ever. (No timer has a period of 0.)
@@ -133,7 +135,7 @@ fn round_of(n: u32, amount: u32) -> u64
     } else if n == 0 {
         2
     } else {
-        16 * n as u64
+        16 * u64::from(n)
     }
 }
 
@@ -141,19 +143,13 @@ fn round_of(n: u32, amount: u32) -> u64
 fn both_runs(amount: u32, span: u32, round: u64) -> u64
     ensures { result ≡ (run_word amount span + (round + 4294967296 - span) % 4294967296) % 18446744073709551616 }
 {
-    let other = std::num::wrapping_sub_u64(round, span as u64) % 4294967296;
-    let word = run_word(amount, span);
-    std::num::wrapping_add_u64(word, other)
-}
-
-fn pick_u64(test: bool, a: u64, b: u64) -> u64
-    ensures { result ≡ pick test a b }
-{
-    if test { a } else { b }
+    let other = round.wrapping_sub(u64::from(span)) % 4294967296;
+    run_word(amount, span).wrapping_add(other)
 }
 
 impl SquareLag {
     // Kept from the stretch's start on.
+    #[tactic(auto, unfolding(crate::specs::Leap::beat_turned, crate::specs::Lag::square_lag, crate::specs::Lag::square_kept), using(crate::proofs::LagLaws::both_of, crate::proofs::LeapLaws::still_most, crate::proofs::PackedLaws::bit_fits, crate::proofs::PackedLaws::still_by, crate::proofs::PackedLaws::gives_by, crate::proofs::PackedLaws::behind_by, crate::proofs::PackedLaws::span_by))]
     pub fn new(row: u32, amount: u32, beat: Beat) -> SquareLag
         ensures { result ≡ square_lag row amount beat 0 }
     {
@@ -167,29 +163,31 @@ impl SquareLag {
         let both = both_runs(amount, span, round);
         SquareLag {
             next: still + 1,
-            kept: kept,
-            both: both,
+            kept,
+            both,
         }
     }
 
     // What takes the place of `kept` at a change.
+    #[tactic(auto, unfolding(crate::specs::Lag::run_then))]
     fn then(self) -> u64
         ensures { result ≡ run_then self.both self.kept }
     {
-        std::num::wrapping_sub_u64(self.both, self.kept)
+        self.both.wrapping_sub(self.kept)
     }
 
     // At clock e: brought up to it where that is its next change.
+    #[tactic(auto, unfolding(crate::specs::Lag::square_renewed))]
     pub fn renewed(self, e: u32) -> SquareLag
         ensures { result ≡ square_renewed self e }
     {
-        let due = self.next == e as u64;
+        let e = u64::from(e);
+        let due = self.next == e;
+        let next = e + self.kept % 4294967296;
         let then = self.then();
-        let next = pick_u64(due, e as u64 + self.kept % 4294967296, self.next);
-        let kept = pick_u64(due, then, self.kept);
         SquareLag {
-            next: next,
-            kept: kept,
+            next: if due { next } else { self.next },
+            kept: if due { then } else { self.kept },
             both: self.both,
         }
     }

@@ -18,32 +18,36 @@ pub struct Beat {
 }
 
 // A duty as the place at which its row of sixteen begins.
+#[tactic(auto, unfolding(crate::specs::Leap::duty_row))]
 pub fn row_of(duty: u8) -> u32
     ensures { result ≡ duty_row duty }
 {
-    (duty % 4) as u32 * 16
+    u32::from(duty % 4) * 16
 }
 
+#[tactic(auto, unfolding(crate::specs::Leap::steps_of))]
 fn steps_of(q: Sequencer) -> u32
     ensures { result ≡ steps_of q }
 {
-    let half = arith::pick_u8(q.half, 1, 0);
-    2 * q.position as u32 + half as u32
+    let half = if q.half { 1 } else { 0 };
+    2 * u32::from(q.position) + half
 }
 
 // A sequencer in whole numbers.
+#[tactic(auto, unfolding(crate::specs::Leap::beat_of))]
 pub fn beat_of(q: Sequencer) -> Beat
     ensures { result ≡ beat_of q }
 {
     let steps = steps_of(q);
     Beat {
-        n: (q.timer.period % 2048) as u32 + 1,
-        count: q.timer.count as u32,
-        steps: steps,
+        n: u32::from(q.timer.period % 2048) + 1,
+        count: u32::from(q.timer.count),
+        steps,
     }
 }
 
 // A sequencer with count, half flag and position from a beat.
+#[tactic(auto, unfolding(crate::specs::Leap::with_beat))]
 pub fn with_beat(q: Sequencer, b: Beat) -> Sequencer
     ensures { result ≡ with_beat q b }
 {
@@ -60,21 +64,22 @@ pub fn with_beat(q: Sequencer, b: Beat) -> Sequencer
 fn steps_after(steps: u32, k: u64) -> u32
     ensures { result ≡ (steps + k) % 16 }
 {
-    (((steps % 16) as u64 + k % 16) % 16) as u32
+    ((u64::from(steps % 16) + k % 16) % 16) as u32
 }
 
 impl Beat {
     // g clocks on.
+    #[tactic(auto, unfolding(crate::specs::Leap::beat_advanced), using(divider::proofs::DividerLaws::count_after_top))]
     pub fn advance(self, g: u32) -> Beat
         ensures { result ≡ beat_advanced g self }
     {
         let k = divider::outputs_in(self.n, self.count, g);
-        let count = divider::count_in(self.n as u64, self.count as u64, g as u64);
+        let count = divider::count_in(u64::from(self.n), u64::from(self.count), u64::from(g));
         let steps = steps_after(self.steps, k);
         Beat {
             n: self.n,
             count: count as u32,
-            steps: steps,
+            steps,
         }
     }
 }

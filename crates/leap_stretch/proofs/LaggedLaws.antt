@@ -1,5 +1,5 @@
 -- A stretch whose channels lag: what is kept is the machine. Assumes nothing.
-use Rattle.std.proofs.Common.{◌≡◌, ℕ, ◌+◌, ◌-◌, ◌<◌, ◌≤◌, min, Bool, true, false, eqb, List, sym, refl, ap, ◌∙◌, arith}
+use Rattle.std.proofs.Common.{◌≡◌, ℕ, ◌+◌, ◌<◌, ◌≤◌, min, Bool, true, false, eqb, List, sym, refl, ap, ◌∙◌, arith}
 use borrow.Author.Tests.{eqb-false}
 use Rattle.arith.specs.Iterate.{iterate}
 use Rattle.leap_still.specs.Forever.{forever}

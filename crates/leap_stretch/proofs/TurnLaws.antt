@@ -1,5 +1,5 @@
 -- A channel that lags, at an event: for any channel. Assumes nothing.
-use Rattle.std.proofs.Common.{◌≡◌, ℕ, ◌+◌, ◌-◌, ◌<◌, ◌≤◌, sym, ap, ◌∙◌, arith}
+use Rattle.std.proofs.Common.{◌≡◌, ℕ, ◌+◌, ◌<◌, ◌≤◌, sym, ap, ◌∙◌, arith}
 use Rattle.arith.specs.Iterate.{iterate}
 use Rattle.leap_still.specs.Forever.{forever}
 use Rattle.leap_stretch.specs.Lag.{Follows}

@@ -28,7 +28,7 @@ use leap_square::lag::SquareLag;
 use leap_triangle::lag::TriangleLag;
 
 // The channels as a stretch keeps them at clock `now` of it; `soon` is the clock of the next event of squares and triangle, `next` that of the
-// next event of all, `level` the level up to then.
+// next event of all, `level` the level up to then. (The four lags share no trait: each is made and renewed from arguments of its own.)
 #[derive(Clone, Copy)]
 pub struct Lags {
     pub square1: SquareLag,
@@ -43,22 +43,21 @@ pub struct Lags {
 }
 
 // The sum of what the squares give, from the numbers kept of them: one shift, since the clocks in them are too few for a carry.
+#[tactic(auto, unfolding(crate::specs::Lagged::sum_of))]
 fn sum_of(a: u64, b: u64) -> u64
     ensures { result ≡ sum_of a b }
 {
-    std::num::wrapping_add_u64(a, b) / 4294967296
+    a.wrapping_add(b) / 4294967296
 }
 
+#[tactic(auto, unfolding(crate::specs::Lagged::lags_at))]
 fn lags_at(a: SquareLag, b: SquareLag, t: TriangleLag, n: NoiseLag, d: DmcLag, at: u32) -> Lags
     ensures { result ≡ lags_at a b t n d at }
 {
-    let ab = arith::least_u64(a.next, b.next);
-    let soon = arith::least_u64(ab, t.next);
-    let nd = arith::least_u64(n.next, d.next);
-    let next = arith::least_u64(soon, nd);
+    let soon = a.next.min(b.next).min(t.next);
+    let next = soon.min(n.next.min(d.next));
     let sum = sum_of(a.kept, b.kept);
-    let value = t.gives();
-    let level = leap_calm::mix_all(sum, value, n.out as u32, d.out as u32);
+    let level = leap_calm::mix_all(sum, t.gives(), u32::from(n.out), u32::from(d.out));
     Lags {
         square1: a,
         square2: b,
@@ -66,24 +65,25 @@ fn lags_at(a: SquareLag, b: SquareLag, t: TriangleLag, n: NoiseLag, d: DmcLag, a
         noise: n,
         dmc: d,
         now: at,
-        soon: soon,
-        next: next,
-        level: level,
+        soon,
+        next,
+        level,
     }
 }
 
 // The start of a stretch.
+#[tactic(auto, unfolding(crate::specs::Lagged::lags_of))]
 pub fn lags_of(s: State) -> Lags
     ensures { result ≡ lags_of s }
 {
     let row1 = leap_square::row_of(s.square1.duty);
     let amount1 = s.square1.amount(false);
     let beat1 = leap_square::beat_of(s.square1.sequencer);
-    let a = SquareLag::new(row1, amount1 as u32, beat1);
+    let a = SquareLag::new(row1, u32::from(amount1), beat1);
     let row2 = leap_square::row_of(s.square2.duty);
     let amount2 = s.square2.amount(true);
     let beat2 = leap_square::beat_of(s.square2.sequencer);
-    let b = SquareLag::new(row2, amount2 as u32, beat2);
+    let b = SquareLag::new(row2, u32::from(amount2), beat2);
     let on = leap_triangle::gate(s.triangle);
     let beat3 = leap_triangle::beat_of(s.triangle.sequencer);
     let t = TriangleLag::new(on, beat3);
@@ -96,12 +96,13 @@ pub fn lags_of(s: State) -> Lags
 }
 
 // The event at clock e: whoever is due is brought up to it. Squares and triangle are looked at only where one of them is.
+#[tactic(auto, unfolding(crate::specs::Lagged::renewed, crate::specs::Lagged::renewed_with))]
 pub fn renew(l: Lags, memory: &[u8], e: u32) -> Lags
     ensures { result ≡ renewed memory.now l e }
 {
     let n = l.noise.renewed(e);
     let d = l.dmc.renewed(memory, e);
-    if l.soon == e as u64 {
+    if l.soon == u64::from(e) {
         let a = l.square1.renewed(e);
         let b = l.square2.renewed(e);
         let t = l.triangle.renewed(e);
@@ -110,12 +111,13 @@ pub fn renew(l: Lags, memory: &[u8], e: u32) -> Lags
     lags_at(l.square1, l.square2, l.triangle, n, d, e)
 }
 
-// The same with the DMC left as it is, for an event at which it isn't due.
+// The same with the DMC left as it is, for an event at which it isn't due. Written out: a body that two loops share isn't inlined into either.
+#[tactic(auto, unfolding(crate::specs::Lagged::sounds_renewed, crate::specs::Lagged::renewed_with))]
 pub fn renew_sounds(l: Lags, e: u32) -> Lags
     ensures { result ≡ sounds_renewed l e }
 {
     let n = l.noise.renewed(e);
-    if l.soon == e as u64 {
+    if l.soon == u64::from(e) {
         let a = l.square1.renewed(e);
         let b = l.square2.renewed(e);
         let t = l.triangle.renewed(e);
@@ -141,26 +143,25 @@ pub struct Voices {
     pub next: u64,
 }
 
+#[tactic(auto, unfolding(crate::specs::Voices::squares_at))]
 fn squares_at(a: SquareLag, b: SquareLag) -> Squares
     ensures { result ≡ squares_at a b }
 {
-    let next = arith::least_u64(a.next, b.next);
     Squares {
         first: a,
         second: b,
-        next: next,
+        next: a.next.min(b.next),
     }
 }
 
 // Squares and triangle out of the channels.
+#[tactic(auto, unfolding(crate::specs::Voices::voices_of))]
 pub fn voices_of(l: Lags) -> Voices
     ensures { result ≡ voices_of l }
 {
-    let q = squares_at(l.square1, l.square2);
-    let t = l.triangle;
     Voices {
-        squares: q,
-        triangle: t,
+        squares: squares_at(l.square1, l.square2),
+        triangle: l.triangle,
         now: l.now,
         next: l.soon,
     }
@@ -175,16 +176,15 @@ pub struct Others {
 }
 
 // Noise and DMC in the level.
+#[tactic(auto, unfolding(crate::specs::Voices::others_of))]
 pub fn others_of(l: Lags) -> Others
     ensures { result ≡ others_of l }
 {
-    let n = l.noise;
-    let d = l.dmc;
-    let weight = chip_mixer::others_weight(n.out as u32, d.out as u32);
+    let noise = u32::from(l.noise.out);
     Others {
-        weight: weight,
-        noise: n.out as u32,
-        calm: d.out == 0,
+        weight: chip_mixer::others_weight(noise, u32::from(l.dmc.out)),
+        noise,
+        calm: l.dmc.out == 0,
     }
 }
 
@@ -229,6 +229,7 @@ fn weight_entry(p: u32) -> u32
     }
 }
 
+#[tactic(auto, using(crate::proofs::VoicesLaws::weight_is))]
 fn weight_at(position: u32) -> u32
     ensures { result ≡ triangle_weight (triangle_at position) }
 {
@@ -247,6 +248,7 @@ fn level_of(sum: u64, position: u32, others: Others) -> u16
 }
 
 impl Squares {
+    #[tactic(auto, unfolding(crate::specs::Voices::squares_turned))]
     fn turned(self, e: u32) -> Squares
         ensures { result ≡ squares_turned self e }
     {
@@ -256,11 +258,11 @@ impl Squares {
     }
 
     // Looked at where `each`, else only where one of them is due.
+    #[tactic(auto, unfolding(crate::specs::Voices::squares_after))]
     fn renewed(self, each: bool, e: u32) -> Squares
         ensures { result ≡ squares_after self each e }
     {
-        let due = arith::either_of(each, self.next == e as u64);
-        if due {
+        if each || self.next == u64::from(e) {
             return self.turned(e);
         }
         self
@@ -269,21 +271,22 @@ impl Squares {
 
 impl Voices {
     // The event at clock e. To look at squares that aren't due is cheaper than a wrong guess, but dear where the triangle changes at nearly each clock.
+    #[tactic(auto, unfolding(crate::specs::Voices::voices_after, crate::specs::Voices::voices_to))]
     pub fn renewed(self, each: bool, e: u32) -> Voices
         ensures { result ≡ voices_after self each e }
     {
-        let q = self.squares.renewed(each, e);
-        let t = self.triangle.renewed(e);
-        let next = arith::least_u64(q.next, t.next);
+        let squares = self.squares.renewed(each, e);
+        let triangle = self.triangle.renewed(e);
         Voices {
-            squares: q,
-            triangle: t,
+            squares,
+            triangle,
             now: e,
-            next: next,
+            next: squares.next.min(triangle.next),
         }
     }
 
     // The level, with noise and DMC.
+    #[tactic(auto, unfolding(crate::specs::Voices::level_by, crate::specs::Voices::voices_level))]
     pub fn level(self, others: Others) -> u16
         ensures { result ≡ level_by self others }
     {
@@ -293,29 +296,23 @@ impl Voices {
 }
 
 // The channels with squares and triangle as they are after events of theirs alone.
+#[tactic(auto, unfolding(crate::specs::Voices::lags_with))]
 pub fn lags_with(l: Lags, v: Voices, level: u16) -> Lags
     ensures { result ≡ lags_with l v level }
 {
-    let slow = arith::least_u64(l.noise.next, l.dmc.next);
-    let next = arith::least_u64(v.next, slow);
-    let a = v.squares.first;
-    let b = v.squares.second;
-    let t = v.triangle;
-    let n = l.noise;
-    let d = l.dmc;
     Lags {
-        square1: a,
-        square2: b,
-        triangle: t,
-        noise: n,
-        dmc: d,
+        square1: v.squares.first,
+        square2: v.squares.second,
+        triangle: v.triangle,
         now: v.now,
         soon: v.next,
-        next: next,
-        level: level,
+        next: v.next.min(l.noise.next.min(l.dmc.next)),
+        level,
+        ..l
     }
 }
 
+#[tactic(auto, unfolding(leap_law::specs::Between::state_with))]
 fn state_with(
     q1: chip_square::Sequencer,
     q2: chip_square::Sequencer,
@@ -327,26 +324,18 @@ fn state_with(
 ) -> State
     ensures { result ≡ state_with q1 q2 tq h d f s }
 {
-    let mut square1 = s.square1;
-    square1.sequencer = q1;
-    let mut square2 = s.square2;
-    square2.sequencer = q2;
-    let mut triangle = s.triangle;
-    triangle.sequencer = tq;
-    let mut noise = s.noise;
-    noise.shifter = h;
-    State {
-        square1: square1,
-        square2: square2,
-        triangle: triangle,
-        noise: noise,
-        dmc: d,
-        frame: f,
-        pal: s.pal,
-    }
+    let mut state = s;
+    state.square1.sequencer = q1;
+    state.square2.sequencer = q2;
+    state.triangle.sequencer = tq;
+    state.noise.shifter = h;
+    state.dmc = d;
+    state.frame = f;
+    state
 }
 
 // The whole state at clock k of a stretch that began in s.
+#[tactic(auto, unfolding(crate::specs::Lagged::stretch_state))]
 pub fn state_at(s: State, l: Lags, k: u32) -> State
     ensures { result ≡ stretch_state s l k }
 {

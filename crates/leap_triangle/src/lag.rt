@@ -16,6 +16,7 @@ pub struct TriangleLag {
 
 impl TriangleLag {
     // Kept from the stretch's start on; `on` is 1 where its counters let it advance, else 0.
+    #[tactic(auto, unfolding(crate::specs::Lag::triangle_lag))]
     pub fn new(on: u32, beat: Beat) -> TriangleLag
         ensures { result ≡ triangle_lag on beat 0 }
     {
@@ -23,21 +24,22 @@ impl TriangleLag {
         let turned = beat.turn();
         let after = turned.still_for(on);
         TriangleLag {
-            next: still as u64 + 1,
+            next: u64::from(still) + 1,
             position: beat.position,
             still: after,
         }
     }
 
     // At clock e: brought up to it where that is its next change.
+    #[tactic(auto, unfolding(crate::specs::Lag::triangle_renewed))]
     pub fn renewed(self, e: u32) -> TriangleLag
         ensures { result ≡ triangle_renewed self e }
     {
         let position = super::position_on(self.position, 1);
-        if self.next == e as u64 {
+        if self.next == u64::from(e) {
             return TriangleLag {
-                next: e as u64 + self.still as u64 + 1,
-                position: position,
+                next: u64::from(e) + u64::from(self.still) + 1,
+                position,
                 still: self.still,
             };
         }

@@ -19,6 +19,7 @@ pub struct Beat {
 }
 
 // 1 where its two counters let it advance, else 0.
+#[tactic(auto, unfolding(crate::specs::Leap::triangle_gate))]
 pub fn gate(t: Triangle) -> u32
     ensures { result ≡ triangle_gate t }
 {
@@ -26,17 +27,19 @@ pub fn gate(t: Triangle) -> u32
 }
 
 // A sequencer in whole numbers.
+#[tactic(auto, unfolding(crate::specs::Leap::triangle_beat_of))]
 pub fn beat_of(q: Sequencer) -> Beat
     ensures { result ≡ triangle_beat_of q }
 {
     Beat {
-        n: (q.timer.period % 2048) as u32 + 1,
-        count: q.timer.count as u32,
-        position: q.position as u32,
+        n: u32::from(q.timer.period % 2048) + 1,
+        count: u32::from(q.timer.count),
+        position: u32::from(q.position),
     }
 }
 
 // A sequencer with count and position from a beat.
+#[tactic(auto, unfolding(crate::specs::Leap::triangle_with_beat))]
 pub fn with_beat(q: Sequencer, b: Beat) -> Sequencer
     ensures { result ≡ triangle_with_beat q b }
 {
@@ -49,6 +52,7 @@ pub fn with_beat(q: Sequencer, b: Beat) -> Sequencer
 }
 
 // What a position gives.
+#[tactic(auto, unfolding(chip_triangle::specs::Triangle::triangle_at))]
 pub(crate) fn value_after(position: u32) -> u32
     ensures { result ≡ triangle_at position }
 {
@@ -59,10 +63,11 @@ pub(crate) fn value_after(position: u32) -> u32
 pub(crate) fn position_on(position: u32, k: u64) -> u32
     ensures { result ≡ (position + k) % 32 }
 {
-    (((position % 32) as u64 + k % 32) % 32) as u32
+    ((u64::from(position % 32) + k % 32) % 32) as u32
 }
 
 // The position k outputs on: it holds where on is 0.
+#[tactic(auto, unfolding(crate::specs::Leap::position_after))]
 fn position_after(on: u32, k: u64, position: u32) -> u32
     ensures { result ≡ position_after on k position }
 {
@@ -74,6 +79,7 @@ fn position_after(on: u32, k: u64, position: u32) -> u32
 
 impl Beat {
     // What the triangle gives.
+    #[tactic(auto, unfolding(crate::specs::Leap::triangle_gives))]
     pub fn gives(self) -> u32
         ensures { result ≡ triangle_gives self }
     {
@@ -81,28 +87,34 @@ impl Beat {
     }
 
     // For how many clocks it surely gives the same.
+    #[tactic(auto, unfolding(crate::specs::Leap::triangle_still))]
     pub fn still_for(self, on: u32) -> u32
         ensures { result ≡ triangle_still on self }
     {
-        let count = arith::minus_u32(self.count, 1);
-        if on == 0 { 100000 } else { count }
+        if on == 0 {
+            100000
+        } else {
+            self.count.saturating_sub(1)
+        }
     }
 
     // g clocks on.
+    #[tactic(auto, unfolding(crate::specs::Leap::triangle_beat_advanced), using(divider::proofs::DividerLaws::count_after_top))]
     pub fn advance(self, on: u32, g: u32) -> Beat
         ensures { result ≡ triangle_beat_advanced on g self }
     {
         let k = divider::outputs_in(self.n, self.count, g);
-        let count = divider::count_in(self.n as u64, self.count as u64, g as u64);
+        let count = divider::count_in(u64::from(self.n), u64::from(self.count), u64::from(g));
         let position = position_after(on, k, self.position);
         Beat {
             n: self.n,
             count: count as u32,
-            position: position,
+            position,
         }
     }
 
     // At its next change.
+    #[tactic(auto, unfolding(crate::specs::Leap::triangle_beat_turned))]
     pub fn turn(self) -> Beat
         ensures { result ≡ triangle_beat_turned self }
     {
@@ -110,7 +122,7 @@ impl Beat {
         Beat {
             n: self.n,
             count: self.n,
-            position: position,
+            position,
         }
     }
 }

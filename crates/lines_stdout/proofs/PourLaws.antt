@@ -1,5 +1,5 @@
 -- A TEXT THAT IS WRITTEN IN PIECES BY WAY OF A BUFFER: what stands when, and what each way out comes to. Assumes nothing.
-use Prim.Native.Nat.{ℕ, ◌+◌, ◌-◌, ◌≤◌}
+use Prim.Native.Nat.{ℕ, ◌+◌, ◌≤◌}
 use native.Mathlib.Omega.{arith}
 use mathlib.Core.Path.{◌≡◌, refl, sym, ap, subst, ◌∙◌}
 use mathlib.Core.Bool.{Bool, true, false, false≢true}
@@ -7,7 +7,7 @@ use mathlib.Core.List.{List, [], ◌++◌, append_assoc, append-nil}
 use lib.ListN.{length, take, drop, length-append}
 use lib.Seq.{sets, length-sets, sets-eq, take_at, length-take-le}
 use lib.Dec.{leb}
-use borrow.Author.Tests.{leb-true, leb-false, le-leb, lt-leb}
+use borrow.Author.Tests.{leb-true, leb-false}
 use Rattle.text_print.specs.Printed.{printed, placed, Put}
 use Rattle.text_print.proofs.StoreLaws.{placed_in, printed_in}
 use Rattle.program_io.specs.Writes.{Writes, FrontWrites}
@@ -103,14 +103,7 @@ written out after text n all size e f w =
     let inside : n ≤ length after = rw (is, length-sets) (omega arith) in
     rw (ap (take n) (is ∙ sets-eq text out 0 fits) ∙ take_at text (drop (0 + length text) out) n (sym long)) at (w.front inside)
 
--- the test for room, and what follows from either side
-pub room_test : (at room n : ℕ) → room ≤ n → leb at (n - room) ≡ leb (at + room) n
-room_test at room n h = by (leb (at + room) n) refl
-  where
-    by : (b : Bool) → leb (at + room) n ≡ b → leb at (n - room) ≡ leb (at + room) n
-    by true e = let l = leb-true (at + room) n e in le-leb at (n - room) (omega arith) ∙ sym e
-    by false e = let l = leb-false (at + room) n e in lt-leb at (n - room) (omega arith) ∙ sym e
-
+-- what follows from either side of the test for room
 module _ (out : List ℕ) (at room : ℕ) where
   pub stays_there : leb (at + room) (length out) ≡ true → Pours out at room at true
   stays_there e = record { stays = λ h. (refl, refl); sends = λ h. let l = leb-true (at + room) (length out) e in absurd (omega arith) }

@@ -1,7 +1,7 @@
 // Lines written to standard output in pieces: those that stand in a buffer, written once it has no room for more; the line of a refusal.
 #![tactic(auto)]
 
-ghost use Rattle.std.specs.Prelude.{◌≡◌, ◌+◌, leb};
+ghost use Rattle.std.specs.Prelude.{◌≡◌};
 ghost use Rattle.text_lines.specs.Lines.{refused_line};
 ghost use Rattle.program_io.specs.Writes.{Writes};
 ghost use Rattle.lines_stdout.specs.Pours.{Pours};
@@ -13,22 +13,11 @@ pub struct Place {
     pub written: bool,
 }
 
-// Whether so many bytes have room behind a place.
-fn has_room(length: usize, at: usize, room: usize) -> bool
-    ensures { result ≡ leb (at + room) length }
-{
-    if room <= length {
-        at <= length - room
-    } else {
-        false
-    }
-}
-
 // Writes the first `at` bytes of a buffer once there is no room for so many bytes behind them. What bytes a write sends no contract can say.
 pub fn pour(rt: &HostRuntime, out: &[u8], at: usize, room: usize) -> Place
     ensures { Pours out.now at room result.at result.written }
 {
-    if has_room(out.len(), at, room) {
+    if text_print::fits(out.len(), at, room) {
         return Place { at, written: true };
     }
     let written = program_io::write_front(&mut rt.stdout(), out, at);

@@ -1,9 +1,10 @@
 -- Whole lines of right form: what they are read as, and that only they are read as something. Assumes nothing.
+use Rattle.std.specs.Prelude.{Option, Some, None}
 use mathlib.Core.Path.{◌≡◌, refl, ap, ap₂, sym, ◌∙◌, subst}
 use mathlib.Core.List.{List, [], ◌∷◌, ◌++◌, append-nil}
 use mathlib.Core.Bool.{Bool, true, false, false≢true}
 use mathlib.Core.Logic.{inl, inr}
-use Prim.Native.Nat.{ℕ, suc, ◌+◌, ◌-◌, ◌%◌, ◌≤◌}
+use Prim.Native.Nat.{ℕ, suc, ◌-◌, ◌%◌, ◌≤◌}
 use native.Mathlib.Omega.{arith}
 use borrow.Author.Tests.{leb-true, eqb-true, eqb-false}
 use lib.ListN.{length, get_or, take, drop, length-append, drop_of_length-le}
@@ -17,8 +18,6 @@ use Rattle.text.specs.Ascii.{bytes}
 use Rattle.text.specs.Key.{starts_with, exactly}
 use Rattle.text.specs.Decimal.{digit}
 use Rattle.text.specs.Hex.{hex_digit, hex, hex_byte, hex_text}
-use Rattle.text.specs.declared.Number.{Number}
-use Rattle.text.specs.declared.Number.TheVariants.{Is, None}
 use Rattle.text.proofs.HexLaws.{hex_complete, hex_sound}
 use Rattle.text.proofs.KeyLaws.{starts_split}
 use Rattle.log_line.specs.declared.Act.TheVariants.{Wait, Access}
@@ -48,7 +47,7 @@ body_said : (r v : ℕ) → unfed_line (act_text (Access (Write r v))) ≡ writt
 unfolding unfed_line exactly starts_with act_text
 body_said r v = fields_said r v
 
-write_said : (r v : ℕ) → r ≤ 0xffff → v ≤ 255 → line_of (line_text (One (Access (Write r v)))) ≡ written (Is r) (Is v)
+write_said : (r v : ℕ) → r ≤ 0xffff → v ≤ 255 → line_of (line_text (One (Access (Write r v)))) ≡ written (Some r) (Some v)
 unfolding line_text
 write_said r v h l = ended_said _ ∙ (body_said r v ∙ ap₂ written (hex_complete 4 r (omega arith)) (hex_complete 2 v (omega arith)))
 
@@ -144,17 +143,17 @@ module _ (s : List ℕ) where
   abbrev Four : Line → Type 0
   Four l = l ≡ NoRegister → WriteOf s
 
-  counted_four : (f : ℕ → Line) → ((n : ℕ) → f n ≡ NoRegister → ⊥) → (d : Number) → Four (counted f d)
+  counted_four : (f : ℕ → Line) → ((n : ℕ) → f n ≡ NoRegister → ⊥) → (d : Option ℕ) → Four (counted f d)
   unfolding counted
-  counted_four f h (Is n) e = absurd (h n e)
+  counted_four f h (Some n) e = absurd (h n e)
   counted_four f h None e = absurd (let z : ◌≡◌ {A = ℕ} 0 4 = cc in omega arith)
 
   written_four : (v : List ℕ) → length v ≡ 7 → get_or v 4 0 ≡ 58 → s ≡ ended (bytes "write=" ++ v)
-      → (a b : Number) → hex 4 (take 4 v) ≡ a → hex 2 (drop 5 v) ≡ b → Four (written a b)
+      → (a b : Option ℕ) → hex 4 (take 4 v) ≡ a → hex 2 (drop 5 v) ≡ b → Four (written a b)
   unfolding written line_text act_text
   written_four v h c q None b e f z = absurd (let z : ◌≡◌ {A = ℕ} 0 4 = cc in omega arith)
-  written_four v h c q (Is r) None e f z = absurd (let z : ◌≡◌ {A = ℕ} 0 4 = cc in omega arith)
-  written_four v h c q (Is r) (Is n) e f z =
+  written_four v h c q (Some r) None e f z = absurd (let z : ◌≡◌ {A = ℕ} 0 4 = cc in omega arith)
+  written_four v h c q (Some r) (Some n) e f z =
       let x = hex_sound 4 (take 4 v) r e in
       let y = hex_sound 2 (drop 5 v) n f in
       let a = x.fits in

@@ -1,4 +1,5 @@
 -- The form of a write is that of its texts, with any register of four hex digits. Assumes nothing.
+use Rattle.std.specs.Prelude.{Some}
 use mathlib.Core.Path.{◌≡◌, refl, ap₂, sym, ◌∙◌, subst}
 use mathlib.Core.List.{List, [], ◌∷◌, ◌++◌}
 use mathlib.Core.Bool.{Bool, true, false}
@@ -7,7 +8,6 @@ use native.Mathlib.Omega.{arith}
 use borrow.Author.Tests.{eqb-true}
 use Rattle.text.specs.Ascii.{bytes}
 use Rattle.text.specs.Hex.{hex_digit, hex_value, hex_digits, hex, hex_byte, hex_text}
-use Rattle.text.specs.declared.Number.TheVariants.{Is}
 use Rattle.text.proofs.HexLaws.{hex_sound, hex_complete}
 use Rattle.bus.specs.declared.Access.TheVariants.{Write}
 use Rattle.log_line.specs.declared.Act.TheVariants.{Access}
@@ -20,18 +20,18 @@ pub digit_of : (x : ℕ) → hex_digit (hex_byte (x % 16)) ≡ true
 unfolding hex hex_text hex_digits
 digit_of x = go (hex_digit (hex_byte (x % 16))) refl (hex_complete 1 (x % 16) (omega arith))
   where
-    go : (b : Bool) → hex_digit (hex_byte (x % 16)) ≡ b → hex 1 (hex_text 1 (x % 16)) ≡ Is (x % 16) → b ≡ true
+    go : (b : Bool) → hex_digit (hex_byte (x % 16)) ≡ b → hex 1 (hex_text 1 (x % 16)) ≡ Some (x % 16) → b ≡ true
     go true q e = refl
     go false q e =
         let m : x % 16 % 16 ≡ x % 16 = omega arith in
         absurd (let z : ◌≡◌ {A = ℕ} 0 1 = cc (rw (m, q) at e) in omega arith)
 
 four : (a b c d : ℕ) → hex_digit a ≡ true → hex_digit b ≡ true → hex_digit c ≡ true → hex_digit d ≡ true
-    → hex 4 (a ∷ b ∷ c ∷ d ∷ []) ≡ Is ((((0 * 16 + hex_value a) * 16 + hex_value b) * 16 + hex_value c) * 16 + hex_value d)
+    → hex 4 (a ∷ b ∷ c ∷ d ∷ []) ≡ Some ((((0 * 16 + hex_value a) * 16 + hex_value b) * 16 + hex_value c) * 16 + hex_value d)
 unfolding hex hex_digits
 four a b c d p q r s = rw (p, q, r, s)
 
-two : (a b : ℕ) → hex_digit a ≡ true → hex_digit b ≡ true → hex 2 (a ∷ b ∷ []) ≡ Is ((0 * 16 + hex_value a) * 16 + hex_value b)
+two : (a b : ℕ) → hex_digit a ≡ true → hex_digit b ≡ true → hex 2 (a ∷ b ∷ []) ≡ Some ((0 * 16 + hex_value a) * 16 + hex_value b)
 unfolding hex hex_digits
 two a b p q = rw (p, q)
 

@@ -1,11 +1,9 @@
 -- A line's key and value: whether `=` stands in it, and whether all behind a key that takes a decimal is one.
-use Rattle.std.specs.Prelude.{ℕ, ◌-◌, List, [], ◌∷◌, Bool, true, false, length, get_or, take, drop, eqb}
+use Rattle.std.specs.Prelude.{ℕ, ◌-◌, List, [], ◌∷◌, Bool, true, false, length, get_or, take, drop, eqb, Option, Some, None}
 use Rattle.arith.specs.Pick.{pick, both, either}
 use Rattle.text.specs.Ascii.{bytes}
 use Rattle.text.specs.Key.{starts_with}
 use Rattle.text.specs.Decimal.{decimal}
-use Rattle.text.specs.declared.Number.{Number}
-use Rattle.text.specs.declared.Number.TheVariants.{Is, None}
 
 -- `=` (61) stands in s
 unfoldable pub keyed : List ℕ → Bool
@@ -17,8 +15,8 @@ unfoldable pub unfed : List ℕ → List ℕ
 unfed s = pick (eqb (get_or s (length s - 1) 0) 10) (take (length s - 1) s) s
 
 -- "a decimal of right shape"
-unfoldable pub said : Number → Bool
-said (Is n) = true
+unfoldable pub said : Option ℕ → Bool
+said (Some n) = true
 said None = false
 
 -- all behind a key that takes a decimal is one: from its first digit, at 5, to the line feed or the log's end

@@ -4,6 +4,7 @@
 -- the log is what stands before, the loop line, the body, its `done` and a rest.
 -- Main statements: `here`, the check of a body answers 0 only at such a loop line; `body_part`, what the code finds there is the body; `body_none`,
 -- refused, the body is empty; `body_between`, the body stands in the log between its loop line and its `done`, and is the text of a tree.
+use Rattle.std.specs.Prelude.{Result, Ok, Err}
 use mathlib.Core.Path.{◌≡◌, refl, ap, sym, ◌∙◌}
 use mathlib.Core.List.{List, [], ◌∷◌, ◌++◌}
 use mathlib.Core.Bool.{Bool, true, false}
@@ -13,15 +14,12 @@ use borrow.Author.Tests.{eq-eqb, ne_eqb, ltb-true, ltb-false, eqb-true, eqb-fals
 use lib.ListN.{length, get_or, take, drop, length-append, take-append-drop}
 use lib.Seq.{get_or-drop, take_at}
 use lib.Dec.{eqb, ltb}
-use types.Run.{OneOf, miss}
-use denote.Enum.Declared.{tag_of}
+use Rattle.refusal.specs.declared.Refusal.{Refusal}
 use Rattle.arith.specs.Pick.{pick, both}
 use Rattle.arith.proofs.PickLaws.{both_left, both_right}
 use Rattle.log_line.specs.declared.Line.{Line}
 use Rattle.log_line.specs.declared.Line.TheVariants.{Header, Machine, One, Loop, Done, Stop, NoForm, NoRegister}
 use Rattle.log_line.specs.Printed.{line_text}
-use Rattle.log_rules.specs.declared.Reading.{Reading}
-use Rattle.log_rules.specs.declared.Reading.TheVariants.{Item, Refused}
 use Rattle.log_rules.specs.declared.Block.{Block}
 use Rattle.log_rules.specs.declared.Totals.{Totals}
 use Rattle.log_rules.specs.declared.Block.TheVariants.{Closed}
@@ -93,12 +91,21 @@ abbrev end_of : Ending → ℕ
 end_of (closes p q) = q
 end_of (stops p q n) = q
 
-module _ (log : List ℕ) (o n next : ℕ) (b : begins_line log o ≡ true) (e : read_at log o ≡ Item (Loop n) next) where
-  differs : (at : ℕ) (l : Line) (p : ℕ) → read_at log at ≡ Item l p → o ≡ at → is_loop l ≡ false → ⊥
+-- the line of an item that was read, and the place behind it
+abbrev line_in : Result (Line × ℕ) Refusal → Line
+line_in (Ok (l, p)) = l
+line_in (Err e) = Header
+
+abbrev behind_in : Result (Line × ℕ) Refusal → ℕ
+behind_in (Ok (l, p)) = p
+behind_in (Err e) = 0
+
+module _ (log : List ℕ) (o n next : ℕ) (b : begins_line log o ≡ true) (e : read_at log o ≡ Ok (Loop n, next)) where
+  differs : (at : ℕ) (l : Line) (p : ℕ) → read_at log at ≡ Ok (l, p) → o ≡ at → is_loop l ≡ false → ⊥
   unfolding is_loop
   differs at l p f q h =
-      let g : Item l p ≡ Item (Loop n) next = sym f ∙ (ap (read_at log) (sym q) ∙ e) in
-      let k : l ≡ Loop n = cc in
+      let g = sym f ∙ (ap (read_at log) (sym q) ∙ e) in
+      let k : l ≡ Loop n = ap line_in g in
       let m = rw k at h in
       let z : ◌≡◌ {A = ℕ} 0 1 = cc in
       omega arith
@@ -116,8 +123,8 @@ module _ (log : List ℕ) (o n next : ℕ) (b : begins_line log o ≡ true) (e :
     where
       here : o ≡ at → Inside log next
       here q =
-          let f : Item (Loop m) p ≡ Item (Loop n) next = sym l ∙ (ap (read_at log) (sym q) ∙ e) in
-          let f' : p ≡ next = cc in
+          let f = sym l ∙ (ap (read_at log) (sym q) ∙ e) in
+          let f' : p ≡ next = ap behind_in f in
           record { depth = d; tree = body; place = c; behind = s; reads = rw (← f') r }
 
       split : p ≤ o → (x : Bool) → ltb o s ≡ x → (p ≤ o → o < s → Inside log next) → (s ≤ o → Inside log next) → Inside log next
@@ -145,7 +152,7 @@ module _ (log : List ℕ) (o n next : ℕ) (b : begins_line log o ≡ true) (e :
       behind_head : start_of log ≤ o → Inside log next
       behind_head q = let h = (had_at log o (Loop n) next e).inside in let l = p.last in inside_of_lem p.reads q (omega arith)
 
-      second : read_at log 6 ≡ Item Machine (start_of log) → Apart o 6 (start_of log) → Inside log next
+      second : read_at log 6 ≡ Ok (Machine, start_of log) → Apart o 6 (start_of log) → Inside log next
       second r (same q) = absurd (differs 6 Machine (start_of log) r q refl)
       second r (past q) = behind_head q
 
@@ -192,7 +199,7 @@ pub record Body (log : List ℕ) (from : ℕ) : Type 0 where
   pub ordered : (from ≤ place) × (place ≤ length log)
   pub is : between log from ≡ take (place - from) (drop from log)
 
-body_at : (log : List ℕ) (o n next : ℕ) → (check_of log).number ≡ 0 → begins_line log o ≡ true → read_at log o ≡ Item (Loop n) next → Body log next
+body_at : (log : List ℕ) (o n next : ℕ) → (check_of log).number ≡ 0 → begins_line log o ≡ true → read_at log o ≡ Ok (Loop n, next) → Body log next
 unfolding between
 body_at log o n next h b e =
     let i = inside_log log o n next b e (passing log (clear log h)) in
@@ -208,19 +215,19 @@ pub record Here (log : List ℕ) (o : ℕ) : Type 0 where
   pub begins : begins_line log o ≡ true
   pub turns : ℕ
   pub from : ℕ
-  pub read : read_at log o ≡ Item (Loop turns) from
+  pub read : read_at log o ≡ Ok (Loop turns, from)
 
-here_by : (log : List ℕ) (o : ℕ) (r : Reading) → read_at log o ≡ r → (check_of log).number ≡ 0 → begins_line log o ≡ true → reads_loop r ≡ true → Here log o
+here_by : (log : List ℕ) (o : ℕ) (r : Result (Line × ℕ) Refusal) → read_at log o ≡ r → (check_of log).number ≡ 0 → begins_line log o ≡ true → reads_loop r ≡ true → Here log o
 unfolding reads_loop is_loop
-here_by log o (Item (Loop n) p) e h b k = record { passes = h; begins = b; turns = n; from = p; read = e }
-here_by log o (Item Header p) e h b k = absurd (let z : ◌≡◌ {A = ℕ} 0 1 = cc in omega arith)
-here_by log o (Item Machine p) e h b k = absurd (let z : ◌≡◌ {A = ℕ} 0 1 = cc in omega arith)
-here_by log o (Item (One a) p) e h b k = absurd (let z : ◌≡◌ {A = ℕ} 0 1 = cc in omega arith)
-here_by log o (Item Done p) e h b k = absurd (let z : ◌≡◌ {A = ℕ} 0 1 = cc in omega arith)
-here_by log o (Item (Stop n) p) e h b k = absurd (let z : ◌≡◌ {A = ℕ} 0 1 = cc in omega arith)
-here_by log o (Item NoForm p) e h b k = absurd (let z : ◌≡◌ {A = ℕ} 0 1 = cc in omega arith)
-here_by log o (Item NoRegister p) e h b k = absurd (let z : ◌≡◌ {A = ℕ} 0 1 = cc in omega arith)
-here_by log o (Refused m p) e h b k = absurd (let z : ◌≡◌ {A = ℕ} 0 1 = cc in omega arith)
+here_by log o (Ok (Loop n, p)) e h b k = record { passes = h; begins = b; turns = n; from = p; read = e }
+here_by log o (Ok (Header, p)) e h b k = absurd (let z : ◌≡◌ {A = ℕ} 0 1 = cc in omega arith)
+here_by log o (Ok (Machine, p)) e h b k = absurd (let z : ◌≡◌ {A = ℕ} 0 1 = cc in omega arith)
+here_by log o (Ok (One a, p)) e h b k = absurd (let z : ◌≡◌ {A = ℕ} 0 1 = cc in omega arith)
+here_by log o (Ok (Done, p)) e h b k = absurd (let z : ◌≡◌ {A = ℕ} 0 1 = cc in omega arith)
+here_by log o (Ok (Stop n, p)) e h b k = absurd (let z : ◌≡◌ {A = ℕ} 0 1 = cc in omega arith)
+here_by log o (Ok (NoForm, p)) e h b k = absurd (let z : ◌≡◌ {A = ℕ} 0 1 = cc in omega arith)
+here_by log o (Ok (NoRegister, p)) e h b k = absurd (let z : ◌≡◌ {A = ℕ} 0 1 = cc in omega arith)
+here_by log o (Err why) e h b k = absurd (let z : ◌≡◌ {A = ℕ} 0 1 = cc in omega arith)
 
 here_loop : (log : List ℕ) (o : ℕ) → (check_of log).number ≡ 0 → begins_loop log o ≡ true → Here log o
 unfolding begins_loop
@@ -238,7 +245,7 @@ here log o h = go (eqb (check_of log).number 0) refl (begins_loop log o) refl
 
 -- WHAT THE CODE FINDS THERE
 
-closed_inj : {p q p' q' : ℕ} {t t' : Totals} → Closed p q t ≡ Closed p' q' t' → p ≡ p'
+closed_inj : {p q p' q' : ℕ} {t t' : Totals} → ◌≡◌ {A = Result Block Refusal} (Ok (Closed p q t)) (Ok (Closed p' q' t')) → p ≡ p'
 closed_inj e = cc
 
 body_here : {log : List ℕ} {o : ℕ} (h : Here log o) → Body log h.from
@@ -249,24 +256,31 @@ unfolding body_of
 body_none log o h = rw (ne_eqb (body_check_of log o).number 0 h)
 
 module _ (log : List ℕ) (o : ℕ) (h : (body_check_of log o).number ≡ 0) where
-  pub body_unread : (k p : ℕ) → read_at log o ≡ Refused k p → ⊥
-  body_unread k p e = let f = (here log o h).read in let z : ◌≡◌ {A = ℕ} 0 1 = cc in omega arith
+  pub body_unread : (why : Refusal) → read_at log o ≡ Err why → ⊥
+  body_unread why e = let f = (here log o h).read in let z : ◌≡◌ {A = ℕ} 0 1 = cc in omega arith
 
-  from_is : (l : Line) (from : ℕ) → read_at log o ≡ Item l from → from ≡ (here log o h).from
-  from_is l from e = let f = (here log o h).read in cc
+  from_is : (l : Line) (from : ℕ) → read_at log o ≡ Ok (l, from) → from ≡ (here log o h).from
+  from_is l from e = ap behind_in (sym e ∙ (here log o h).read)
 
-  closed_is : (l : Line) (from : ℕ) → read_at log o ≡ Item l from → Body log from
+  closed_is : (l : Line) (from : ℕ) → read_at log o ≡ Ok (l, from) → Body log from
   closed_is l from e = rw (from_is l from e) (body_here (here log o h))
 
-  answer_is : (l : Line) (from : ℕ) (e : read_at log o ≡ Item l from)
-      → block_answer (read_block log from 1) ≡ Closed (closed_is l from e).place (closed_is l from e).behind (totals (closed_is l from e).tree)
+  answer_is : (l : Line) (from : ℕ) (e : read_at log o ≡ Ok (l, from))
+      → block_answer (read_block log from 1) ≡ Ok (Closed (closed_is l from e).place (closed_is l from e).behind (totals (closed_is l from e).tree))
   unfolding block_answer
   answer_is l from e = rw (block_of (closed_is l from e).reads) refl
 
-  pub body_closed : (l : Line) (from : ℕ) (b : Block) → read_at log o ≡ Item l from → b ≡ block_answer (read_block log from 1) → OneOf (1 ∷ 2 ∷ []) (tag_of Rattle.log_rules.specs.contracts.Block.the_type b) → ⊥
-  body_closed l from b e f t = let u = rw (f ∙ answer_is l from e) at t in miss (1 ∷ 2 ∷ []) 0 tt u
+  pub body_got : (l : Line) (from : ℕ) (r : Result Block Refusal) → read_at log o ≡ Ok (l, from) → r ≡ block_answer (read_block log from 1)
+      → ((b : Block) → r ≡ Ok b → ⊥) → ⊥
+  body_got l from r e f g = g _ (f ∙ answer_is l from e)
 
-  pub body_part : (l : Line) (from to next : ℕ) (t : Totals) → read_at log o ≡ Item l from → Closed to next t ≡ block_answer (read_block log from 1)
+  pub body_closed : (l : Line) (from : ℕ) (b : Block) → read_at log o ≡ Ok (l, from) → Ok b ≡ block_answer (read_block log from 1)
+      → ((p q : ℕ) (t : Totals) → b ≡ Closed p q t → ⊥) → ⊥
+  body_closed l from b e f g =
+      let u = f ∙ answer_is l from e in
+      g (closed_is l from e).place (closed_is l from e).behind (totals (closed_is l from e).tree) (cc)
+
+  pub body_part : (l : Line) (from to next : ℕ) (t : Totals) → read_at log o ≡ Ok (l, from) → Ok (Closed to next t) ≡ block_answer (read_block log from 1)
       → (from ≤ to) × (to ≤ length log) × (take (to - from) (drop from log) ≡ body_of log o)
   unfolding body_of
   body_part l from to next t e f =

@@ -1,12 +1,11 @@
 -- A loop's body. Document 01: "The bytes between a loop line and its `done` can be had as a part of the log itself; number and place come as a
 -- separate answer."
-use Rattle.std.specs.Prelude.{ℕ, ◌+◌, ◌-◌, Bool, true, false, List, [], ◌∷◌, length, get_or, take, drop, eqb}
+use Rattle.std.specs.Prelude.{ℕ, ◌+◌, ◌-◌, Bool, true, false, List, [], ◌∷◌, length, get_or, take, drop, eqb, Result, Ok, Err}
+use Rattle.refusal.specs.declared.Refusal.{Refusal}
 use Rattle.arith.specs.Pick.{pick, both, either}
 use Rattle.log_line.specs.declared.Line.{Line}
 use Rattle.log_line.specs.declared.Line.TheVariants.{Header, Machine, One, Loop, Done, Stop, NoForm, NoRegister}
 use Rattle.log_line.specs.Said.{line_of}
-use Rattle.log_rules.specs.declared.Reading.{Reading}
-use Rattle.log_rules.specs.declared.Reading.TheVariants.{Item, Refused}
 use Rattle.log_rules.specs.Lines.{lines_of, next_line}
 use Rattle.log_rules.specs.Reading.{read_at}
 use Rattle.log_rules.specs.Whole.{check_of}
@@ -26,9 +25,9 @@ is_loop (Stop n) = false
 is_loop NoForm = false
 is_loop NoRegister = false
 
-unfoldable pub reads_loop : Reading → Bool
-reads_loop (Item l next) = is_loop l
-reads_loop (Refused k p) = false
+unfoldable pub reads_loop : Result (Line × ℕ) Refusal → Bool
+reads_loop (Ok (l, next)) = is_loop l
+reads_loop (Err e) = false
 
 -- a loop line begins at a place
 unfoldable pub begins_loop : List ℕ → ℕ → Bool

@@ -2,64 +2,42 @@
 #![tactic(auto)]
 
 ghost use Rattle.std.specs.Prelude.{◌≡◌};
-ghost use Rattle.log_body.specs.Bodies.{begins_line, is_loop, reads_loop, begins_loop, body_check_of, body_of};
+ghost use Rattle.log_body.specs.Bodies.{begins_line, reads_loop, begins_loop, body_check_of, body_of};
 
 use log_line::Line;
-use log_rules::{Block, Reading};
+use log_rules::Block;
+use refusal::Refusal;
 
-// Number and place.
+// Number and place, 0 at 0 where nothing is refused. Flat, as `body_check_of` states it.
 #[derive(Clone, Copy)]
 pub struct Answer {
     pub number: u8,
     pub place: usize,
 }
 
+#[tactic(auto, unfolding(crate::specs::Bodies::begins_line))]
 fn begins_line(log: &[u8], at: usize) -> bool
     ensures { result ≡ begins_line log.now at }
 {
-    if at == 0 {
-        return true;
-    }
-    let i = at - 1;
-    if i < log.len() {
-        return log[i] == 10;
-    }
-    false
+    at == 0 || at <= log.len() && log[at - 1] == b'\n'
 }
 
-fn is_loop(l: Line) -> bool
-    ensures { result ≡ is_loop l }
-{
-    match l {
-        Line::Loop(_) => true,
-        Line::Header => false,
-        Line::Machine => false,
-        Line::One(_) => false,
-        Line::Done => false,
-        Line::Stop(_) => false,
-        Line::NoForm => false,
-        Line::NoRegister => false,
-    }
-}
-
-fn reads_loop(r: Reading) -> bool
+#[tactic(auto, unfolding(crate::specs::Bodies::reads_loop, crate::specs::Bodies::is_loop))]
+fn reads_loop(r: Result<(Line, usize), Refusal>) -> bool
     ensures { result ≡ reads_loop r }
 {
-    let Reading::Item(l, _) = r else {
-        return false;
-    };
-    is_loop(l)
+    matches!(r, Ok((Line::Loop(_), _)))
 }
 
+#[tactic(auto, unfolding(crate::specs::Bodies::begins_loop))]
 fn begins_loop(log: &[u8], at: usize) -> bool
     ensures { result ≡ begins_loop log.now at }
 {
-    let line = begins_line(log, at);
-    let loops = reads_loop(log_read::read(log, at));
-    arith::both_of(line, loops)
+    begins_line(log, at) && reads_loop(log_read::read(log, at))
 }
 
 // Number and place of a loop's body: 12 at 0 where no loop line begins at the offset.
+#[tactic(auto, unfolding(crate::specs::Bodies::body_check_of))]
 pub fn body_check(log: &[u8], offset: usize) -> Answer
     ensures { result ≡ body_check_of log.now offset }
 {
@@ -70,32 +48,24 @@ pub fn body_check(log: &[u8], offset: usize) -> Answer
             place: c.place,
         };
     }
-    if begins_loop(log, offset) {
-        return Answer {
-            number: 0,
-            place: 0,
-        };
-    }
-    Answer {
-        number: 12,
-        place: 0,
-    }
+    let number = if begins_loop(log, offset) { 0 } else { 12 };
+    Answer { number, place: 0 }
 }
 
 // The bytes between the loop line at an offset and its `done`; none where that is refused.
 pub fn body<'a>(log: &'a [u8], offset: usize) -> &'a [u8]
     ensures { result.now ≡ body_of log.now offset }
 {
-    let a = body_check(log, offset);
-    if a.number != 0 {
+    if body_check(log, offset).number != 0 {
         return &log[0..0];
     }
-    let r = log_read::read(log, offset);
-    let Reading::Item(_, from) = r else {
+    let Ok((_, from)) = log_read::read(log, offset) else {
         return &log[0..0];
     };
-    let b = log_block::read_block(log, from, 1);
-    let Block::Closed(to, _, _) = b else {
+    let Ok(block) = log_block::read_block(log, from, 1) else {
+        return &log[0..0];
+    };
+    let Block::Closed(to, _, _) = block else {
         return &log[0..0];
     };
     &log[from..to]

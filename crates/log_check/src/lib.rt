@@ -1,27 +1,14 @@
 // The check of a whole log.
 #![tactic(auto)]
 
-ghost use Rattle.std.specs.Prelude.{◌≡◌, length};
-ghost use Rattle.log_rules.specs.Whole.{check_refusal, check_of};
-ghost use Rattle.log_rules.specs.Closing.{totalled, limited, closing};
+ghost use Rattle.std.specs.Prelude.{◌≡◌, Ok};
+ghost use Rattle.log_rules.specs.Whole.{check_of};
+ghost use Rattle.log_rules.specs.Closing.{flat, totalled, limited, closing};
 
 use log_block::read_block;
-use log_read::{is_pal, number, place, read, start};
-use log_rules::{Block, Checked, Reading, Totals};
-
-// The answer of a refusal.
-fn refusal(number: u8, place: usize) -> Checked
-    ensures { result ≡ check_refusal number place }
-{
-    Checked {
-        number,
-        place,
-        pal: false,
-        clocks: 0,
-        turns: 0,
-        items: 0,
-    }
-}
+use log_read::{is_pal, read, start};
+use log_rules::{Block, Checked, Totals};
+use refusal::Refusal;
 
 // A log for a machine with these totals passes.
 fn passed(pal: bool, t: Totals) -> Checked
@@ -38,46 +25,62 @@ fn passed(pal: bool, t: Totals) -> Checked
 }
 
 // 9, then 10, of a log whose `stop` stands at a place with a number.
-fn weighed(pal: bool, t: Totals, place: usize, n: u64) -> Checked
-    ensures { result ≡ limited pal t place n }
+fn weighed(pal: bool, t: Totals, place: usize, n: u64) -> Result<Checked, Refusal>
+    ensures { flat result ≡ limited pal t place n }
 {
-    if 2000000000 < t.clocks {
-        return refusal(9, place);
-    }
-    if 1000000 < t.turns {
-        return refusal(9, place);
+    if 2000000000 < t.clocks || 1000000 < t.turns {
+        return Err(Refusal { number: 9, place });
     }
     if n == t.clocks {
-        return passed(pal, t);
+        Ok(passed(pal, t))
+    } else {
+        Err(Refusal { number: 10, place })
     }
-    refusal(10, place)
 }
 
 // A log for a machine whose lines came to a block: nothing may stand behind `stop`.
-fn closed(pal: bool, length: usize, b: Block) -> Checked
-    ensures { result ≡ closing pal length b }
+fn closed(pal: bool, length: usize, b: Block) -> Result<Checked, Refusal>
+    ensures { flat result ≡ closing pal length (Ok b) }
 {
     match b {
-        Block::Closed(_, next, _) => refusal(18, next),
+        Block::Closed(_, next, _) => Err(Refusal {
+            number: 18,
+            place: next,
+        }),
         Block::Stopped(place, next, n, t) => {
             if next < length {
-                refusal(19, next)
+                Err(Refusal {
+                    number: 19,
+                    place: next,
+                })
             } else {
-                weighed(pal, t, place, n as u64)
+                weighed(pal, t, place, u64::from(n))
             }
         }
-        Block::Refused(number, place) => refusal(number, place),
     }
+}
+
+// A log that passes, or the first thing that is wrong with it.
+fn whole(log: &[u8]) -> Result<Checked, Refusal>
+    ensures { flat result ≡ check_of log.now }
+{
+    read(log, 0)?;
+    closed(is_pal(log), log.len(), read_block(log, start(log), 0)?)
 }
 
 // Whether a log passes, its machine and its totals; or the first thing that is wrong with it.
 pub fn check(log: &[u8]) -> Checked
     ensures { result ≡ check_of log.now }
 {
-    let r = read(log, 0);
-    let Reading::Item(_, _) = r else {
-        return refusal(number(r), place(r));
-    };
-    let pal = is_pal(log);
-    closed(pal, log.len(), read_block(log, start(log), 0))
+    match whole(log) {
+        Ok(c) => c,
+        Err(e) => Checked {
+            number: e.number,
+            place: e.place,
+            pal: false,
+            clocks: 0,
+            turns: 0,
+            items: 0,
+        },
+    }
 }

@@ -1,4 +1,3 @@
-pub mod AnswerLaws
 pub mod WalkLaws
 pub mod Whole
 pub mod NumberLaws

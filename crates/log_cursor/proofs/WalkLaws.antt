@@ -1,4 +1,5 @@
 -- From the beginning of a log that was read as a tree, the cursor gives the acts of the tree, one after the other, and then the end. Assumes nothing.
+use Rattle.std.specs.Prelude.{Ok}
 use mathlib.Core.Path.{◌≡◌, refl, ap, sym, ◌∙◌, ap₂}
 use mathlib.Core.List.{List, [], ◌∷◌, ◌++◌, append_assoc, append-nil}
 use Prim.Native.Nat.{ℕ, zero, suc, ◌+◌, ◌-◌, ◌*◌, ◌≤◌, ◌<◌}
@@ -13,7 +14,6 @@ use Rattle.reading.proofs.SayingLaws.{within, by_says, by_on, by_over}
 use Rattle.log_line.specs.declared.Act.{Act}
 use Rattle.log_line.specs.declared.Line.{Line}
 use Rattle.log_line.specs.declared.Line.TheVariants.{Header, Machine, One, Loop, Done, Stop}
-use Rattle.log_rules.specs.declared.Reading.TheVariants.{Item}
 use Rattle.log_fault.proofs.Standing.{Goes, act as acts-on, opens as opened-on, closes as closes-on, ends as ends_on}
 use Rattle.log_rules.proofs.PlaceLaws.{had_at, had_text, to_depth}
 use Rattle.log_rules.specs.Reading.{standing, read_in, read_at}
@@ -51,23 +51,23 @@ module _ (log : List ℕ) (c : Cursor) (at d : ℕ) (s l : List ℕ) (h : At c a
   unfolding loops_open
   open_is = rw (h.depth, le-leb d 8 h.low)
 
-  step_in : (x : Line) (p : ℕ) → read_in (standing log at d) log at ≡ Item x p → step_of log c ≡ followed c d p x
+  step_in : (x : Line) (p : ℕ) → read_in (standing log at d) log at ≡ Ok (x, p) → step_of log c ≡ followed c d p x
   unfolding step_of read_step
   step_in x p e =
       ap₂ (λ (i k : ℕ). read_step c (read_in (standing log i k) log i)) h.place open_is
       ∙ (ap (read_step c) e ∙ ap (λ (k : ℕ). followed c k p x) open_is)
 
-  step_by_lem : (x : Line) (p : ℕ) → Goes d x → read_at log at ≡ Item x p → step_of log c ≡ followed c d p x
+  step_by_lem : (x : Line) (p : ℕ) → Goes d x → read_at log at ≡ Ok (x, p) → step_of log c ≡ followed c d p x
   step_by_lem x p g e = step_in x p (to_depth log at d x p g e)
 
   pass_at : (p : ℕ) → At (moved_to c d p) p d s l
   pass_at p = record { place = refl; depth = refl; low = h.low; starts = h.starts; left = h.left; room = h.room; space = h.space }
 
-  act_said : (a : Act) (p : ℕ) → read_at log at ≡ Item (One a) p → step_of log c ≡ go (says a) (moved_to c d p)
+  act_said : (a : Act) (p : ℕ) → read_at log at ≡ Ok (One a, p) → step_of log c ≡ go (says a) (moved_to c d p)
   unfolding followed
   act_said a p e = step_by_lem (One a) p acts-on e
 
-  loop_said : (n p : ℕ) → read_at log at ≡ Item (Loop n) p → d < 8 → step_of log c ≡ go on (entered c d p n)
+  loop_said : (n p : ℕ) → read_at log at ≡ Ok (Loop n, p) → d < 8 → step_of log c ≡ go on (entered c d p n)
   unfolding followed
   loop_said n p e k = step_by_lem (Loop n) p (opened-on k) e ∙ rw (lt-ltb d 8 k) refl
 
@@ -83,7 +83,7 @@ module _ (log : List ℕ) (c : Cursor) (at d : ℕ) (s l : List ℕ) (h : At c a
         space = rw length-set h.space;
       }
 
-stop_said : (log : List ℕ) (c : Cursor) (at n p : ℕ) (s l : List ℕ) → At c at 0 s l → read_at log at ≡ Item (Stop n) p → step_of log c ≡ go over c
+stop_said : (log : List ℕ) (c : Cursor) (at n p : ℕ) (s l : List ℕ) → At c at 0 s l → read_at log at ≡ Ok (Stop n, p) → step_of log c ≡ go over c
 unfolding followed
 stop_said log c at n p s l h e = step_by_lem log c at 0 s l h (Stop n) p (ends_on refl) e
 
@@ -91,7 +91,7 @@ stop_said log c at n p s l h e = step_by_lem log c at 0 s l h (Stop n) p (ends_o
 
 -- at the `done` of a loop whose body began at e, with m turns left
 module _ (log : List ℕ) (c : Cursor) (at d e m p : ℕ) (s l : List ℕ) (hs : length s ≡ d) (hl : length l ≡ d)
-    (h : At c at (d + 1) (s ++ (e ∷ [])) (l ++ (m ∷ []))) (done : read_at log at ≡ Item Done p) where
+    (h : At c at (d + 1) (s ++ (e ∷ [])) (l ++ (m ∷ []))) (done : read_at log at ≡ Ok (Done, p)) where
   down : d + 1 - 1 ≡ d
   down = omega arith
 
@@ -140,7 +140,7 @@ module _ (log : List ℕ) (c : Cursor) (at d e m p : ℕ) (s l : List ℕ) (hs :
 
 -- what is left behind a block that a `done` closes, p being the place behind that
 abbrev Closing : List ℕ → ℕ → ℕ → List ℕ → List ℕ → List Act → ℕ → Type 0
-Closing log p d s l rest k = (c : Cursor) (q : ℕ) → At c q d s l → read_at log q ≡ Item Done p → Gives (step_of log) c rest k
+Closing log p d s l rest k = (c : Cursor) (q : ℕ) → At c q d s l → read_at log q ≡ Ok (Done, p) → Gives (step_of log) c rest k
 
 abbrev Behind : List ℕ → Ending → ℕ → List ℕ → List ℕ → List Act → ℕ → Type 0
 Behind log (closes q p) d s l rest k = Closing log p d s l rest k
@@ -171,7 +171,7 @@ module _ (log : List ℕ) (d e p : ℕ) (b : Tree) (s l : List ℕ) (rest : List
       c h))
 
 -- a loop line, its turns, and what is behind it
-loop_run : (log : List ℕ) (at d n e p : ℕ) (b : Tree) (s l : List ℕ) (rest : List Act) (k : ℕ) → read_at log at ≡ Item (Loop n) e → 0 < n → d < 8
+loop_run : (log : List ℕ) (at d n e p : ℕ) (b : Tree) (s l : List ℕ) (rest : List Act) (k : ℕ) → read_at log at ≡ Ok (Loop n, e) → 0 < n → d < 8
     → ((s' l' : List ℕ) (rest' : List Act) (k' : ℕ) → Closing log p (d + 1) s' l' rest' k' → (c : Cursor) → At c e (d + 1) s' l' → Gives (step_of log) c (acts b ++ rest') (lines b + k'))
     → ((c : Cursor) → At c p d s l → Gives (step_of log) c rest k)
     → (c : Cursor) → At c at d s l → Gives (step_of log) c (times n (acts b) ++ rest) (1 + (n * (1 + lines b) + k))
@@ -226,7 +226,7 @@ lines_turns (a_stop e) = omega arith
 begin_at : At beginning 0 0 [] []
 begin_at = record { place = refl; depth = refl; low = omega arith; starts = refl; left = refl; room = refl; space = refl }
 
-header_said : (log : List ℕ) (p : ℕ) → read_at log 0 ≡ Item Header p → step_of log beginning ≡ go on (moved_to beginning 0 p)
+header_said : (log : List ℕ) (p : ℕ) → read_at log 0 ≡ Ok (Header, p) → step_of log beginning ≡ go on (moved_to beginning 0 p)
 unfolding followed read_at standing
 header_said log p e = step_in log beginning 0 0 [] [] begin_at Header p e
 
@@ -237,7 +237,7 @@ headed = moved_to beginning 0 6
 headed_at : At headed 6 0 [] []
 headed_at = record { place = refl; depth = refl; low = omega arith; starts = refl; left = refl; room = refl; space = refl }
 
-machine_said : (log : List ℕ) (p : ℕ) → read_in (standing log 6 0) log 6 ≡ Item Machine p → step_of log headed ≡ go on (moved_to headed 0 p)
+machine_said : (log : List ℕ) (p : ℕ) → read_in (standing log 6 0) log 6 ≡ Ok (Machine, p) → step_of log headed ≡ go on (moved_to headed 0 p)
 unfolding followed
 machine_said log p e = step_in log headed 6 0 [] [] headed_at Machine p e
 
@@ -247,13 +247,13 @@ turns_give log t c p q r n a h = rw append-nil at (block_gives h [] [] [] 1 (ref
 
 -- the beginning gives the whole list and then the end: at most three steps for two turns, and one each for `log=1`, `machine=pal` and `stop`
 
-module _ (log : List ℕ) (t : Tree) (p q r n : ℕ) (e : read_at log 0 ≡ Item Header 6) (h : Reads log p 0 t (stops q r n)) (few-turns : turns t ≤ 1000000) where
+module _ (log : List ℕ) (t : Tree) (p q r n : ℕ) (e : read_at log 0 ≡ Ok (Header, 6)) (h : Reads log p 0 t (stops q r n)) (few-turns : turns t ≤ 1000000) where
   pub begin_ntsc : p ≡ 6 → Gives (step_of log) beginning (acts t) 2000002
   begin_ntsc z =
       let i = lines_turns h in
       by_on (step_of log) 2000002 (header_said log 6 e) (turns_give log t headed p q r n (rw z headed_at) h) (omega arith)
 
-  pub begin_pal : read_in (standing log 6 0) log 6 ≡ Item Machine p → Gives (step_of log) beginning (acts t) 2000002
+  pub begin_pal : read_in (standing log 6 0) log 6 ≡ Ok (Machine, p) → Gives (step_of log) beginning (acts t) 2000002
   begin_pal m =
       let i = lines_turns h in
       by_on (step_of log) 2000002 (header_said log 6 e)

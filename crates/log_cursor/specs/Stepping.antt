@@ -1,11 +1,10 @@
 -- What a cursor does at one line.
-use Rattle.std.specs.Prelude.{◌≡◌, Bool, true, false, List, [], ◌∷◌, ℕ, ◌+◌, ◌-◌, get_or, set, eqb, leb, ltb}
+use Rattle.std.specs.Prelude.{◌≡◌, Bool, true, false, List, [], ◌∷◌, ℕ, ◌+◌, ◌-◌, get_or, set, eqb, leb, ltb, Result, Ok, Err}
+use Rattle.refusal.specs.declared.Refusal.{Refusal}
 use Rattle.arith.specs.Pick.{pick}
 use Rattle.log_line.specs.declared.Act.{Act}
 use Rattle.log_line.specs.declared.Line.{Line}
 use Rattle.log_line.specs.declared.Line.TheVariants.{Header, Machine, One, Loop, Done, Stop, NoForm, NoRegister}
-use Rattle.log_rules.specs.declared.Reading.{Reading}
-use Rattle.log_rules.specs.declared.Reading.TheVariants.{Item, Refused}
 use Rattle.log_rules.specs.Reading.{standing, read_in}
 use Rattle.reading.specs.Saying.{Said, over, on, says, refused, said_number, said_place, said_things, Turn}
 use Rattle.log_cursor.specs.declared.Cursor.{Cursor}
@@ -109,15 +108,10 @@ followed c d p NoForm = go (refused 14 c.at) c
 followed c d p NoRegister = go (refused 4 c.at) c
 
 -- what was read at the cursor
-unfoldable pub read_step : Cursor → Reading → Go
-read_step c (Item l p) = followed c (loops_open c) p l
-read_step c (Refused k p) = go (refused k p) c
+unfoldable pub read_step : Cursor → Result (Line × ℕ) Refusal → Go
+read_step c (Ok (l, p)) = followed c (loops_open c) p l
+read_step c (Err e) = go (refused e.number e.place) c
 
 -- one step: at most one line
 unfoldable pub step_of : List ℕ → Cursor → Go
 step_of log c = read_step c (read_in (standing log c.at (loops_open c)) log c.at)
-
--- the refusal of a line that was not read; an item is none
-abbrev pub refused_by : Cursor → Reading → Go
-refused_by c (Item l p) = go over c
-refused_by c (Refused k p) = go (refused k p) c

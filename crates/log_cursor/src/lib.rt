@@ -2,10 +2,10 @@
 #![tactic(auto)]
 
 ghost use Rattle.std.specs.Prelude.{◌≡◌, ◌≤◌, ◌<◌};
-ghost use Rattle.log_cursor.specs.Stepping.{beginning, loops_open, moved_to, entered, again, turned, followed, refused_by, step_of, stepped_of, found_number, found_place, FoundIs};
+ghost use Rattle.reading.specs.Saying.{on, refused};
+ghost use Rattle.log_cursor.specs.Stepping.{go, beginning, loops_open, moved_to, entered, again, turned, followed, step_of, stepped_of, found_number, found_place, FoundIs};
 
 use log_line::{Act, Line};
-use log_rules::Reading;
 
 // The place of the next line, and the open loops: how many, where each body begins, and the turns that are left behind this one.
 #[derive(Clone, Copy)]
@@ -16,7 +16,8 @@ pub struct Cursor {
     pub left: [u8; 8],
 }
 
-// What a step finds: an act; nothing, the cursor has moved; the log's end; or a refusal's number and place.
+// What a step finds: an act; nothing, the cursor has moved; the log's end; or a refusal's number and place. One flat answer and no Result: a step
+// gives the cursor back in every case, so that `?` has nothing to hand on.
 #[derive(Clone, Copy)]
 pub enum Given {
     Act(Act),
@@ -37,9 +38,7 @@ pub fn number(f: Given) -> u8
     ensures { result ≡ found_number f }
 {
     match f {
-        Given::Act(_) => 0,
-        Given::Moved => 0,
-        Given::End => 0,
+        Given::Act(_) | Given::Moved | Given::End => 0,
         Given::Refused(k, _) => k,
     }
 }
@@ -49,9 +48,7 @@ pub fn place(f: Given) -> usize
     ensures { result ≡ found_place f }
 {
     match f {
-        Given::Act(_) => 0,
-        Given::Moved => 0,
-        Given::End => 0,
+        Given::Act(_) | Given::Moved | Given::End => 0,
         Given::Refused(_, p) => p,
     }
 }
@@ -69,6 +66,7 @@ pub fn start() -> Cursor
 }
 
 // The loops that are open: at most eight, and none in a cursor that says more.
+#[tactic(auto, unfolding(crate::specs::Stepping::loops_open))]
 fn open_loops(c: Cursor) -> usize
     ensures { (result ≡ loops_open c) × (result ≤ 8) }
 {
@@ -79,13 +77,10 @@ fn open_loops(c: Cursor) -> usize
 fn pass(c: Cursor, d: usize, next: usize) -> Cursor
     ensures { result ≡ moved_to c d next }
 {
-    let starts = c.starts;
-    let left = c.left;
     Cursor {
         at: next,
         depth: d,
-        starts: starts,
-        left: left,
+        ..c
     }
 }
 
@@ -97,12 +92,12 @@ fn enter(c: Cursor, d: usize, next: usize, n: u8) -> Cursor
     let mut starts = c.starts;
     let mut left = c.left;
     starts[d] = next;
-    left[d] = arith::less_u8(n);
+    left[d] = n.saturating_sub(1);
     Cursor {
         at: next,
         depth: d + 1,
-        starts: starts,
-        left: left,
+        starts,
+        left,
     }
 }
 
@@ -111,92 +106,94 @@ fn repeat(c: Cursor, d: usize, n: u8) -> Cursor
     requires { (0 < d) × (d ≤ 8) }
     ensures { result ≡ again c d n }
 {
-    let mut left = c.left;
     let starts = c.starts;
-    left[d - 1] = arith::less_u8(n);
+    let mut left = c.left;
+    left[d - 1] = n.saturating_sub(1);
     Cursor {
         at: starts[d - 1],
         depth: d,
-        starts: starts,
-        left: left,
+        starts,
+        left,
+    }
+}
+
+fn moved(cursor: Cursor) -> Stepped
+    ensures { result ≡ stepped_of (go on cursor) }
+{
+    Stepped {
+        found: Given::Moved,
+        cursor,
+    }
+}
+
+// A refusal leaves the cursor where it was.
+fn refuse(cursor: Cursor, number: u8, place: usize) -> Stepped
+    ensures { result ≡ stepped_of (go (refused number place) cursor) }
+{
+    Stepped {
+        found: Given::Refused(number, place),
+        cursor,
     }
 }
 
 // The innermost loop at its `done`, with n turns left.
+#[tactic(auto, unfolding(crate::specs::Stepping::turned))]
 fn turn(c: Cursor, d: usize, next: usize, n: u8) -> Stepped
     requires { (0 < d) × (d ≤ 8) }
     ensures { result ≡ stepped_of (turned c d next n) }
 {
     if n == 0 {
-        return Stepped {
-            found: Given::Moved,
-            cursor: pass(c, d - 1, next),
-        };
-    }
-    Stepped {
-        found: Given::Moved,
-        cursor: repeat(c, d, n),
+        moved(pass(c, d - 1, next))
+    } else {
+        moved(repeat(c, d, n))
     }
 }
 
+#[tactic(auto, unfolding(crate::specs::Stepping::followed))]
 fn at_loop(c: Cursor, d: usize, next: usize, n: u8) -> Stepped
     ensures { result ≡ stepped_of (followed c d next (Line.Loop n)) }
 {
     if d < 8 {
-        return Stepped {
-            found: Given::Moved,
-            cursor: enter(c, d, next, n),
-        };
-    }
-    Stepped {
-        found: Given::Refused(7, c.at),
-        cursor: c,
+        moved(enter(c, d, next, n))
+    } else {
+        refuse(c, 7, c.at)
     }
 }
 
+#[tactic(auto, unfolding(crate::specs::Stepping::followed))]
 fn at_done(c: Cursor, d: usize, next: usize) -> Stepped
     requires { d ≤ 8 }
     ensures { result ≡ stepped_of (followed c d next Line.Done) }
 {
     if d == 0 {
-        return Stepped {
-            found: Given::Refused(8, c.at),
-            cursor: c,
-        };
+        return refuse(c, 8, c.at);
     }
     let left = c.left;
     turn(c, d, next, left[d - 1])
 }
 
+#[tactic(auto, unfolding(crate::specs::Stepping::followed))]
 fn at_stop(c: Cursor, d: usize, next: usize, n: u32) -> Stepped
     ensures { result ≡ stepped_of (followed c d next (Line.Stop n)) }
 {
     if d == 0 {
-        return Stepped {
+        Stepped {
             found: Given::End,
             cursor: c,
-        };
-    }
-    Stepped {
-        found: Given::Refused(8, c.at),
-        cursor: c,
+        }
+    } else {
+        refuse(c, 8, c.at)
     }
 }
 
 // With d loops open, the line at the cursor says l.
+#[tactic(auto, unfolding(crate::specs::Stepping::followed))]
 fn follow(c: Cursor, d: usize, next: usize, l: Line) -> Stepped
     requires { d ≤ 8 }
     ensures { result ≡ stepped_of (followed c d next l) }
 {
     match l {
-        Line::Header => Stepped {
-            found: Given::Moved,
-            cursor: pass(c, d, next),
-        },
-        Line::Machine => Stepped {
-            found: Given::Moved,
-            cursor: pass(c, d, next),
-        },
+        Line::Header | Line::Machine => moved(pass(c, d, next)),
         Line::One(a) => Stepped {
             found: Given::Act(a),
             cursor: pass(c, d, next),
@@ -204,30 +201,8 @@ fn follow(c: Cursor, d: usize, next: usize, l: Line) -> Stepped
         Line::Loop(n) => at_loop(c, d, next, n),
         Line::Done => at_done(c, d, next),
         Line::Stop(n) => at_stop(c, d, next, n),
-        Line::NoForm => Stepped {
-            found: Given::Refused(14, c.at),
-            cursor: c,
-        },
-        Line::NoRegister => Stepped {
-            found: Given::Refused(4, c.at),
-            cursor: c,
-        },
-    }
-}
-
-// The refusal of a line that was not read.
-fn refusal(c: Cursor, r: Reading) -> Stepped
-    ensures { result ≡ stepped_of (refused_by c r) }
-{
-    match r {
-        Reading::Item(_, _) => Stepped {
-            found: Given::End,
-            cursor: c,
-        },
-        Reading::Refused(k, p) => Stepped {
-            found: Given::Refused(k, p),
-            cursor: c,
-        },
+        Line::NoForm => refuse(c, 14, c.at),
+        Line::NoRegister => refuse(c, 4, c.at),
     }
 }
 
@@ -237,9 +212,8 @@ pub fn step(log: &[u8], c: Cursor) -> Stepped
     ensures found_is { FoundIs (step_of log.now c).said result.found }
 {
     let d = open_loops(c);
-    let r = log_read::read_inside(log, c.at, d as u64);
-    let Reading::Item(l, next) = r else {
-        return refusal(c, r);
-    };
-    follow(c, d, next, l)
+    match log_read::read_inside(log, c.at, d as u64) {
+        Ok((l, next)) => follow(c, d, next, l),
+        Err(e) => refuse(c, e.number, e.place),
+    }
 }

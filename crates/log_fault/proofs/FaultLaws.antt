@@ -6,6 +6,7 @@
 -- line that is allowed there and within document 01's limits; `first_fault`, 14 and 15 are at the first byte with which no allowed right line begins;
 -- `feed_fault`, 17 is answered exactly where such a line was begun and its line feed is missing; `four_line`, `seven_line`, `eight_line`, and back
 -- `line_four`, `line_seven`, `line_done`, `line_stop`. 16 is in RangeLaws.
+use Rattle.std.specs.Prelude.{Result, Ok, Err}
 use mathlib.Core.Path.{◌≡◌, refl, ap, sym, ◌∙◌, subst}
 use mathlib.Core.List.{List, []}
 use mathlib.Core.Bool.{Bool, true, false, not, false≢true}
@@ -16,6 +17,8 @@ use borrow.Author.Tests.{eqb-true, eqb-false, eq-eqb, ne_eqb, ltb-false, le-ltb}
 use lib.ListN.{length, get_or, take}
 use lib.Seq.{take-length}
 use lib.Dec.{eqb}
+use Rattle.refusal.specs.declared.Refusal.{Refusal}
+use Rattle.refusal.specs.Refusal.{refusal, number_of, place_of}
 use Rattle.arith.specs.Pick.{pick}
 use Rattle.arith.proofs.PickLaws.{pick_each}
 use Rattle.log_line.specs.declared.Line.{Line}
@@ -30,8 +33,6 @@ use Rattle.log_fault.specs.declared.Stand.TheVariants.{First, Among, Alone}
 use Rattle.log_begins.specs.declared.Keys.{Keys}
 use Rattle.log_fault.specs.declared.Whole.{Whole}
 use Rattle.log_fault.specs.declared.Whole.TheVariants.{Fine, Start, Other}
-use Rattle.log_fault.specs.declared.Spotted.{Spotted}
-use Rattle.log_fault.specs.declared.Spotted.TheVariants.{Right, Wrong}
 use Rattle.log_form.specs.Forms.{along, reach}
 use Rattle.log_begins.specs.Begins.{any_true, begins}
 use Rattle.log_fault.specs.Allowed.{keys_of}
@@ -48,13 +49,13 @@ pub zero_one : {A : Type 0} → ◌≡◌ {A = ℕ} 0 1 → A
 zero_one e = absurd (omega arith)
 
 -- HOW AN ANSWER COMES ABOUT
-pub data Came (st : Stand) (s : List ℕ) (r : Spotted) : Type 0 where
-  fine : whole_of (keys_of st) (line_of s) ≡ Fine → r ≡ Right (line_of s) → Came st s r
-  start : (n : ℕ) → whole_of (keys_of st) (line_of s) ≡ Start n → r ≡ Wrong n 0 → Came st s r
-  feed : whole_of (keys_of st) (line_of s) ≡ Other → reach (begins (keys_of st)) s ≡ length s → r ≡ Wrong 17 (reach (begins (keys_of st)) s) → Came st s r
-  key : (reach (begins (keys_of st)) s ≡ length s → ⊥) → r ≡ Wrong 14 (reach (begins (keys_of st)) s) → Came st s r
-  range : (reach (begins (keys_of st)) s ≡ length s → ⊥) → keyed (take (reach (begins (keys_of st)) s) s) ≡ true → counts s ≡ true → r ≡ Wrong 16 5 → Came st s r
-  shape : (reach (begins (keys_of st)) s ≡ length s → ⊥) → r ≡ Wrong 15 (reach (begins (keys_of st)) s) → Came st s r
+pub data Came (st : Stand) (s : List ℕ) (r : Result Line Refusal) : Type 0 where
+  fine : whole_of (keys_of st) (line_of s) ≡ Fine → r ≡ Ok (line_of s) → Came st s r
+  start : (n : ℕ) → whole_of (keys_of st) (line_of s) ≡ Start n → r ≡ Err (refusal n 0) → Came st s r
+  feed : whole_of (keys_of st) (line_of s) ≡ Other → reach (begins (keys_of st)) s ≡ length s → r ≡ Err (refusal 17 (reach (begins (keys_of st)) s)) → Came st s r
+  key : (reach (begins (keys_of st)) s ≡ length s → ⊥) → r ≡ Err (refusal 14 (reach (begins (keys_of st)) s)) → Came st s r
+  range : (reach (begins (keys_of st)) s ≡ length s → ⊥) → keyed (take (reach (begins (keys_of st)) s) s) ≡ true → counts s ≡ true → r ≡ Err (refusal 16 5) → Came st s r
+  shape : (reach (begins (keys_of st)) s ≡ length s → ⊥) → r ≡ Err (refusal 15 (reach (begins (keys_of st)) s)) → Came st s r
 
 pub came : (st : Stand) (s : List ℕ) → Came st s (spot_of st s)
 unfolding spot_of spotted fault_at
@@ -190,7 +191,7 @@ pub record RightLine (k : Keys) (s : List ℕ) (l : Line) : Type 0 where
   pub within : Printable l
   pub is : s ≡ line_text l
 
-pub right_line : (st : Stand) (s : List ℕ) (l : Line) → spot_of st s ≡ Right l → RightLine (keys_of st) s l
+pub right_line : (st : Stand) (s : List ℕ) (l : Line) → spot_of st s ≡ Ok l → RightLine (keys_of st) s l
 right_line st s l e = go (came st s)
   where
     go : Came st s (spot_of st s) → RightLine (keys_of st) s l
@@ -205,7 +206,7 @@ right_line st s l e = go (came st s)
     go (range h i c r) = zero_one (cc)
     go (shape h r) = zero_one (cc)
 
-pub line_right : (st : Stand) (l : Line) → allowed (keys_of st) l ≡ true → Printable l → spot_of st (line_text l) ≡ Right l
+pub line_right : (st : Stand) (l : Line) → allowed (keys_of st) l ≡ true → Printable l → spot_of st (line_text l) ≡ Ok l
 unfolding spot_of spotted
 line_right st l a p = rw (printed_read l p, may_fine (keys_of st) l a)
 
@@ -250,23 +251,23 @@ first_fault st s n i e h = go (came st s)
     go : Came st s (spot_of st s) → FirstByte (keys_of st) s i
     go (fine w r) = zero_one (cc)
     go (start m w r) =
-        let q : m ≡ n = cc in
+        let q = ap number_of (sym r ∙ e) in
         let u = starts_small (keys_of st) (line_of s) m w in
         let z = low in
         absurd (omega arith)
     go (feed w g r) =
-        let q : n ≡ 17 = cc in
+        let q = ap number_of (sym e ∙ r) in
         let z = high in
         absurd (omega arith)
     go (key g r) =
-        let q : reach (begins (keys_of st)) s ≡ i = cc in
+        let q = ap place_of (sym r ∙ e) in
         subst (FirstByte (keys_of st) s) q (first_byte st s g)
     go (range g a c r) =
-        let q : n ≡ 16 = cc in
+        let q = ap number_of (sym e ∙ r) in
         let z = high in
         absurd (omega arith)
     go (shape g r) =
-        let q : reach (begins (keys_of st)) s ≡ i = cc in
+        let q = ap place_of (sym r ∙ e) in
         subst (FirstByte (keys_of st) s) q (first_byte st s g)
 
 -- 17, NO LINE FEED: exactly where all bytes begin an allowed right line and the line feed is missing
@@ -282,17 +283,17 @@ module _ (st : Stand) (s : List ℕ) where
       begins_sound (keys_of st) s
       (rw take-length at (reach_before (begins (keys_of st)) s (length s) (begins_none st) (omega arith)))
 
-  pub feed_missing : (i : ℕ) → spot_of st s ≡ Wrong 17 i → FeedMissing (keys_of st) s i
+  pub feed_missing : (i : ℕ) → spot_of st s ≡ Err (refusal 17 i) → FeedMissing (keys_of st) s i
   feed_missing i e = go (came st s)
     where
       go : Came st s (spot_of st s) → FeedMissing (keys_of st) s i
       go (fine w r) = zero_one (cc)
       go (start m w r) =
-          let q : m ≡ 17 = cc in
+          let q = ap number_of (sym r ∙ e) in
           let u = starts_small (keys_of st) (line_of s) m w in
           absurd (omega arith)
       go (feed w h r) =
-          let q : reach (begins (keys_of st)) s ≡ i = cc in
+          let q = ap place_of (sym r ∙ e) in
           let f = all_begun h in
           record {
             place = sym q ∙ h;
@@ -303,18 +304,18 @@ module _ (st : Stand) (s : List ℕ) where
                 not_other (keys_of st) f.line (line_of (line_text f.line)) (reads f.line f.right) f.may
                 (ap (λ (x : List ℕ). whole_of (keys_of st) (line_of x)) (sym t) ∙ w);
           }
-      go (key h r) = absurd (let z : ◌≡◌ {A = ℕ} 14 17 = cc in omega arith)
-      go (range h a c r) = absurd (let z : ◌≡◌ {A = ℕ} 16 17 = cc in omega arith)
-      go (shape h r) = absurd (let z : ◌≡◌ {A = ℕ} 15 17 = cc in omega arith)
+      go (key h r) = absurd (let z : ◌≡◌ {A = ℕ} 14 17 = ap number_of (sym r ∙ e) in omega arith)
+      go (range h a c r) = absurd (let z : ◌≡◌ {A = ℕ} 16 17 = ap number_of (sym r ∙ e) in omega arith)
+      go (shape h r) = absurd (let z : ◌≡◌ {A = ℕ} 15 17 = ap number_of (sym r ∙ e) in omega arith)
 
-  pub missing_feed : Fronts (keys_of st) s → (get_or s (length s - 1) 0 ≡ 10 → ⊥) → spot_of st s ≡ Wrong 17 (length s)
+  pub missing_feed : Fronts (keys_of st) s → (get_or s (length s - 1) 0 ≡ 10 → ⊥) → spot_of st s ≡ Err (refusal 17 (length s))
   unfolding spot_of spotted whole_of fault_at
   missing_feed f h =
       let r = reach_all (begins (keys_of st)) s (begins_closed (keys_of st)) (begins_complete (keys_of st) s f) in
       rw (line_other s h, r, eq-eqb (length s) (length s) refl)
 
 pub feed_fault : FeedFault
-feed_fault st s i = (feed_missing st s i, λ f. missing_feed st s f.begun f.unfed ∙ ap (Wrong 17) (sym f.place))
+feed_fault st s i = (feed_missing st s i, λ f. missing_feed st s f.begun f.unfed ∙ ap (λ (x : ℕ). Err (refusal 17 x)) (sym f.place))
 
 -- 4, 7 AND 8: at the start, of a whole line of right form
 
@@ -359,20 +360,20 @@ open_loop (Alone m) s n l a b = zero_one (cc)
 
 module _ (st : Stand) (s : List ℕ) (i : ℕ) where
   -- an answer by a number up to 8 is by the whole line
-  at_start : (n : ℕ) → spot_of st s ≡ Wrong n i → n ≤ 8 → (Starts (keys_of st) (line_of s) n) × (i ≡ 0)
+  at_start : (n : ℕ) → spot_of st s ≡ Err (refusal n i) → n ≤ 8 → (Starts (keys_of st) (line_of s) n) × (i ≡ 0)
   at_start n e u = go (came st s)
     where
       go : Came st s (spot_of st s) → (Starts (keys_of st) (line_of s) n) × (i ≡ 0)
       go (fine w r) = zero_one (cc)
       go (start m w r) =
-          let q : m ≡ n = cc in
-          (starts (keys_of st) (line_of s) n (w ∙ ap Start q), cc)
-      go (feed w h r) = let z : n ≡ 17 = cc in absurd (omega arith)
-      go (key h r) = let z : n ≡ 14 = cc in absurd (omega arith)
-      go (range h a c r) = let z : n ≡ 16 = cc in absurd (omega arith)
-      go (shape h r) = let z : n ≡ 15 = cc in absurd (omega arith)
+          let q = ap number_of (sym r ∙ e) in
+          (starts (keys_of st) (line_of s) n (w ∙ ap Start q), ap place_of (sym e ∙ r))
+      go (feed w h r) = let z = ap number_of (sym e ∙ r) in absurd (omega arith)
+      go (key h r) = let z = ap number_of (sym e ∙ r) in absurd (omega arith)
+      go (range h a c r) = let z = ap number_of (sym e ∙ r) in absurd (omega arith)
+      go (shape h r) = let z = ap number_of (sym e ∙ r) in absurd (omega arith)
 
-  pub four_line : spot_of st s ≡ Wrong 4 i → Four (keys_of st) s i
+  pub four_line : spot_of st s ≡ Err (refusal 4 i) → Four (keys_of st) s i
   four_line e =
       let a = at_start 4 e (omega arith) in
       go a.0 a.1
@@ -383,7 +384,7 @@ module _ (st : Stand) (s : List ℕ) (i : ℕ) where
       go (by_done n l a b) z = absurd (omega arith)
       go (by_stop n m l a b) z = absurd (omega arith)
 
-  pub seven_line : spot_of st s ≡ Wrong 7 i → Seven st s i
+  pub seven_line : spot_of st s ≡ Err (refusal 7 i) → Seven st s i
   seven_line e =
       let a = at_start 7 e (omega arith) in
       go a.0 a.1
@@ -394,7 +395,7 @@ module _ (st : Stand) (s : List ℕ) (i : ℕ) where
       go (by_done n l a b) z = absurd (omega arith)
       go (by_stop n m l a b) z = absurd (omega arith)
 
-  pub eight_line : spot_of st s ≡ Wrong 8 i → Eight st s i
+  pub eight_line : spot_of st s ≡ Err (refusal 8 i) → Eight st s i
   eight_line e =
       let a = at_start 8 e (omega arith) in
       go a.0 a.1
@@ -408,19 +409,19 @@ module _ (st : Stand) (s : List ℕ) (i : ℕ) where
 -- and the other way round
 
 module _ (s : List ℕ) where
-  pub line_four : (st : Stand) → (keys_of st).acts ≡ true → line_of s ≡ NoRegister → spot_of st s ≡ Wrong 4 0
+  pub line_four : (st : Stand) → (keys_of st).acts ≡ true → line_of s ≡ NoRegister → spot_of st s ≡ Err (refusal 4 0)
   unfolding spot_of spotted whole_of
   line_four st a e = rw (e, a)
 
-  pub line_seven : (m : Bool) (d n : ℕ) → 8 ≤ d → line_of s ≡ Loop n → spot_of (Among m d) s ≡ Wrong 7 0
+  pub line_seven : (m : Bool) (d n : ℕ) → 8 ≤ d → line_of s ≡ Loop n → spot_of (Among m d) s ≡ Err (refusal 7 0)
   unfolding spot_of spotted whole_of keys_of
   line_seven m d n h e = rw (e, le-ltb d 8 h)
 
-  pub line_done : (m : Bool) → line_of s ≡ Done → spot_of (Among m 0) s ≡ Wrong 8 0
+  pub line_done : (m : Bool) → line_of s ≡ Done → spot_of (Among m 0) s ≡ Err (refusal 8 0)
   unfolding spot_of spotted whole_of keys_of
   line_done m e = rw e
 
-  pub line_stop : (m : Bool) (d n : ℕ) → 0 < d → line_of s ≡ Stop n → spot_of (Among m d) s ≡ Wrong 8 0
+  pub line_stop : (m : Bool) (d n : ℕ) → 0 < d → line_of s ≡ Stop n → spot_of (Among m d) s ≡ Err (refusal 8 0)
   unfolding spot_of spotted whole_of keys_of
   line_stop m d n h e = rw (e, ne_eqb d 0 (λ z. more z))
     where

@@ -1,4 +1,5 @@
 -- A decimal of right shape outside its range is refused with 16, at its first digit. Assumes nothing.
+use Rattle.std.specs.Prelude.{Some, None, Err}
 use mathlib.Core.Path.{◌≡◌, refl, ap, sym, ◌∙◌, subst}
 use mathlib.Core.List.{List, [], ◌∷◌, ◌++◌}
 use mathlib.Core.Bool.{Bool, true, false, false≢true}
@@ -8,11 +9,11 @@ use borrow.Author.Tests.{eqb-true, eqb-false, eq-eqb, ne_eqb, ltb-true, ltb-fals
 use lib.ListN.{length, get_or, take, drop, length-append, take-append-drop}
 use lib.Seq.{take-append-le, take-append-add, get_or-append-add}
 use lib.Dec.{eqb, ltb}
+use Rattle.refusal.specs.Refusal.{refusal}
 use Rattle.text.specs.Ascii.{bytes}
 use Rattle.text.specs.Key.{starts_with, exactly}
 use Rattle.text.specs.Numbers.{within}
 use Rattle.text.specs.Decimal.{formed, decimal, digits_of, decimal_text}
-use Rattle.text.specs.declared.Number.TheVariants.{Is, None}
 use Rattle.text.proofs.KeyLaws.{starts_split}
 use Rattle.text.proofs.NumberLaws.{within_low, within_high}
 use Rattle.log_line.specs.declared.Act.TheVariants.{Wait}
@@ -31,7 +32,6 @@ use Rattle.log_begins.proofs.Beginnings.{begins_complete}
 use Rattle.log_begins.proofs.Furthest.{begins_closed}
 use Rattle.log_begins.proofs.ValueLaws.{unfed_feed}
 use Rattle.log_fault.specs.declared.Stand.{Stand}
-use Rattle.log_fault.specs.declared.Spotted.TheVariants.{Wrong}
 use Rattle.log_fault.specs.Allowed.{keys_of}
 use Rattle.log_fault.specs.Fault.{whole_of, fault_at, spotted, spot_of}
 use Rattle.log_fault.specs.Places.{FeedMissing, Outside, waits, loops, stops, OutOfRange, RangeFault}
@@ -40,10 +40,10 @@ use Rattle.log_fault.proofs.RangeLaws.{out_of_range}
 
 -- A NUMBER OUTSIDE ITS RANGE IS NO LINE'S
 
-outside_none : (lo hi n : ℕ) → (lo ≤ n → n ≤ hi → ⊥) → within lo hi (Is n) ≡ None
+outside_none : (lo hi n : ℕ) → (lo ≤ n → n ≤ hi → ⊥) → within lo hi (Some n) ≡ None
 outside_none lo hi n h = go (ltb n lo) refl
   where
-    go : (b : Bool) → ltb n lo ≡ b → within lo hi (Is n) ≡ None
+    go : (b : Bool) → ltb n lo ≡ b → within lo hi (Some n) ≡ None
     go true e = within_low lo hi n (ltb-true n lo e)
     go false e =
         let l = ltb-false n lo e in
@@ -51,7 +51,7 @@ outside_none lo hi n h = go (ltb n lo) refl
         within_high lo hi n u
 
 -- a decimal has a digit
-some : (v : List ℕ) (n : ℕ) → decimal (unfed v) ≡ Is n → 1 ≤ length v
+some : (v : List ℕ) (n : ℕ) → decimal (unfed v) ≡ Some n → 1 ≤ length v
 unfolding decimal formed unfed
 some [] n d = absurd (let z : ◌≡◌ {A = ℕ} 0 1 = cc in omega arith)
 some (c ∷ v) n d = omega arith
@@ -96,8 +96,8 @@ module _ (st : Stand) where
   refused : (key : List ℕ) (lo hi : ℕ) (f : ℕ → Line) (v : List ℕ) (n : ℕ)
       → ((w : List ℕ) → unfed_line (key ++ w) ≡ counted f (within lo hi (decimal w)))
       → ((w : List ℕ) → keyed (key ++ w) ≡ true) → counts (key ++ v) ≡ true → begins (keys_of st) key ≡ true
-      → decimal (unfed v) ≡ Is n → (lo ≤ n → n ≤ hi → ⊥) → (FeedMissing (keys_of st) (key ++ v) (length (key ++ v)) → ⊥)
-      → spot_of st (key ++ v) ≡ Wrong 16 5
+      → decimal (unfed v) ≡ Some n → (lo ≤ n → n ≤ hi → ⊥) → (FeedMissing (keys_of st) (key ++ v) (length (key ++ v)) → ⊥)
+      → spot_of st (key ++ v) ≡ Err (refusal 16 5)
   unfolding spot_of spotted whole_of fault_at
   refused key lo hi f v n by has c b d out fed = rw (none, ne_eqb _ _ inside, there, c)
     where
@@ -108,7 +108,7 @@ module _ (st : Stand) where
 
       inside : reach (begins (keys_of st)) (key ++ v) ≡ length (key ++ v) → ⊥
       inside e =
-          let w : spot_of st (key ++ v) ≡ Wrong 17 (length (key ++ v)) = rw (none, e, eq-eqb (length (key ++ v)) (length (key ++ v)) refl) in
+          let w : spot_of st (key ++ v) ≡ Err (refusal 17 (length (key ++ v))) = rw (none, e, eq-eqb (length (key ++ v)) (length (key ++ v)) refl) in
           fed (feed_missing st (key ++ v) (length (key ++ v)) w)
 
       there : keyed (take (reach (begins (keys_of st)) (key ++ v)) (key ++ v)) ≡ true
@@ -117,21 +117,21 @@ module _ (st : Stand) where
           let q : r ≡ length key + (r - length key) = omega (arith, far (keys_of st) key v b) in
           ap (λ (n : ℕ). keyed (take n (key ++ v))) q ∙ (ap keyed (take-append-add key v (r - length key)) ∙ has (take (r - length key) v))
 
-  pub range_back : (s : List ℕ) (i : ℕ) → OutOfRange (keys_of st) s i → spot_of st s ≡ Wrong 16 i
+  pub range_back : (s : List ℕ) (i : ℕ) → OutOfRange (keys_of st) s i → spot_of st s ≡ Err (refusal 16 i)
   unfolding starts_with exactly unfed_line wait_of loop_of stop_of keyed counts said line_text act_text ended decimal_text digits_of allowed
   range_back s i o = go o.outside
     where
       -- the line as its key and what stands behind it
       split : (key : List ℕ) → length key ≡ 5 → starts_with key s ≡ true
-          → ((FeedMissing (keys_of st) (key ++ drop 5 s) (length (key ++ drop 5 s)) → ⊥) → spot_of st (key ++ drop 5 s) ≡ Wrong 16 5) → spot_of st s ≡ Wrong 16 i
+          → ((FeedMissing (keys_of st) (key ++ drop 5 s) (length (key ++ drop 5 s)) → ⊥) → spot_of st (key ++ drop 5 s) ≡ Err (refusal 16 5)) → spot_of st s ≡ Err (refusal 16 i)
       split key five p g =
           let e = starts_split key s p ∙ ap (λ (n : ℕ). key ++ drop n s) five in
-          ap (spot_of st) e ∙ (g (subst (λ (t : List ℕ). FeedMissing (keys_of st) t (length t) → ⊥) e o.stuck) ∙ ap (Wrong 16) (sym o.place))
+          ap (spot_of st) e ∙ (g (subst (λ (t : List ℕ). FeedMissing (keys_of st) t (length t) → ⊥) e o.stuck) ∙ ap (λ (x : ℕ). Err (refusal 16 x)) (sym o.place))
 
       begun : (key rest : List ℕ) (l : Line) → allowed (keys_of st) l ≡ true → RightForm l → key ++ rest ≡ line_text l → begins (keys_of st) key ≡ true
       begun key rest l m r e = begins_complete (keys_of st) key (record { line = l; may = m; right = r; rest = rest; is = e })
 
-      go : Outside (keys_of st) s o.value → spot_of st s ≡ Wrong 16 i
+      go : Outside (keys_of st) s o.value → spot_of st s ≡ Err (refusal 16 i)
       go (waits p m h) =
           split (bytes "wait=") refl p
           (refused (bytes "wait=") 1 1000000 (λ n. One (Wait n)) (drop 5 s) o.value (λ w. refl) (λ w. refl) (ap said o.says)

@@ -1,4 +1,5 @@
 -- 16 is said of a decimal of right shape that is outside its range, and of nothing else. Assumes nothing.
+use Rattle.std.specs.Prelude.{Option, Some, None, Err}
 use mathlib.Core.Path.{◌≡◌, refl, ap, sym, ◌∙◌}
 use mathlib.Core.List.{List, [], ◌∷◌, ◌++◌, append_assoc, append-nil}
 use mathlib.Core.Bool.{Bool, true, false, false≢true}
@@ -7,14 +8,13 @@ use native.Mathlib.Omega.{arith}
 use borrow.Author.Tests.{eqb-true, ltb-true, ltb-false}
 use lib.ListN.{length, get_or, take, drop, length-append}
 use lib.Dec.{eqb, ltb}
+use Rattle.refusal.specs.Refusal.{refusal, number_of, place_of}
 use Rattle.arith.specs.Pick.{either}
 use Rattle.arith.proofs.PickLaws.{both_left, both_right}
 use Rattle.bus.specs.declared.Access.TheVariants.{Write, Read}
 use Rattle.text.specs.Ascii.{bytes}
 use Rattle.text.specs.Key.{starts_with}
 use Rattle.text.specs.Decimal.{decimal, decimal_text}
-use Rattle.text.specs.declared.Number.{Number}
-use Rattle.text.specs.declared.Number.TheVariants.{Is, None}
 use Rattle.text.proofs.KeyLaws.{starts_split, starts_length}
 use Rattle.text.proofs.DecimalLaws.{decimal_sound}
 use Rattle.log_line.specs.declared.Act.TheVariants.{Wait, Access}
@@ -24,7 +24,6 @@ use Rattle.log_line.specs.Said.{line_of}
 use Rattle.log_line.specs.Printed.{act_text, ended, line_text}
 use Rattle.log_fault.specs.declared.Stand.{Stand}
 use Rattle.log_begins.specs.declared.Keys.{Keys}
-use Rattle.log_fault.specs.declared.Spotted.TheVariants.{Wrong}
 use Rattle.log_form.specs.Forms.{reach}
 use Rattle.log_begins.specs.Begins.{begins}
 use Rattle.log_fault.specs.Allowed.{keys_of}
@@ -122,7 +121,7 @@ module _ (st : Stand) (s : List ℕ) (h : reach (begins (keys_of st)) s ≡ leng
       → ((n : ℕ) → lo ≤ n → n ≤ hi → RightForm (f n))
       → ((n : ℕ) → may ≡ true → allowed (keys_of st) (f n) ≡ true)
       → ((l : Line) (x : List ℕ) → (letters ++ (61 ∷ [])) ++ x ≡ line_text l → allowed (keys_of st) l ≡ true → may ≡ true)
-      → (n : ℕ) → decimal (unfed (drop 5 s)) ≡ Is n → starts_with (letters ++ (61 ∷ [])) s ≡ true
+      → (n : ℕ) → decimal (unfed (drop 5 s)) ≡ Some n → starts_with (letters ++ (61 ∷ [])) s ≡ true
       → (may ≡ true) × (lo ≤ n → n ≤ hi → ⊥)
   ranged letters lo hi f may w four clear text right mine only n d e = (may_be, out)
     where
@@ -173,14 +172,14 @@ module _ (st : Stand) (s : List ℕ) (h : reach (begins (keys_of st)) s ≡ leng
 abbrev takes : List ℕ → Bool
 takes s = either (starts_with (bytes "wait=") s) (either (starts_with (bytes "loop=") s) (starts_with (bytes "stop=") s))
 
-is_said : (d : Number) → said d ≡ true → (P : Type 0) → ((n : ℕ) → d ≡ Is n → P) → P
+is_said : (d : Option ℕ) → said d ≡ true → (P : Type 0) → ((n : ℕ) → d ≡ Some n → P) → P
 unfolding said
-is_said (Is n) e P f = f n refl
+is_said (Some n) e P f = f n refl
 is_said None e P f = absurd (false≢true e)
 
 module _ (st : Stand) (s : List ℕ) where
   outside : (reach (begins (keys_of st)) s ≡ length s → ⊥) → keyed (take (reach (begins (keys_of st)) s) s) ≡ true
-      → takes s ≡ true → (n : ℕ) → decimal (unfed (drop 5 s)) ≡ Is n → Outside (keys_of st) s n
+      → takes s ≡ true → (n : ℕ) → decimal (unfed (drop 5 s)) ≡ Some n → Outside (keys_of st) s n
   unfolding keyed line_text act_text ended allowed
   outside h kd e n d = go (starts_with (bytes "wait=") s) (starts_with (bytes "loop=") s) (starts_with (bytes "stop=") s) refl refl refl e
     where
@@ -203,20 +202,20 @@ module _ (st : Stand) (s : List ℕ) where
           stops t r.0 (λ b. r.1 (omega arith) b)
       go false false false p q t e = absurd (false≢true e)
 
-  pub out_of_range : (i : ℕ) → spot_of st s ≡ Wrong 16 i → OutOfRange (keys_of st) s i
+  pub out_of_range : (i : ℕ) → spot_of st s ≡ Err (refusal 16 i) → OutOfRange (keys_of st) s i
   unfolding counts
   out_of_range i e = go (came st s)
     where
       go : Came st s (spot_of st s) → OutOfRange (keys_of st) s i
       go (fine w r) = zero_one (cc)
       go (start m w r) =
-          let q : m ≡ 16 = cc in
+          let q = ap number_of (sym r ∙ e) in
           let u = starts_small (keys_of st) (line_of s) m w in
           absurd (omega arith)
-      go (feed w h r) = absurd (let z : ◌≡◌ {A = ℕ} 17 16 = cc in omega arith)
-      go (key h r) = absurd (let z : ◌≡◌ {A = ℕ} 14 16 = cc in omega arith)
+      go (feed w h r) = absurd (let z : ◌≡◌ {A = ℕ} 17 16 = ap number_of (sym r ∙ e) in omega arith)
+      go (key h r) = absurd (let z : ◌≡◌ {A = ℕ} 14 16 = ap number_of (sym r ∙ e) in omega arith)
       go (range h a c r) =
-          let q : i ≡ 5 = cc in
+          let q = ap place_of (sym e ∙ r) in
           is_said (decimal (unfed (drop 5 s))) (both_right (takes s) (said (decimal (unfed (drop 5 s)))) c) (OutOfRange (keys_of st) s i)
           (λ n d.
           record {
@@ -224,9 +223,9 @@ module _ (st : Stand) (s : List ℕ) where
             value = n;
             says = d;
             outside = outside h a (both_left (takes s) (said (decimal (unfed (drop 5 s)))) c) n d;
-            stuck = λ f. let g = missing_feed st s f.begun f.unfed in absurd (let z : ◌≡◌ {A = ℕ} 17 16 = cc in omega arith);
+            stuck = λ f. let g = missing_feed st s f.begun f.unfed in absurd (let z : ◌≡◌ {A = ℕ} 17 16 = ap number_of (sym g ∙ e) in omega arith);
           })
-      go (shape h r) = absurd (let z : ◌≡◌ {A = ℕ} 15 16 = cc in omega arith)
+      go (shape h r) = absurd (let z : ◌≡◌ {A = ℕ} 15 16 = ap number_of (sym r ∙ e) in omega arith)
 
 -- behind a key that takes a decimal there is a place
 pub far_enough : (s : List ℕ) → counts s ≡ true → 5 ≤ length s

@@ -1,4 +1,5 @@
 -- What the judgement of a whole log needs of one line's answer. Assumes nothing.
+use Rattle.std.specs.Prelude.{Ok, Err}
 use mathlib.Core.Path.{◌≡◌, refl, ap, sym, ◌∙◌}
 use mathlib.Core.List.{List}
 use mathlib.Core.Bool.{Bool, true, false, false≢true}
@@ -6,6 +7,7 @@ use Prim.Native.Nat.{ℕ, ◌≤◌, ◌<◌}
 use native.Mathlib.Omega.{arith}
 use borrow.Author.Tests.{ltb-true, eqb-true, lt-ltb, eq-eqb}
 use lib.ListN.{length}
+use Rattle.refusal.specs.Refusal.{refusal, number_of, place_of}
 use Rattle.log_line.specs.declared.Act.{Act}
 use Rattle.log_line.specs.declared.Line.{Line}
 use Rattle.log_line.specs.declared.Line.TheVariants.{Header, Machine, One, Loop, Done, Stop, NoForm, NoRegister}
@@ -13,8 +15,6 @@ use Rattle.log_line.specs.Said.{line_of}
 use Rattle.log_fault.specs.declared.Stand.{Stand}
 use Rattle.log_fault.specs.declared.Stand.TheVariants.{First, Among, Alone}
 use Rattle.log_fault.specs.declared.Whole.TheVariants.{Start}
-use Rattle.log_fault.specs.declared.Spotted.TheVariants.{Right, Wrong}
-use Rattle.log_form.specs.Forms.{reach}
 use Rattle.log_begins.specs.Begins.{begins}
 use Rattle.log_fault.specs.Allowed.{keys_of}
 use Rattle.log_fault.specs.Fault.{spotted, spot_of}
@@ -29,7 +29,7 @@ pub record Told (st : Stand) (s : List ℕ) (l : Line) : Type 0 where
   pub says : line_of s ≡ l
   pub may : allowed (keys_of st) l ≡ true
 
-pub told : (st : Stand) (s : List ℕ) (l : Line) → spot_of st s ≡ Right l → Told st s l
+pub told : (st : Stand) (s : List ℕ) (l : Line) → spot_of st s ≡ Ok l → Told st s l
 told st s l e = go (came st s)
   where
     go : Came st s (spot_of st s) → Told st s l
@@ -42,7 +42,7 @@ told st s l e = go (came st s)
     go (range h i c r) = zero_one (cc)
     go (shape h r) = zero_one (cc)
 
-pub tell : (st : Stand) (s : List ℕ) (l : Line) → line_of s ≡ l → allowed (keys_of st) l ≡ true → spot_of st s ≡ Right l
+pub tell : (st : Stand) (s : List ℕ) (l : Line) → line_of s ≡ l → allowed (keys_of st) l ≡ true → spot_of st s ≡ Ok l
 unfolding spot_of spotted
 tell st s l e a = rw (e, may_fine (keys_of st) l a)
 
@@ -70,11 +70,11 @@ lets_by m d (Stop n) a = turn (ends (eqb-true d 0 a))
 lets_by m d NoForm a = absurd (false≢true a)
 lets_by m d NoRegister a = absurd (false≢true a)
 
-pub lets : (m : Bool) (d : ℕ) (s : List ℕ) (l : Line) → spot_of (Among m d) s ≡ Right l → Lets m d l
+pub lets : (m : Bool) (d : ℕ) (s : List ℕ) (l : Line) → spot_of (Among m d) s ≡ Ok l → Lets m d l
 lets m d s l e = lets_by m d l (told (Among m d) s l e).may
 
 -- `machine=pal` is right as the second line only
-pub second_only : (d : ℕ) (s : List ℕ) → spot_of (Among false d) s ≡ Right Machine → ⊥
+pub second_only : (d : ℕ) (s : List ℕ) → spot_of (Among false d) s ≡ Ok Machine → ⊥
 unfolding keys_of allowed
 second_only d s e = false≢true (told (Among false d) s Machine e).may
 
@@ -96,7 +96,7 @@ first_by (Stop n) a = absurd (false≢true a)
 first_by NoForm a = absurd (false≢true a)
 first_by NoRegister a = absurd (false≢true a)
 
-pub first_header : (s : List ℕ) (l : Line) → spot_of First s ≡ Right l → l ≡ Header
+pub first_header : (s : List ℕ) (l : Line) → spot_of First s ≡ Ok l → l ≡ Header
 first_header s l e = first_by l (told First s l e).may
 
 alone_by : (m : Bool) (d : ℕ) (l : Line) → Lets m d l → allowed (keys_of (Alone m)) l ≡ true
@@ -108,7 +108,7 @@ alone_by m d l (turn (closes h)) = refl
 alone_by m d l (turn (ends h)) = refl
 
 -- what is right at some depth is right where none is known
-pub alone : (m : Bool) (d : ℕ) (s : List ℕ) (l : Line) → spot_of (Among m d) s ≡ Right l → spot_of (Alone m) s ≡ Right l
+pub alone : (m : Bool) (d : ℕ) (s : List ℕ) (l : Line) → spot_of (Among m d) s ≡ Ok l → spot_of (Alone m) s ≡ Ok l
 alone m d s l e = tell (Alone m) s l (told (Among m d) s l e).says (alone_by m d l (lets m d s l e))
 
 -- A FAULT'S NUMBER AND BYTE ARE WITHIN BOUNDS
@@ -118,7 +118,7 @@ pub record Bounded (s : List ℕ) (n i : ℕ) : Type 0 where
   pub high : n ≤ 17
   pub place : i ≤ length s
 
-pub bounded : (st : Stand) (s : List ℕ) (n i : ℕ) → spot_of st s ≡ Wrong n i → Bounded s n i
+pub bounded : (st : Stand) (s : List ℕ) (n i : ℕ) → spot_of st s ≡ Err (refusal n i) → Bounded s n i
 bounded st s n i e = go (came st s)
   where
     started : Starts (keys_of st) (line_of s) n → i ≡ 0 → Bounded s n i
@@ -130,26 +130,26 @@ bounded st s n i e = go (came st s)
     go : Came st s (spot_of st s) → Bounded s n i
     go (fine w r) = zero_one (cc)
     go (start m w r) =
-        let q : m ≡ n = cc in
-        let z : i ≡ 0 = cc in
+        let q = ap number_of (sym r ∙ e) in
+        let z = ap place_of (sym e ∙ r) in
         started (starts (keys_of st) (line_of s) n (w ∙ ap Start q)) z
     go (feed w h r) =
-        let q : n ≡ 17 = cc in
-        let p : i ≡ reach (begins (keys_of st)) s = cc in
+        let q = ap number_of (sym e ∙ r) in
+        let p = ap place_of (sym e ∙ r) in
         let l = reach_length (begins (keys_of st)) s in
         record { low = omega arith; high = omega arith; place = omega arith }
     go (key h r) =
-        let q : n ≡ 14 = cc in
-        let p : i ≡ reach (begins (keys_of st)) s = cc in
+        let q = ap number_of (sym e ∙ r) in
+        let p = ap place_of (sym e ∙ r) in
         let l = reach_length (begins (keys_of st)) s in
         record { low = omega arith; high = omega arith; place = omega arith }
     go (range h a c r) =
-        let q : n ≡ 16 = cc in
-        let p : i ≡ 5 = cc in
+        let q = ap number_of (sym e ∙ r) in
+        let p = ap place_of (sym e ∙ r) in
         let l = far_enough s c in
         record { low = omega arith; high = omega arith; place = omega arith }
     go (shape h r) =
-        let q : n ≡ 15 = cc in
-        let p : i ≡ reach (begins (keys_of st)) s = cc in
+        let q = ap number_of (sym e ∙ r) in
+        let p = ap place_of (sym e ∙ r) in
         let l = reach_length (begins (keys_of st)) s in
         record { low = omega arith; high = omega arith; place = omega arith }

@@ -1,14 +1,14 @@
 // One line of a log at fault: by which number, and at which of its bytes.
 #![tactic(auto)]
 
-ghost use Rattle.std.specs.Prelude.{◌≡◌, take};
-ghost use Rattle.arith.specs.Pick.{pick};
+ghost use Rattle.std.specs.Prelude.{◌≡◌, ◌≤◌, Err, length};
 ghost use Rattle.log_fault.specs.Allowed.{keys_of};
 ghost use Rattle.log_fault.specs.Fault.{whole_of, fault_at, spot_of};
 ghost use Rattle.log_fault.specs.Numbers.{SpottedIs};
 
 use log_begins::Keys;
 use log_line::Line;
+use refusal::Refusal;
 
 // Where a line stands: first; behind the first, with so many loops open; or alone, behind the first with no depth known. Behind the first: whether it
 // is the second.
@@ -27,13 +27,7 @@ pub enum Whole {
     Other,
 }
 
-// What is found of a line: that it is right, and what it says; or the number of its fault, and the byte of it at which that is.
-#[derive(Clone, Copy)]
-pub enum Spotted {
-    Right(Line),
-    Wrong(u8, usize),
-}
-
+#[tactic(auto, unfolding(crate::specs::Allowed::keys_of))]
 fn keys_of(stand: Stand) -> Keys
     ensures { result ≡ keys_of stand }
 {
@@ -65,75 +59,68 @@ fn keys_of(stand: Stand) -> Keys
     }
 }
 
-// The first i bytes of s, or all.
-fn front(s: &[u8], i: usize) -> &[u8]
-    ensures { result.now ≡ take i s.now }
-{
-    if i <= s.len() { &s[..i] } else { s }
-}
-
-fn value_fault(range: bool, i: usize) -> Spotted
-    ensures { result ≡ pick range (Spotted.Wrong 16 5) (Spotted.Wrong 15 i) }
-{
-    if range {
-        Spotted::Wrong(16, 5)
-    } else {
-        Spotted::Wrong(15, i)
-    }
-}
-
 // The fault of a line whose first i bytes begin one that is allowed and right.
-fn fault_at(l: &[u8], i: usize) -> Spotted
-    ensures { result ≡ fault_at l.now i }
+#[tactic(auto, unfolding(crate::specs::Fault::fault_at))]
+fn fault_at(l: &[u8], i: usize) -> Refusal
+    requires { i ≤ length l.now }
+    ensures { Err result ≡ fault_at l.now i }
 {
     if i == l.len() {
-        return Spotted::Wrong(17, i);
+        Refusal {
+            number: 17,
+            place: i,
+        }
+    } else if !log_begins::has_key(&l[..i]) {
+        Refusal {
+            number: 14,
+            place: i,
+        }
+    } else if log_begins::is_count(l) {
+        Refusal {
+            number: 16,
+            place: 5,
+        }
+    } else {
+        Refusal {
+            number: 15,
+            place: i,
+        }
     }
-    if log_begins::has_key(front(l, i)) {
-        return value_fault(log_begins::is_count(l), i);
-    }
-    Spotted::Wrong(14, i)
-}
-
-fn fine_if(allowed: bool, other: Whole) -> Whole
-    ensures { result ≡ pick allowed Whole.Fine other }
-{
-    if allowed { Whole::Fine } else { other }
-}
-
-fn start_if(early: bool, n: u8) -> Whole
-    ensures { result ≡ pick early (Whole.Start n) Whole.Other }
-{
-    if early { Whole::Start(n) } else { Whole::Other }
 }
 
 // What a line that says l comes to as a whole.
+#[tactic(auto, unfolding(crate::specs::Fault::whole_of))]
 fn as_whole(k: Keys, l: Line) -> Whole
     ensures { result ≡ whole_of k l }
 {
     match l {
-        Line::Header => fine_if(k.log, Whole::Other),
-        Line::Machine => fine_if(k.machine, Whole::Other),
-        Line::One(_) => fine_if(k.acts, Whole::Other),
-        Line::Loop(_) => fine_if(k.loops, start_if(!k.log, 7)),
-        Line::Done => fine_if(k.done, start_if(!k.log, 8)),
-        Line::Stop(_) => fine_if(k.stop, start_if(!k.log, 8)),
-        Line::NoForm => Whole::Other,
-        Line::NoRegister => start_if(k.acts, 4),
+        Line::Header if k.log => Whole::Fine,
+        Line::Machine if k.machine => Whole::Fine,
+        Line::One(_) if k.acts => Whole::Fine,
+        Line::Loop(_) if k.loops => Whole::Fine,
+        Line::Loop(_) if !k.log => Whole::Start(7),
+        Line::Done if k.done => Whole::Fine,
+        Line::Done if !k.log => Whole::Start(8),
+        Line::Stop(_) if k.stop => Whole::Fine,
+        Line::Stop(_) if !k.log => Whole::Start(8),
+        Line::NoRegister if k.acts => Whole::Start(4),
+        _ => Whole::Other,
     }
 }
 
-// The fault of the line l, with its line feed if it has one, where it stands.
-pub fn spot(l: &[u8], stand: Stand) -> Spotted
+// What the line l says, with its line feed if it has one, where it stands; or its fault: the number, and the byte of it at which that is.
+pub fn spot(l: &[u8], stand: Stand) -> Result<Line, Refusal>
     ensures value { result ≡ spot_of stand l.now }
     ensures spotted_is { SpottedIs stand l.now result }
 {
     let k = keys_of(stand);
     let said = log_line::line_of(l);
-    let w = as_whole(k, said);
-    match w {
-        Whole::Fine => Spotted::Right(said),
-        Whole::Start(n) => Spotted::Wrong(n, 0),
-        Whole::Other => fault_at(l, log_begins::right_bytes(l, k)),
+    match as_whole(k, said) {
+        Whole::Fine => Ok(said),
+        Whole::Start(n) => Err(Refusal {
+            number: n,
+            place: 0,
+        }),
+        Whole::Other => Err(fault_at(l, log_begins::right_bytes(l, k))),
     }
 }

@@ -1,4 +1,5 @@
 -- What the code finds at a place by its bytes: the tests of a loop, the ends that are tried. Assumes nothing.
+use Rattle.std.specs.Prelude.{Result, Ok, Err}
 use mathlib.Core.Path.{◌≡◌, refl, ap, ap₂, sym, ◌∙◌}
 use mathlib.Core.List.{List}
 use mathlib.Core.Bool.{Bool, true, false}
@@ -7,10 +8,9 @@ use native.Mathlib.Omega.{arith}
 use borrow.Author.Tests.{le-leb, lt-leb, le-ltb, lt-ltb, ltb-true, ltb-false, eq-eqb, ne_eqb}
 use lib.ListN.{length}
 use lib.Dec.{leb, ltb, eqb}
+use Rattle.refusal.specs.declared.Refusal.{Refusal}
 use Rattle.arith.specs.Pick.{pick, both}
 use Rattle.text.specs.Decimal.{decimal_text}
-use Rattle.log_rules.specs.declared.Reading.{Reading}
-use Rattle.log_rules.specs.declared.Reading.TheVariants.{Item, Refused}
 use Rattle.log_line.specs.declared.Line.{Line}
 use Rattle.log_line.specs.declared.Line.TheVariants.{Header, Machine, One, Loop, Done, Stop, NoForm, NoRegister}
 use Rattle.log_rules.specs.Reading.{read_at}
@@ -77,11 +77,11 @@ module _ (log : List ℕ) (at : ℕ) (h : at ≤ length log) where
   act_line_in NoForm next a b = (omega arith, h)
   act_line_in NoRegister next a b = (omega arith, h)
 
-  act_by_in : (r : Reading) → read_at log at ≡ r → (at ≤ act_end_by at r) × (act_end_by at r ≤ length log)
-  act_by_in (Item l next) e =
+  act_by_in : (r : Result (Line × ℕ) Refusal) → read_at log at ≡ r → (at ≤ act_end_by at r) × (act_end_by at r ≤ length log)
+  act_by_in (Ok (l, next)) e =
       let g = had_at log at l next e in
       act_line_in l next (omega (arith, g.on, next_pos log at g.inside)) (omega (arith, g.on, next_le log at h))
-  act_by_in (Refused k p) e = (omega arith, h)
+  act_by_in (Err why) e = (omega arith, h)
 
   pub act_end_in : (at ≤ act_end log at) × (act_end log at ≤ length log)
   unfolding act_end

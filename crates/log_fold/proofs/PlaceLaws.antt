@@ -1,4 +1,5 @@
 -- What the code does at a line outside all loops is what folding the tree says. Assumes nothing.
+use Rattle.std.specs.Prelude.{Ok}
 use mathlib.Core.Path.{◌≡◌, refl, ap, sym, ◌∙◌, subst}
 use mathlib.Core.List.{List, [], ◌∷◌, ◌++◌, append_assoc}
 use mathlib.Core.Bool.{Bool, true, false}
@@ -14,7 +15,6 @@ use Rattle.log_line.specs.declared.Act.{Act}
 use Rattle.log_line.specs.declared.Line.{Line}
 use Rattle.log_line.specs.declared.Line.TheVariants.{One, Loop, Done, Stop}
 use Rattle.log_line.specs.Printed.{line_text, Printable}
-use Rattle.log_rules.specs.declared.Reading.TheVariants.{Item}
 use Rattle.log_rules.specs.Reading.{read_at}
 use Rattle.log_rules.specs.Tree.{Tree, end, act, loop, text, Within}
 use Rattle.log_rules.proofs.PlaceLaws.{had_at, had_text, next_pos, next_le, bytes_long}
@@ -34,7 +34,7 @@ behind_of (closes p q) = q
 behind_of (stops p q n) = q
 
 module _ (log : List ℕ) where
-  pub line_on : (at : ℕ) (l : Line) (p : ℕ) → read_at log at ≡ Item l p → (at < p) × (p ≤ length log) × (p ≡ at + length (line_text l))
+  pub line_on : (at : ℕ) (l : Line) (p : ℕ) → read_at log at ≡ Ok (l, p) → (at < p) × (p ≤ length log) × (p ≡ at + length (line_text l))
   line_on at l p e =
       let h = had_at log at l p e in
       let a = next_pos log at h.inside in

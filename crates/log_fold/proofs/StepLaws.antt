@@ -1,4 +1,5 @@
 -- One move of the code: what it writes, and what is left to be read and to be written. Assumes nothing.
+use Rattle.std.specs.Prelude.{Ok}
 use mathlib.Core.Path.{◌≡◌, refl, ap, sym, ◌∙◌, subst}
 use mathlib.Core.List.{List, [], ◌++◌, append_assoc, append-nil}
 use Prim.Native.Nat.{ℕ, ◌+◌, ◌*◌, ◌-◌, ◌≤◌, ◌<◌}
@@ -7,7 +8,6 @@ use lib.ListN.{length, take, drop, length-append}
 use Rattle.log_line.specs.declared.Act.{Act}
 use Rattle.log_line.specs.declared.Line.TheVariants.{One, Loop, Done, Stop}
 use Rattle.log_line.specs.Printed.{line_text, Printable}
-use Rattle.log_rules.specs.declared.Reading.TheVariants.{Item}
 use Rattle.log_rules.specs.Reading.{read_at}
 use Rattle.log_rules.specs.Tree.{Tree, end, act, loop, times, text, Within}
 use Rattle.log_rules.specs.Block.{closed, read_block, block_answer}
@@ -60,15 +60,15 @@ moved_plain log n k at e w x rest h q a b l i =
       is = rw y i;
     }
 
-move_stop : (log : List ℕ) (at k n p : ℕ) → read_at log at ≡ Item (Stop n) p → move_of log at k ≡ plain_move p
+move_stop : (log : List ℕ) (at k n p : ℕ) → read_at log at ≡ Ok ((Stop n), p) → move_of log at k ≡ plain_move p
 unfolding move_of
 move_stop log at k n p l = rw l
 
-move_loop : (log : List ℕ) (at k m p q r : ℕ) (b : Tree) → read_at log at ≡ Item (Loop m) p → read_block log p 1 ≡ closed b q r → move_of log at k ≡ plain_move r
+move_loop : (log : List ℕ) (at k m p q r : ℕ) (b : Tree) → read_at log at ≡ Ok ((Loop m), p) → read_block log p 1 ≡ closed b q r → move_of log at k ≡ plain_move r
 unfolding move_of block_answer
 move_loop log at k m p q r b l e = rw (l, e)
 
-move_act : (log : List ℕ) (at k p : ℕ) (a : Act) → read_at log at ≡ Item (One a) p → move_of log at k ≡ chosen_in 16 log at k p at
+move_act : (log : List ℕ) (at k p : ℕ) (a : Act) → read_at log at ≡ Ok ((One a), p) → move_of log at k ≡ chosen_in 16 log at k p at
 unfolding move_of
 move_act log at k p a l = rw l
 
@@ -144,7 +144,7 @@ module _ (log : List ℕ) (n k at : ℕ) (a : Act) (u : Tree) (next p₀ q₀ : 
       }
 
 module _ (log : List ℕ) (n k at : ℕ) (s : Printable (Stop n)) (h : k ≤ 1000000) where
-  module _ (a : Act) (u : Tree) (next p₀ q₀ : ℕ) (l : read_at log at ≡ Item (One a) next) (r : Reads log at 0 (act a u) (stops p₀ q₀ n)) (r' : Reads log next 0 u (stops p₀ q₀ n)) (last : length log ≤ q₀) where
+  module _ (a : Act) (u : Tree) (next p₀ q₀ : ℕ) (l : read_at log at ≡ Ok ((One a), next)) (r : Reads log at 0 (act a u) (stops p₀ q₀ n)) (r' : Reads log next 0 u (stops p₀ q₀ n)) (last : length log ≤ q₀) where
     by_choice : (x : Choice) → choice k (leading (act a u)) ≡ x
         → Moved log n k at (text (made a (leading (act a u)) (λ j c. folded u j (k + c)) x) ++ line_text (Stop n)) (to_move log at k next (act a u) p₀ q₀ n r s x)
     unfolding made to_move choice
@@ -170,13 +170,13 @@ module _ (log : List ℕ) (n k at : ℕ) (s : Printable (Stop n)) (h : k ≤ 100
         (subst (λ (t : Tree). Moved log n k at (text t ++ line_text (Stop n)) (to_move log at k next (act a u) p₀ q₀ n r s (choice k (leading (act a u))))) (sym (folded_act a u k))
         (by_choice (choice k (leading (act a u))) refl))
 
-  moved_end : (q : ℕ) → read_at log at ≡ Item (Stop n) q → length log ≤ q → Moved log n k at (text (folded end 0 k) ++ line_text (Stop n)) (move_of log at k)
+  moved_end : (q : ℕ) → read_at log at ≡ Ok ((Stop n), q) → length log ≤ q → Moved log n k at (text (folded end 0 k) ++ line_text (Stop n)) (move_of log at k)
   moved_end q l last =
       let x = line_on log at (Stop n) q l in
       subst (λ (m : Move). Moved log n k at (text (folded end 0 k) ++ line_text (Stop n)) m) (sym (move_stop log at k n q l))
       (moved_plain log n k at q (text (folded end 0 k) ++ line_text (Stop n)) (line_text (Stop n)) [] h (had_split log (had_at log at (Stop n) q l)) x.0 x.1 (none last) (stop_text n k))
 
-  moved_block : (m : ℕ) (b u : Tree) (p₁ q₁ r₁ p q : ℕ) → read_at log at ≡ Item (Loop m) p₁ → Reads log p₁ 1 b (closes q₁ r₁) → Reads log r₁ 0 u (stops p q n) → length log ≤ q
+  moved_block : (m : ℕ) (b u : Tree) (p₁ q₁ r₁ p q : ℕ) → read_at log at ≡ Ok ((Loop m), p₁) → Reads log p₁ 1 b (closes q₁ r₁) → Reads log r₁ 0 u (stops p q n) → length log ≤ q
       → Moved log n k at (text (folded (loop m b u) 0 k) ++ line_text (Stop n)) (move_of log at k)
   moved_block m b u p₁ q₁ r₁ p q l rb r' last =
       let x = line_on log at (Loop m) p₁ l in

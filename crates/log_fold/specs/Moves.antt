@@ -1,13 +1,12 @@
 -- Helper: nobody has to believe this; what the code finds at a place of the log, by its bytes. That it is what folding the tree says is proved.
-use Rattle.std.specs.Prelude.{ℕ, zero, suc, ◌+◌, ◌*◌, ◌-◌, ◌/◌, ◌%◌, ◌≤◌, min, ◌≡◌, List, [], ◌∷◌, ◌++◌, Bool, length, take, drop, get_or, leb, ltb, eqb}
+use Rattle.std.specs.Prelude.{ℕ, zero, suc, ◌+◌, ◌*◌, ◌-◌, ◌/◌, ◌%◌, ◌≤◌, min, ◌≡◌, List, [], ◌∷◌, ◌++◌, Bool, length, take, drop, get_or, leb, ltb, eqb, Result, Ok, Err}
+use Rattle.refusal.specs.declared.Refusal.{Refusal}
 use Rattle.arith.specs.Pick.{pick, both}
 use Rattle.text.specs.Key.{starts_with}
 use Rattle.text.specs.Decimal.{decimal_text}
 use Rattle.log_line.specs.declared.Line.{Line}
 use Rattle.log_line.specs.declared.Line.TheVariants.{Header, Machine, One, Loop, Done, Stop, NoForm, NoRegister}
 use Rattle.log_line.specs.Printed.{line_text}
-use Rattle.log_rules.specs.declared.Reading.{Reading}
-use Rattle.log_rules.specs.declared.Reading.TheVariants.{Item, Refused}
 use Rattle.log_rules.specs.declared.Block.{Block}
 use Rattle.log_rules.specs.declared.Block.TheVariants.{Closed, Stopped}
 use Rattle.log_rules.specs.Reading.{read_at}
@@ -31,9 +30,9 @@ act_line at next (Stop n) = at
 act_line at next NoForm = at
 act_line at next NoRegister = at
 
-abbrev pub act_end_by : ℕ → Reading → ℕ
-act_end_by at (Item l next) = act_line at next l
-act_end_by at (Refused k p) = at
+abbrev pub act_end_by : ℕ → Result (Line × ℕ) Refusal → ℕ
+act_end_by at (Ok (l, next)) = act_line at next l
+act_end_by at (Err e) = at
 
 unfoldable pub act_end : List ℕ → ℕ → ℕ
 act_end log at = act_end_by at (read_at log at)
@@ -80,10 +79,10 @@ chosen_in (suc n) log at k next e =
     (pick (suits_of k (act_end log e - at) (copies_at log at (act_end log e))) (loop_move at (act_end log e) (copies_at log at (act_end log e)))
     (chosen_in n log at k next (act_end log e)))
 
-abbrev pub block_end : ℕ → Block → ℕ
-block_end next (Closed p q t) = q
-block_end next (Stopped p q n t) = next
-block_end next (Block.Refused k p) = next
+abbrev pub block_end : ℕ → Result Block Refusal → ℕ
+block_end next (Ok (Closed p q t)) = q
+block_end next (Ok (Stopped p q n t)) = next
+block_end next (Err e) = next
 
 abbrev pub line_move : List ℕ → ℕ → ℕ → ℕ → Line → Move
 line_move log at k next Header = plain_move next
@@ -95,9 +94,9 @@ line_move log at k next (Stop n) = plain_move next
 line_move log at k next NoForm = plain_move next
 line_move log at k next NoRegister = plain_move next
 
-abbrev pub move_by : List ℕ → ℕ → ℕ → Reading → Move
-move_by log at k (Item l next) = line_move log at k next l
-move_by log at k (Refused j p) = plain_move (length log)
+abbrev pub move_by : List ℕ → ℕ → ℕ → Result (Line × ℕ) Refusal → Move
+move_by log at k (Ok (l, next)) = line_move log at k next l
+move_by log at k (Err e) = plain_move (length log)
 
 unfoldable pub move_of : List ℕ → ℕ → ℕ → Move
 move_of log at k = move_by log at k (read_at log at)

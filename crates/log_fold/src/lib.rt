@@ -15,11 +15,13 @@ use log_block::read_block;
 use log_check::check;
 use log_line::Line;
 use log_read::{read, start};
-use log_rules::{Block, Reading};
+use log_rules::Block;
 use log_writer::put_line;
+use refusal::Refusal;
 use text_print::{fixed, width};
 
 // The answer: 0 and the folded log's length, or a refusal's number and place.
+// Flat, with the number first, as document 01 has it: "a refusal returns its number and place, the state as given, 0 or no for the rest" (`fold_refusal`).
 #[derive(Clone, Copy)]
 pub struct Folded {
     pub number: u8,
@@ -52,24 +54,24 @@ fn act_line(at: usize, next: usize, l: Line) -> usize
     ensures { result ≡ act_line at next l }
 {
     match l {
-        Line::Header => at,
-        Line::Machine => at,
         Line::One(_) => next,
-        Line::Loop(_) => at,
-        Line::Done => at,
-        Line::Stop(_) => at,
-        Line::NoForm => at,
-        Line::NoRegister => at,
+        Line::Header
+        | Line::Machine
+        | Line::Loop(_)
+        | Line::Done
+        | Line::Stop(_)
+        | Line::NoForm
+        | Line::NoRegister => at,
     }
 }
 
+#[tactic(auto, unfolding(crate::specs::Moves::act_end))]
 fn act_end(log: &[u8], at: usize) -> usize
     ensures { result ≡ act_end log.now at }
 {
-    let r = read(log, at);
-    match r {
-        Reading::Item(l, next) => act_line(at, next, l),
-        Reading::Refused(_, _) => at,
+    match read(log, at) {
+        Ok((l, next)) => act_line(at, next, l),
+        Err(_) => at,
     }
 }
 
@@ -79,14 +81,12 @@ fn run_end(log: &[u8], at: usize, m: usize) -> usize
     ensures { result ≡ run_end log.now at m }
 {
     let last = log.len() - m;
-    let mut x = at;
-    while x < last {
+    for x in at..last {
         if log[x + m] != log[x] {
             return x;
         }
-        x += 1;
     }
-    x
+    last
 }
 
 // The same, from what a mark knows; else the bytes are compared.
@@ -95,13 +95,10 @@ fn marked_end(log: &[u8], at: usize, m: usize, mark: u64) -> usize
     ensures { result ≡ run_end log.now at m }
 {
     let known = (mark % 65536) as usize;
-    if mark / 65536 != m as u64 {
-        return run_end(log, at, m);
+    if mark / 65536 == m as u64 && at <= known {
+        return known;
     }
-    if known < at {
-        return run_end(log, at, m);
-    }
-    known
+    run_end(log, at, m)
 }
 
 // How many copies of m bytes stand where behind the first `run` bytes are each the one m further on; 255 at most.
@@ -109,8 +106,7 @@ fn counted(run: usize, m: usize) -> u8
     requires { (run ≤ 60000) × (0 < m) }
     ensures { result ≡ copies_in run m }
 {
-    let c = run / m + 1;
-    if c < 255 { c as u8 } else { 255 }
+    (run / m + 1).min(255) as u8
 }
 
 // How many copies of the bytes from `at` to `end` stand there, the first counted, at most 255. Mark p keeps how far they go, so that no byte is compared
@@ -127,17 +123,12 @@ fn copies(log: &[u8], at: usize, end: usize, p: usize, marks: &mut [u64]) -> u8
 }
 
 // Whether c copies of m bytes become a loop, in a log of k turns so far.
+#[tactic(auto, unfolding(crate::specs::Moves::suits_of))]
 fn suits(k: u64, m: usize, c: u8) -> bool
     requires { (k ≤ 1000000) × (m ≤ 60000) }
     ensures { result ≡ suits_of k m c }
 {
-    if c < 2 {
-        return false;
-    }
-    if c as usize * m <= 16 + width(c as u64) + m {
-        return false;
-    }
-    k + c as u64 <= 1000000
+    2 <= c && 16 + width(u64::from(c)) + m < c as usize * m && k + u64::from(c) <= 1000000
 }
 
 fn looped(at: usize, end: usize, c: u8) -> Move
@@ -162,8 +153,7 @@ fn chosen(log: &[u8], at: usize, k: u64, next: usize, marks: &mut [u64]) -> Move
         return plain(next);
     }
     let mut e = at;
-    let mut p: usize = 0;
-    while p < 16 {
+    for p in 0..16 {
         let n = act_end(log, e);
         if n == e {
             return plain(next);
@@ -173,19 +163,17 @@ fn chosen(log: &[u8], at: usize, k: u64, next: usize, marks: &mut [u64]) -> Move
             return looped(at, n, c);
         }
         e = n;
-        p += 1;
     }
     plain(next)
 }
 
 // Behind a loop's `done`.
-fn block_end(b: Block, next: usize) -> usize
+fn block_end(b: Result<Block, Refusal>, next: usize) -> usize
     ensures { result ≡ block_end next b }
 {
     match b {
-        Block::Closed(_, q, _) => q,
-        Block::Stopped(_, _, _, _) => next,
-        Block::Refused(_, _) => next,
+        Ok(Block::Closed(_, q, _)) => q,
+        Ok(Block::Stopped(_, _, _, _)) | Err(_) => next,
     }
 }
 
@@ -195,26 +183,26 @@ fn line_move(log: &[u8], at: usize, k: u64, next: usize, l: Line, marks: &mut [u
     ensures marked { Marked log.now at marks.new }
 {
     match l {
-        Line::Header => plain(next),
-        Line::Machine => plain(next),
         Line::One(_) => chosen(log, at, k, next, marks),
         Line::Loop(_) => plain(block_end(read_block(log, next, 1), next)),
-        Line::Done => plain(next),
-        Line::Stop(_) => plain(next),
-        Line::NoForm => plain(next),
-        Line::NoRegister => plain(next),
+        Line::Header
+        | Line::Machine
+        | Line::Done
+        | Line::Stop(_)
+        | Line::NoForm
+        | Line::NoRegister => plain(next),
     }
 }
 
+#[tactic(auto, unfolding(crate::specs::Moves::move_of))]
 fn move_at(log: &[u8], at: usize, k: u64, marks: &mut [u64]) -> Move
     requires { (at ≤ length log.now) × (length log.now ≤ 60000) × (k ≤ 1000000) × Marked log.now at marks.old }
     ensures value { result ≡ move_of log.now at k }
     ensures marked { Marked log.now at marks.new }
 {
-    let r = read(log, at);
-    match r {
-        Reading::Item(l, next) => line_move(log, at, k, next, l, marks),
-        Reading::Refused(_, _) => plain(log.len()),
+    match read(log, at) {
+        Ok((l, next)) => line_move(log, at, k, next, l, marks),
+        Err(_) => plain(log.len()),
     }
 }
 
@@ -248,10 +236,9 @@ fn pass(log: &[u8], out: &mut [u8], total: u64, marks: &mut [u64]) -> usize
     let mut k = total;
     while at < log.len() {
         let m = move_at(log, at, k, marks);
-        let end = m.until;
-        to = put(out, to, m.count, &log[at..end]);
+        to = put(out, to, m.count, &log[at..m.until]);
         at = m.next;
-        k = k + m.count as u64;
+        k += u64::from(m.count);
     }
     to
 }

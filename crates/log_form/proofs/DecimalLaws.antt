@@ -4,6 +4,7 @@
 -- Main definitions: `Wide`, what is asked of lo and hi; `Ends`, bytes that go on behind digits to a number in range and its line feed; `Numbered`, bytes at
 -- the front of a decimal from lo to hi and its line feed.
 -- Main statements: `number_sound` and `number_complete`: `begins_number lo hi` is true of bytes exactly where they are such a front.
+use Rattle.std.specs.Prelude.{Some, None}
 use mathlib.Core.Path.{◌≡◌, refl, ap, ◌∙◌}
 use mathlib.Core.List.{List, [], ◌∷◌, ◌++◌}
 use mathlib.Core.Bool.{Bool, true, false, not, false≢true}
@@ -13,12 +14,11 @@ use borrow.Author.Tests.{eq-eqb, ne_eqb, le-leb, leb-true, leb-false, eqb-true, 
 use lib.Dec.{leb, ltb, eqb}
 use Rattle.arith.specs.Pick.{pick, both}
 use Rattle.arith.proofs.PickLaws.{both_left, both_right}
-use Rattle.text.specs.declared.Number.TheVariants.{Is, None}
 use Rattle.text.specs.Decimal.{digit, digits, formed, decimal, digits_of, decimal_text}
 use Rattle.text.proofs.DecimalLaws.{digit_low, decimal_sound, decimal_complete}
 use Rattle.log_form.specs.Forms.{nothing, goes_on, begins_number}
 
-none_is : (n : ℕ) → None ≡ Is n → ⊥
+none_is : (n : ℕ) → None ≡ Some n → ⊥
 none_is n e = let z : ◌≡◌ {A = ℕ} 0 1 = cc in omega arith
 
 -- WHAT GOES ON SO CAN END IN A NUMBER IN RANGE
@@ -27,7 +27,7 @@ none_is n e = let z : ◌≡◌ {A = ℕ} 0 1 = cc in omega arith
 pub record Ends (lo hi n : ℕ) (s : List ℕ) : Type 0 where
   pub more : List ℕ
   pub last : ℕ
-  pub says : digits n more ≡ Is last
+  pub says : digits n more ≡ Some last
   pub low : lo ≤ last
   pub high : last ≤ hi
   pub rest : List ℕ
@@ -117,32 +117,32 @@ module _ (lo hi : ℕ) (w : Wide lo hi) where
       let q : d ∷ (s ++ rest) ≡ [] = cc in
       absurd (let z : ◌≡◌ {A = ℕ} 0 1 = cc in omega arith)
 
-digits_grow : (s : List ℕ) (n m : ℕ) → digits n s ≡ Is m → n ≤ m
+digits_grow : (s : List ℕ) (n m : ℕ) → digits n s ≡ Some m → n ≤ m
 unfolding digits
 digits_grow [] n m e =
     let q : n ≡ m = cc in
     omega arith
 digits_grow (c ∷ s) n m e = go (digit c) e (digits_grow s (n * 10 + (c - 48)) m)
   where
-    go : (b : Bool) → pick b (digits (n * 10 + (c - 48)) s) None ≡ Is m → (digits (n * 10 + (c - 48)) s ≡ Is m → n * 10 + (c - 48) ≤ m) → n ≤ m
+    go : (b : Bool) → pick b (digits (n * 10 + (c - 48)) s) None ≡ Some m → (digits (n * 10 + (c - 48)) s ≡ Some m → n * 10 + (c - 48) ≤ m) → n ≤ m
     go true e r = let l = r e in omega arith
     go false e r = absurd (none_is m e)
 
 -- digits that are read begin with one
 record Read (n c : ℕ) (s : List ℕ) (m : ℕ) : Type 0 where
   first : digit c ≡ true
-  then : digits (n * 10 + (c - 48)) s ≡ Is m
+  then : digits (n * 10 + (c - 48)) s ≡ Some m
 
-read_one : (n c : ℕ) (s : List ℕ) (m : ℕ) → digits n (c ∷ s) ≡ Is m → Read n c s m
+read_one : (n c : ℕ) (s : List ℕ) (m : ℕ) → digits n (c ∷ s) ≡ Some m → Read n c s m
 unfolding digits
 read_one n c s m e = go (digit c) refl e
   where
-    go : (b : Bool) → digit c ≡ b → pick b (digits (n * 10 + (c - 48)) s) None ≡ Is m → Read n c s m
+    go : (b : Bool) → digit c ≡ b → pick b (digits (n * 10 + (c - 48)) s) None ≡ Some m → Read n c s m
     go true q e = record { first = q; then = e }
     go false q e = absurd (none_is m e)
 
 module _ (lo hi : ℕ) (w : Wide lo hi) where
-  goes_complete : (s t rest : List ℕ) (n m : ℕ) → 0 < n → digits n t ≡ Is m → lo ≤ m → m ≤ hi → s ++ rest ≡ t ++ (10 ∷ []) → goes_on lo hi n s ≡ true
+  goes_complete : (s t rest : List ℕ) (n m : ℕ) → 0 < n → digits n t ≡ Some m → lo ≤ m → m ≤ hi → s ++ rest ≡ t ++ (10 ∷ []) → goes_on lo hi n s ≡ true
   unfolding goes_on digits
   goes_complete [] t rest n m p d l h e = refl
   goes_complete (c ∷ s) [] rest n m p d l h e =
@@ -153,7 +153,7 @@ module _ (lo hi : ℕ) (w : Wide lo hi) where
       let q : c ≡ x = cc in
       let f : s ++ rest ≡ t ++ (10 ∷ []) = cc in
       let k : digit c ≡ true = rw q r.first in
-      let g : digits (n * 10 + (c - 48)) t ≡ Is m = rw q r.then in
+      let g : digits (n * 10 + (c - 48)) t ≡ Some m = rw q r.then in
       let b = digits_grow t (n * 10 + (c - 48)) m g in
       let v = digit_low c k in
       rw (ne_eqb c 10 (λ z. below c v z), k, lt-ltb 0 n p, le-leb (n * 10 + (c - 48)) hi (omega arith))
@@ -174,7 +174,7 @@ pub record Numbered (lo hi : ℕ) (s : List ℕ) : Type 0 where
 
 module _ (c : ℕ) (nonzero : c ≡ 48 → ⊥) (first : digit c ≡ true) where
   -- digits behind a first one that is no zero are a decimal
-  led : (t : List ℕ) (m : ℕ) → digits (c - 48) t ≡ Is m → decimal (c ∷ t) ≡ Is m
+  led : (t : List ℕ) (m : ℕ) → digits (c - 48) t ≡ Some m → decimal (c ∷ t) ≡ Some m
   unfolding decimal formed digits
   led [] m e =
       let q : 0 * 10 + (c - 48) ≡ c - 48 = omega arith in
@@ -243,7 +243,7 @@ module _ (lo hi : ℕ) (w : Wide lo hi) where
   unfolding begins_number
   number_of c s d l h e = rw (d, le-leb (min lo 1) (c - 48) l, le-leb (c - 48) hi h) e
 
-  number_read : (s t rest : List ℕ) (m : ℕ) → decimal t ≡ Is m → lo ≤ m → m ≤ hi → s ++ rest ≡ t ++ (10 ∷ []) → begins_number lo hi s ≡ true
+  number_read : (s t rest : List ℕ) (m : ℕ) → decimal t ≡ Some m → lo ≤ m → m ≤ hi → s ++ rest ≡ t ++ (10 ∷ []) → begins_number lo hi s ≡ true
   unfolding begins_number decimal formed digits
   number_read [] t rest m d l h e = refl
   number_read (c ∷ s) [] rest m d l h e = absurd (none_is m d)
@@ -255,7 +255,7 @@ module _ (lo hi : ℕ) (w : Wide lo hi) where
       number_of c s (rw q r.first) (omega arith) (omega arith) (end_complete lo hi w s rest (c - 48) (omega arith) f)
   number_read (c ∷ s) (x ∷ y ∷ t) rest m d l h e = go (eqb x 48) refl d
     where
-      go : (b : Bool) → eqb x 48 ≡ b → pick (not b) (digits 0 (x ∷ y ∷ t)) None ≡ Is m → begins_number lo hi (c ∷ s) ≡ true
+      go : (b : Bool) → eqb x 48 ≡ b → pick (not b) (digits 0 (x ∷ y ∷ t)) None ≡ Some m → begins_number lo hi (c ∷ s) ≡ true
       go true z d = absurd (none_is m d)
       go false z d =
           let r = read_one 0 x (y ∷ t) m d in
@@ -264,7 +264,7 @@ module _ (lo hi : ℕ) (w : Wide lo hi) where
           let k : digit c ≡ true = rw q r.first in
           let a = digit_low c k in
           let n : 0 * 10 + (x - 48) ≡ c - 48 = omega arith in
-          let g : digits (c - 48) (y ∷ t) ≡ Is m = rw n at r.then in
+          let g : digits (c - 48) (y ∷ t) ≡ Some m = rw n at r.then in
           let b = digits_grow (y ∷ t) (c - 48) m g in
           let u : 0 < c - 48 = omega (arith, eqb-false x 48 z) in
           number_of c s k (omega arith) (omega arith) (goes_complete lo hi w s (y ∷ t) rest (c - 48) m u g l h f)

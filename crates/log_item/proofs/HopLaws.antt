@@ -1,24 +1,20 @@
 -- The walk to an act: each step of it keeps the act. Assumes nothing.
+use Rattle.std.specs.Prelude.{Result, Ok, Err}
 use mathlib.Core.Path.{◌≡◌, refl, ap, ◌∙◌}
-use mathlib.Core.List.{List, [], ◌∷◌, ◌++◌}
+use mathlib.Core.List.{List, ◌∷◌, ◌++◌}
 use mathlib.Core.Bool.{Bool, true, false}
 use Prim.Native.Nat.{ℕ, suc, ◌+◌, ◌-◌, ◌*◌, ◌%◌, ◌≤◌, ◌<◌, min}
 use native.Mathlib.Omega.{arith}
 use native.Mathlib.Nat.{mod-lt, mod-le}
 use borrow.Author.Tests.{ltb-true, ltb-false, eqb-true, eqb-false}
-use lib.ListN.{length, get_or, length-append}
+use lib.ListN.{length, length-append}
 use lib.Dec.{ltb, eqb}
-use types.Run.{OneOf, miss}
-use denote.Enum.Declared.{tag_of}
+use Rattle.refusal.specs.declared.Refusal.{Refusal}
 use Rattle.arith.specs.Pick.{pick}
 use Rattle.log_line.specs.declared.Act.{Act}
-use Rattle.log_line.specs.declared.Act.TheVariants.{Wait}
 use Rattle.log_line.specs.declared.Line.{Line}
 use Rattle.log_line.specs.declared.Line.TheVariants.{Header, Machine, One, Loop, Done, Stop, NoForm, NoRegister}
-use Rattle.log_rules.specs.declared.Reading.{Reading}
-use Rattle.log_rules.specs.declared.Reading.TheVariants.{Item}
-use Rattle.log_rules.specs.declared.Block.{Block}
-use Rattle.log_rules.specs.declared.Block.TheVariants.{Closed, Stopped}
+use Rattle.log_rules.specs.declared.Block.TheVariants.{Closed}
 use Rattle.log_rules.specs.Reading.{read_at}
 use Rattle.log_rules.specs.Tree.{Tree, loop, acts, times}
 use Rattle.log_rules.specs.Block.{Got, closed, stopped, refused, read_block, got_tree, totals, block_answer}
@@ -26,9 +22,8 @@ use Rattle.log_rules.proofs.PlaceLaws.{had_at, next_pos, next_le}
 use Rattle.log_rules.proofs.TotalLaws.{length_times}
 use Rattle.log_rules.proofs.Descent.{got_behind}
 use Rattle.log_rules.proofs.Derived.{Ending, closes, stops, Reads, an_act, a_loop, a_done, a_stop, Derived, derived, got, block_of}
-use Rattle.log_item.specs.declared.Hop.{Hop}
-use Rattle.log_item.specs.declared.Hop.TheVariants.{Here, On, Lost}
-use Rattle.log_item.specs.Walk.{acts_at, stay_of, inside_of, here_of, Hops}
+use Rattle.log_item.specs.declared.Hop.TheVariants.{Here, On}
+use Rattle.log_item.specs.Walk.{acts_at, stay_of, inside_of, Hops}
 use Rattle.log_item.proofs.CountLaws.{nth_in, nth_past, get_d_cons, cap_mod, cap_mul, lt_cap, pos_of}
 
 got_tree_lem : (t : Tree) (e : Ending) → got_tree (got t e) ≡ t
@@ -54,7 +49,7 @@ whole_of log i d r (stopped t p q n) h k = record { tree = t; ending = stops p q
 whole_of log i d r (refused n p) h k = absurd (omega arith)
 
 -- where an item leads
-leads : (log : List ℕ) (i : ℕ) (l : Line) (p : ℕ) → read_at log i ≡ Item l p → (i < p) × (p ≤ length log)
+leads : (log : List ℕ) (i : ℕ) (l : Line) (p : ℕ) → read_at log i ≡ Ok (l, p) → (i < p) × (p ≤ length log)
 leads log i l p e =
     let h = had_at log i l p e in
     let z : i ≤ length log = omega (arith, h.inside) in
@@ -76,7 +71,7 @@ module _ (log : List ℕ) (i d r : ℕ) (hr : r ≤ 1000000) (h : r < length (ac
           (u, v, omega arith, rw f (omega arith), rw (s, f) (get_d_cons a (acts t) r y))
 
   loop_step : (n p q s : ℕ) (b t : Tree) (e : Ending) → i < p → p ≤ length log → p ≤ q → q < s → s ≤ length log → Reads log p (d + 1) b (closes q s) → Reads log s d t e
-      → acts_at log i d ≡ acts (loop n b t) → Hops log i d r (inside_of (Closed q s (totals b)) n p d r)
+      → acts_at log i d ≡ acts (loop n b t) → Hops log i d r (inside_of (Ok (Closed q s (totals b))) n p d r)
   unfolding totals acts
   loop_step n p q s b t e u v w x y rd rd' f = go (ltb r (n * min 1000001 (length (acts b)))) refl (rw f at h) (acts_of rd) (acts_of rd')
     where
@@ -95,16 +90,16 @@ module _ (log : List ℕ) (i d r : ℕ) (hr : r ≤ 1000000) (h : r < length (ac
           (omega arith, y, omega arith, rw f₂ (omega arith), rw (f, f₂, m) (nth_past n b t r c'))
 
 -- what the line at i must be
-abbrev pub Next : List ℕ → ℕ → ℕ → ℕ → Reading → Type 0
-Next log i d r (Item (One a) p) = Hops log i d r (stay_of a p d r)
-Next log i d r (Item (Loop n) p) = (d < 8) × Hops log i d r (inside_of (block_answer (read_block log p (d + 1))) n p d r)
-Next log i d r (Item Header p) = ⊥
-Next log i d r (Item Machine p) = ⊥
-Next log i d r (Item Done p) = ⊥
-Next log i d r (Item (Stop n) p) = ⊥
-Next log i d r (Item NoForm p) = ⊥
-Next log i d r (Item NoRegister p) = ⊥
-Next log i d r (Reading.Refused k p) = ⊥
+abbrev pub Next : List ℕ → ℕ → ℕ → ℕ → Result (Line × ℕ) Refusal → Type 0
+Next log i d r (Ok (One a, p)) = Hops log i d r (stay_of a p d r)
+Next log i d r (Ok (Loop n, p)) = (d < 8) × Hops log i d r (inside_of (block_answer (read_block log p (d + 1))) n p d r)
+Next log i d r (Ok (Header, p)) = ⊥
+Next log i d r (Ok (Machine, p)) = ⊥
+Next log i d r (Ok (Done, p)) = ⊥
+Next log i d r (Ok (Stop n, p)) = ⊥
+Next log i d r (Ok (NoForm, p)) = ⊥
+Next log i d r (Ok (NoRegister, p)) = ⊥
+Next log i d r (Err e) = ⊥
 
 next_by : {log : List ℕ} {i d : ℕ} {t : Tree} {e : Ending} (r : ℕ) → r ≤ 1000000 → r < length (acts_at log i d) → Reads log i d t e → Next log i d r (read_at log i)
 unfolding acts block_answer
@@ -121,24 +116,13 @@ next_by {log} {i} r hr h (a_stop l) = absurd (let k = rw (acts_of (a_stop l)) at
 pub next_is : (log : List ℕ) (i d r : ℕ) → r ≤ 1000000 → r < length (acts_at log i d) → Next log i d r (read_at log i)
 next_is log i d r hr h = let w = whole_here log i d r hr h in next_by r hr h w.reads
 
--- the answer of the walk's last step
-pub here_is : (log : List ℕ) (i d r : ℕ) (o : Hop) → OneOf (0 ∷ 2 ∷ []) (tag_of Rattle.log_item.specs.contracts.Hop.the_type o) → Hops log i d r o → here_of o ≡ get_or (acts_at log i d) r (Wait 0)
-here_is log i d r (Here a) t h = h
-here_is log i d r (On i' d' r') t h = absurd (miss (0 ∷ 2 ∷ []) 1 tt t)
-here_is log i d r Lost t h = absurd h
-
-pub inside_lost : (b : Block) (n from d r : ℕ) → OneOf (1 ∷ 2 ∷ []) (tag_of Rattle.log_rules.specs.contracts.Block.the_type b) → Lost ≡ inside_of b n from d r
-inside_lost (Closed p q t) n from d r o = absurd (miss (1 ∷ 2 ∷ []) 0 tt o)
-inside_lost (Stopped p q m t) n from d r o = refl
-inside_lost (Block.Refused k p) n from d r o = refl
-
 -- what `match` knows of a line that is neither an act nor a loop
-pub next_other : (log : List ℕ) (i d r : ℕ) (l : Line) (p : ℕ) → OneOf (0 ∷ 1 ∷ 4 ∷ 5 ∷ 6 ∷ 7 ∷ []) (tag_of Rattle.log_line.specs.contracts.Line.the_type l) → Next log i d r (Item l p) → ⊥
-next_other log i d r Header p o h = h
-next_other log i d r Machine p o h = h
-next_other log i d r (One a) p o h = miss (0 ∷ 1 ∷ 4 ∷ 5 ∷ 6 ∷ 7 ∷ []) 2 tt o
-next_other log i d r (Loop n) p o h = miss (0 ∷ 1 ∷ 4 ∷ 5 ∷ 6 ∷ 7 ∷ []) 3 tt o
-next_other log i d r Done p o h = h
-next_other log i d r (Stop n) p o h = h
-next_other log i d r NoForm p o h = h
-next_other log i d r NoRegister p o h = h
+pub next_other : (log : List ℕ) (i d r : ℕ) (l : Line) (p : ℕ) → ((a : Act) → l ≡ One a → ⊥) → ((n : ℕ) → l ≡ Loop n → ⊥) → Next log i d r (Ok (l, p)) → ⊥
+next_other log i d r Header p f g h = h
+next_other log i d r Machine p f g h = h
+next_other log i d r (One a) p f g h = f a refl
+next_other log i d r (Loop n) p f g h = g n refl
+next_other log i d r Done p f g h = h
+next_other log i d r (Stop n) p f g h = h
+next_other log i d r NoForm p f g h = h
+next_other log i d r NoRegister p f g h = h

@@ -1,8 +1,11 @@
 -- Item k of a log is the list's. Assumes nothing.
+use Rattle.std.specs.Prelude.{Result, Ok, Err}
 use mathlib.Core.Path.{◌≡◌, refl, ap}
 use mathlib.Core.List.{List}
 use mathlib.Core.Bool.{Bool}
 use lib.Dec.{eqb, ltb}
+use Rattle.refusal.specs.declared.Refusal.{Refusal}
+use Rattle.refusal.specs.Refusal.{refusal}
 use Rattle.arith.specs.Pick.{pick}
 use Rattle.arith.proofs.PickLaws.{pick_each}
 use Prim.Native.Nat.{ℕ, ◌≤◌, ◌<◌}
@@ -17,8 +20,6 @@ use Rattle.log_rules.specs.Head.{start_of}
 use Rattle.log_rules.specs.Tree.{Tree, acts, clocks, turns, log_text, Within}
 use Rattle.log_rules.specs.Whole.{tree_of, check_of}
 use Rattle.log_rules.proofs.CheckLaws.{acts_le}
-use Rattle.log_item.specs.declared.Picked.{Picked}
-use Rattle.log_item.specs.declared.Picked.TheVariants.{Is, Refused}
 use Rattle.log_item.specs.Items.{item_number, item_place, item_acts, nth, item_of, item_refusal, item_refusal_place, item_in}
 use Rattle.log_item.specs.Walk.{acts_at}
 use Rattle.log_passing.proofs.Passing.{clear, passes, passing, printed}
@@ -44,11 +45,11 @@ module _ (log : List ℕ) (k : ℕ) where
   pub item_number_lem : item_number (item_of log k) ≡ item_refusal log k
   item_number_lem = item_is.0
 
-  pub item_numbers : (r : Picked) → r ≡ item_of log k
+  pub item_numbers : (r : Result Act Refusal) → r ≡ item_of log k
       → (r ≡ item_of log k) × ((item_number r ≡ item_refusal log k) × ((item_place r ≡ item_refusal_place log) × (item_acts r ≡ item_in log k)))
   item_numbers r e = let i = item_is in rw e (refl, (i.0, (i.1, i.2)))
 
-  pub item_refused : ((check_of log).number ≡ 0 → ⊥) → Refused (check_of log).number (check_of log).place ≡ item_of log k
+  pub item_refused : ((check_of log).number ≡ 0 → ⊥) → Err (refusal (check_of log).number (check_of log).place) ≡ item_of log k
   unfolding item_of
   item_refused h = rw (ne_eqb (check_of log).number 0 h)
 
@@ -63,11 +64,11 @@ module _ (log : List ℕ) (k : ℕ) where
     items_few : length (acts (tree_of log)) ≤ 1000000
     items_few = let a = acts_le (tree_of log) in let b = (clear log h).in_turns in omega arith
 
-    pub item_past : (check_of log).items ≤ k → Refused 11 0 ≡ item_of log k
+    pub item_past : (check_of log).items ≤ k → Err (refusal 11 0) ≡ item_of log k
     unfolding item_of nth
     item_past p = rw (eq-eqb (check_of log).number 0 h, le-ltb k (length (acts (tree_of log))) (rw items_are at p))
 
-    pub item_at : k < (check_of log).items → Is (get_or (acts_at log (start_of log) 0) k (Wait 0)) ≡ item_of log k
+    pub item_at : k < (check_of log).items → Ok (get_or (acts_at log (start_of log) 0) k (Wait 0)) ≡ item_of log k
     unfolding item_of nth
     item_at p = rw (eq-eqb (check_of log).number 0 h, lt-ltb k (length (acts (tree_of log))) (rw items_are at p), acts_start)
 

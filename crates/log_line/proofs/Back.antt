@@ -1,8 +1,9 @@
 -- A line's text is read back as that line. Assumes nothing.
+use Rattle.std.specs.Prelude.{Some}
 use mathlib.Core.Path.{◌≡◌, refl, ap, ◌∙◌}
 use mathlib.Core.List.{List, [], ◌∷◌, ◌++◌}
 use mathlib.Core.Bool.{Bool, true, false, false≢true}
-use Prim.Native.Nat.{ℕ, ◌+◌, ◌-◌, ◌^◌, ◌≤◌, ◌<◌}
+use Prim.Native.Nat.{ℕ, ◌-◌, ◌^◌, ◌≤◌, ◌<◌}
 use native.Mathlib.Omega.{arith}
 use borrow.Author.Tests.{leb-true, eqb-true}
 use lib.ListN.{length, length-append}
@@ -17,7 +18,6 @@ use Rattle.text.specs.Key.{starts_with, exactly}
 use Rattle.text.specs.Numbers.{within}
 use Rattle.text.specs.Decimal.{decimal, decimal_text}
 use Rattle.text.specs.Hex.{hex, hex_text}
-use Rattle.text.specs.declared.Number.TheVariants.{Is}
 use Rattle.text.proofs.NumberLaws.{within_yes}
 use Rattle.text.proofs.DecimalLaws.{decimal_complete}
 use Rattle.text.proofs.HexLaws.{hex_complete}
@@ -67,7 +67,7 @@ fields_said : (r v : ℕ) → write_of (hex_text 4 r ++ (bytes ":" ++ hex_text 2
 unfolding write_of hex_text
 fields_said r v = refl
 
-written_said : (r v : ℕ) → is_register r ≡ true → written (Is r) (Is v) ≡ One (Access (Write r v))
+written_said : (r v : ℕ) → is_register r ≡ true → written (Some r) (Some v) ≡ One (Access (Write r v))
 unfolding written
 written_said r v e = rw e
 

@@ -1,9 +1,10 @@
 -- What a line is read as, it is the text of; or it is a write to no register (4) or not of the form (0). Assumes nothing.
+use Rattle.std.specs.Prelude.{Option, Some, None}
 use mathlib.Core.Path.{◌≡◌, refl, ap, ap₂, sym, ◌∙◌, subst}
 use mathlib.Core.List.{List, [], ◌∷◌, ◌++◌}
 use mathlib.Core.Bool.{true}
 use mathlib.Core.Logic.{◌⊎◌, inl, inr}
-use Prim.Native.Nat.{ℕ, suc, ◌+◌, ◌-◌, ◌^◌, ◌≤◌, ◌<◌}
+use Prim.Native.Nat.{ℕ, suc, ◌-◌, ◌^◌, ◌≤◌, ◌<◌}
 use native.Mathlib.Omega.{arith}
 use borrow.Author.Tests.{eqb-true}
 use lib.ListN.{length, get_or, take, drop, drop_of_length-le}
@@ -18,8 +19,6 @@ use Rattle.text.specs.Key.{starts_with, exactly}
 use Rattle.text.specs.Numbers.{within}
 use Rattle.text.specs.Decimal.{decimal, decimal_text}
 use Rattle.text.specs.Hex.{hex, hex_text}
-use Rattle.text.specs.declared.Number.{Number}
-use Rattle.text.specs.declared.Number.TheVariants.{Is, None}
 use Rattle.text.proofs.NumberLaws.{within_let}
 use Rattle.text.proofs.DecimalLaws.{decimal_sound}
 use Rattle.text.proofs.HexLaws.{hex_sound}
@@ -46,9 +45,9 @@ four s = fault (inl refl)
 
 -- a number behind a key
 number_found : (s v : List ℕ) (lo hi : ℕ) (f : ℕ → Line) → hi < 10 ^ 10
-    → ((n : ℕ) → lo ≤ n → n ≤ hi → v ≡ decimal_text n → Found s (f n)) → (d : Number) → within lo hi (decimal v) ≡ d → Found s (counted f d)
+    → ((n : ℕ) → lo ≤ n → n ≤ hi → v ≡ decimal_text n → Found s (f n)) → (d : Option ℕ) → within lo hi (decimal v) ≡ d → Found s (counted f d)
 unfolding counted
-number_found s v lo hi f h g (Is n) e =
+number_found s v lo hi f h g (Some n) e =
     let w = within_let lo hi n (decimal v) e in
     let a = w.low in
     let b = w.high in
@@ -79,11 +78,11 @@ module _ (s : List ℕ) where
 
 -- the register and the value of a write
 written_found : (s v : List ℕ) → length v ≡ 7 → get_or v 4 0 ≡ 58 → s ≡ ended (bytes "write=" ++ v)
-    → (a b : Number) → hex 4 (take 4 v) ≡ a → hex 2 (drop 5 v) ≡ b → Found s (written a b)
+    → (a b : Option ℕ) → hex 4 (take 4 v) ≡ a → hex 2 (drop 5 v) ≡ b → Found s (written a b)
 unfolding written line_text act_text
 written_found s v h c q None b e f = formless s
-written_found s v h c q (Is r) None e f = formless s
-written_found s v h c q (Is r) (Is n) e f =
+written_found s v h c q (Some r) None e f = formless s
+written_found s v h c q (Some r) (Some n) e f =
     pick_each (Found s) (is_register r) (λ i. right (q ∙ ap (λ (x : List ℕ). ended (bytes "write=" ++ x)) text) (i, value)) (λ i. four s)
   where
     value : n ≤ 255

@@ -1,7 +1,7 @@
 -- What one line of a log says. Document 01: "Lines end in one line feed. First `log=1`. Then `wait=N` (1..1000000), `write=RRRR:VV`
 -- (lower-case hex), `read=4015`, `loop=N` (2..255), `done=loop`. Last `stop=N` (0..2000000000), then nothing." Change request 9: "A log may have
 -- `machine=pal` as its second line".
-use Rattle.std.specs.Prelude.{ℕ, ◌-◌, List, length, get_or, take, drop, eqb}
+use Rattle.std.specs.Prelude.{ℕ, ◌-◌, List, length, get_or, take, drop, eqb, Option, Some, None}
 use Rattle.arith.specs.Pick.{pick, both}
 use Rattle.bus.specs.Register.{is_register}
 use Rattle.bus.specs.declared.Access.TheVariants.{Write, Read}
@@ -10,22 +10,20 @@ use Rattle.text.specs.Key.{starts_with, exactly}
 use Rattle.text.specs.Numbers.{within}
 use Rattle.text.specs.Decimal.{decimal}
 use Rattle.text.specs.Hex.{hex}
-use Rattle.text.specs.declared.Number.{Number}
-use Rattle.text.specs.declared.Number.TheVariants.{Is, None}
 use Rattle.log_line.specs.declared.Act.TheVariants.{Wait, Access}
 use Rattle.log_line.specs.declared.Line.{Line}
 use Rattle.log_line.specs.declared.Line.TheVariants.{Header, Machine, One, Loop, Done, Stop, NoForm, NoRegister}
 
 -- a number that was read as what it stands for; with none the line is not of the form
-unfoldable pub counted : (ℕ → Line) → Number → Line
-counted f (Is n) = f n
+unfoldable pub counted : (ℕ → Line) → Option ℕ → Line
+counted f (Some n) = f n
 counted f None = NoForm
 
 -- refusal 4: "register not among $4000..$4013, $4015, $4017"
-unfoldable pub written : Number → Number → Line
+unfoldable pub written : Option ℕ → Option ℕ → Line
 written None v = NoForm
-written (Is r) None = NoForm
-written (Is r) (Is v) = pick (is_register r) (One (Access (Write r v))) NoRegister
+written (Some r) None = NoForm
+written (Some r) (Some v) = pick (is_register r) (One (Access (Write r v))) NoRegister
 
 -- RRRR:VV of `write=RRRR:VV` (58 is the colon)
 unfoldable pub write_of : List ℕ → Line

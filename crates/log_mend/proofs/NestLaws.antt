@@ -1,4 +1,5 @@
 -- What is carried from line to line is the number of open loops and, of so many, where the innermost begins. Assumes nothing.
+use Rattle.std.specs.Prelude.{Some, None}
 use mathlib.Core.Path.{◌≡◌, refl, sym, ap, ap₂, ◌∙◌}
 use mathlib.Core.List.{List, [], ◌∷◌}
 use mathlib.Core.Bool.{Bool, true, false}
@@ -15,7 +16,7 @@ use Rattle.log_rules.specs.Lines.{lines_of, line_len, bytes_at, next_line}
 use Rattle.log_rules.proofs.PlaceLaws.{bytes_long, next_pos, next_le}
 use Rattle.log_rules.proofs.JudgeLaws.{lines_from, lines_at}
 use Rattle.log_mend.specs.declared.Nest.{Nest}
-use Rattle.log_mend.specs.Mending.{opened, open_behind, first_open, first_place, open_at}
+use Rattle.log_mend.specs.Mending.{opened, open_behind, innermost, open_at}
 use Rattle.log_mend.specs.Nesting.{no_nest, nest_line, nest_lines}
 
 -- s goes with the loops that are open: it counts them, and has the place of the wanted one, from the outermost, while that is open
@@ -82,26 +83,26 @@ marks want log place front f s e =
     rw (e, f) (lines_marks want 0 (lines_of (take place log)) [] no_nest (record { depth = refl; mark = λ h k. absurd (omega arith) }))
 
 -- what the code answers: none where none is open
-pub none_open : {want : ℕ} {loops : List ℕ} {s : Nest} → Marks want loops s → s.depth ≡ 0 → (false ≡ first_open loops) × (0 ≡ first_place loops)
+pub none_open : {want : ℕ} {loops : List ℕ} {s : Nest} → Marks want loops s → s.depth ≡ 0 → None ≡ innermost loops
 none_open {want} {loops} {s} m z = go loops (let d = m.depth in omega arith)
   where
-    go : (o : List ℕ) → length o ≡ 0 → (false ≡ first_open o) × (0 ≡ first_place o)
-    go [] e = (refl, refl)
+    go : (o : List ℕ) → length o ≡ 0 → None ≡ innermost o
+    go [] e = refl
     go (p ∷ o) e = absurd (omega arith)
 
 -- and the latest that made them so many as are open
 pub some_open : {want k : ℕ} {loops : List ℕ} {s t : Nest} → Marks k loops s → (s.depth ≡ 0 → ⊥) → want ≡ s.depth → Marks want loops t
-    → (true ≡ first_open loops) × (t.mark ≡ first_place loops)
+    → Some t.mark ≡ innermost loops
 some_open {want} {k} {loops} {s} {t} m z w n =
     let d = m.depth in
     go loops (omega (arith, w, d)) (omega (arith, z, d)) n.mark
   where
     go : (o : List ℕ) → want ≡ length o → 0 < length o → (0 < want → want ≤ length o → t.mark ≡ get_or o (length o - want) 0)
-        → (true ≡ first_open o) × (t.mark ≡ first_place o)
+        → Some t.mark ≡ innermost o
     go [] e h f = absurd (omega arith)
     go (p ∷ o) e h f =
         let i : suc (length o) - want ≡ 0 = omega arith in
-        (refl, rw i at (f (omega arith) (omega arith)))
+        ap Some (rw i at (f (omega arith) (omega arith)))
 
 -- ONE LINE OF THE CODE
 

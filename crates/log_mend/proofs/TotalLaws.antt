@@ -1,4 +1,5 @@
 -- The totals of a log whose lines are right are those of the block behind its head. Assumes nothing.
+use Rattle.std.specs.Prelude.{Result, Ok, Err}
 use mathlib.Core.Path.{◌≡◌, refl, ap, sym, ◌∙◌}
 use mathlib.Core.List.{List, [], ◌∷◌}
 use mathlib.Core.Bool.{Bool, true, false}
@@ -7,13 +8,14 @@ use native.Mathlib.Omega.{arith}
 use borrow.Author.Tests.{ltb-false}
 use lib.Dec.{eqb, ltb}
 use lib.ListN.{length}
+use Rattle.refusal.specs.declared.Refusal.{Refusal}
+use Rattle.refusal.specs.Refusal.{refusal, number_of}
 use Rattle.arith.specs.Pick.{pick, either}
+use Rattle.log_line.specs.declared.Line.{Line}
 use Rattle.log_line.specs.declared.Line.TheVariants.{Header}
 use Rattle.log_line.specs.Said.{line_of}
 use Rattle.log_fault.specs.declared.Stand.{Stand as Standing}
 use Rattle.log_fault.specs.declared.Stand.TheVariants.{First, Among}
-use Rattle.log_fault.specs.declared.Spotted.{Spotted}
-use Rattle.log_fault.specs.declared.Spotted.TheVariants.{Right, Wrong}
 use Rattle.log_fault.specs.declared.Whole.TheVariants.{Start}
 use Rattle.log_fault.specs.Allowed.{keys_of}
 use Rattle.log_fault.specs.Fault.{spot_of}
@@ -40,7 +42,7 @@ abbrev Lined : Verdict → Type 0
 Lined right = Unit {0}
 Lined (wrong k p) = no_line k ≡ false
 
-spot_lined : (st : Standing) (s : List ℕ) (n i : ℕ) → spot_of st s ≡ Wrong n i → no_line n ≡ false
+spot_lined : (st : Standing) (s : List ℕ) (n i : ℕ) → spot_of st s ≡ Err (refusal n i) → no_line n ≡ false
 spot_lined st s n i e = go (came st s)
   where
     started : Starts (keys_of st) (line_of s) n → no_line n ≡ false
@@ -51,16 +53,16 @@ spot_lined st s n i e = go (came st s)
 
     go : Came st s (spot_of st s) → no_line n ≡ false
     go (fine w r) = zero_one (cc)
-    go (start m w r) = let q : m ≡ n = cc in started (starts (keys_of st) (line_of s) n (w ∙ ap Start q))
-    go (feed w h r) = let q : n ≡ 17 = cc in rw q
-    go (key h r) = let q : n ≡ 14 = cc in rw q
-    go (range h a c r) = let q : n ≡ 16 = cc in rw q
-    go (shape h r) = let q : n ≡ 15 = cc in rw q
+    go (start m w r) = let q = ap number_of (sym r ∙ e) in started (starts (keys_of st) (line_of s) n (w ∙ ap Start q))
+    go (feed w h r) = let q = ap number_of (sym e ∙ r) in rw q
+    go (key h r) = let q = ap number_of (sym e ∙ r) in rw q
+    go (range h a c r) = let q = ap number_of (sym e ∙ r) in rw q
+    go (shape h r) = let q = ap number_of (sym e ∙ r) in rw q
 
-found_lined : (st : Standing) (at : ℕ) (l : List ℕ) (f : Spotted) → spot_of st l ≡ f → Lined (found_at at f)
+found_lined : (st : Standing) (at : ℕ) (l : List ℕ) (f : Result Line Refusal) → spot_of st l ≡ f → Lined (found_at at f)
 unfolding found_at
-found_lined st at l (Right m) e = tt
-found_lined st at l (Wrong k i) e = spot_lined st l k i e
+found_lined st at l (Ok m) e = tt
+found_lined st at l (Err why) e = spot_lined st l why.number why.place e
 
 verdict_lined : (s : Stand) (at : ℕ) (l : List ℕ) → Lined (verdict s at l)
 unfolding verdict
@@ -120,13 +122,13 @@ module _ (log : List ℕ) (c : Fine log) where
       go [] h = absurd (not_right h)
       go (b ∷ s) h = omega arith
 
-  first_line : (f : Spotted) → spot_of First (bytes_at log 0) ≡ f → unless (found_at 0 f) (judge_at log second (next_line log 0)) ≡ right
-      → spot_of First (bytes_at log 0) ≡ Right Header
+  first_line : (f : Result Line Refusal) → spot_of First (bytes_at log 0) ≡ f → unless (found_at 0 f) (judge_at log second (next_line log 0)) ≡ right
+      → spot_of First (bytes_at log 0) ≡ Ok Header
   unfolding found_at unless
-  first_line (Right l) e h = e ∙ ap Right (first_header (bytes_at log 0) l e)
-  first_line (Wrong k i) e h = absurd (not_right h)
+  first_line (Ok l) e h = e ∙ ap Ok (first_header (bytes_at log 0) l e)
+  first_line (Err why) e h = absurd (not_right h)
 
-  headed : spot_of First (bytes_at log 0) ≡ Right Header
+  headed : spot_of First (bytes_at log 0) ≡ Ok Header
   headed = first_line (spot_of First (bytes_at log 0)) refl (sym (judged_first log c.short some) ∙ c.fine)
 
   totals_of_lem : (g : Got) → Derived log (start_of log) 0 g → after log 0 g ≡ right → block_totals (block_answer g) ≡ totals (tree_of log)
@@ -148,10 +150,9 @@ unfolding totals_of
 totals_wrong log h = rw h
 
 -- the test that the code makes of what a check answered
-pub right_by_lem : (log : List ℕ) (c : Checked) (a b : Bool) → c ≡ check_of log → b ≡ either (eqb c.number 9) (eqb c.number 10)
-    → a ≡ either (eqb c.number 0) b → lines_right log ≡ a
+pub right_by_lem : (log : List ℕ) (c : Checked) → c ≡ check_of log → lines_right log ≡ either (eqb c.number 0) (either (eqb c.number 9) (eqb c.number 10))
 unfolding lines_right
-right_by_lem log c a b e f g = sym (g ∙ rw (f, e) refl)
+right_by_lem log c e = rw e refl
 
 -- OF A LOG WHOSE `stop` IS WRONG THEY ARE WHOLE
 

@@ -1,5 +1,5 @@
 -- What helps to mend a log that is refused by its totals or its loops.
-use Rattle.std.specs.Prelude.{ℕ, ◌+◌, Bool, true, false, ◌≡◌, List, [], ◌∷◌, eqb, length, take}
+use Rattle.std.specs.Prelude.{ℕ, ◌+◌, Bool, ◌≡◌, Option, Some, None, List, [], ◌∷◌, eqb, length, take}
 use Rattle.arith.specs.Pick.{pick, either}
 use Rattle.log_line.specs.declared.Line.{Line}
 use Rattle.log_line.specs.declared.Line.TheVariants.{Header, Machine, One, Loop, Done, Stop, NoForm, NoRegister}
@@ -39,14 +39,10 @@ unfoldable pub open_behind : ℕ → List (List ℕ) → List ℕ → List ℕ
 open_behind at [] loops = loops
 open_behind at (l ∷ ls) loops = open_behind (at + length l) ls (opened at (line_of l) loops)
 
--- the innermost: whether there is one, and where it begins
-abbrev pub first_open : List ℕ → Bool
-first_open [] = false
-first_open (p ∷ loops) = true
-
-abbrev pub first_place : List ℕ → ℕ
-first_place [] = 0
-first_place (p ∷ loops) = p
+-- where the innermost begins, if there is one
+abbrev pub innermost : List ℕ → Option ℕ
+innermost [] = None
+innermost (p ∷ loops) = Some p
 
 -- THE INNERMOST LOOP THAT IS OPEN AT A PLACE
 unfoldable pub open_at : List ℕ → ℕ → List ℕ

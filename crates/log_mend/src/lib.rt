@@ -1,24 +1,18 @@
 // What helps to mend a log that is refused: its totals, and the loop that is open at a place.
 #![tactic(auto)]
 
-ghost use Rattle.std.specs.Prelude.{◌≡◌, ◌-◌, ◌<◌, take};
-ghost use Rattle.arith.specs.Pick.{pick};
+ghost use Rattle.std.specs.Prelude.{◌≡◌, ◌<◌, eqb};
+ghost use Rattle.arith.specs.Pick.{either};
 ghost use Rattle.log_rules.specs.Lines.{lines_of};
-ghost use Rattle.log_rules.specs.Block.{no_totals, block_totals};
-ghost use Rattle.log_mend.specs.Mending.{totals_of, first_open, first_place, open_at};
+ghost use Rattle.log_rules.specs.Block.{block_totals};
+ghost use Rattle.log_mend.specs.Mending.{totals_of, innermost, open_at};
 ghost use Rattle.log_mend.specs.Nesting.{no_nest, nest_line, nest_lines};
 
 use log_block::read_block;
 use log_line::{Line, line_of};
 use log_read::{line_end, start};
 use log_rules::{Block, Totals};
-
-// The innermost loop that is open at a place: whether there is one, and where its line begins.
-#[derive(Clone, Copy)]
-pub struct Opened {
-    pub found: bool,
-    pub place: usize,
-}
+use refusal::Refusal;
 
 // How many loops are open, and where the latest line begins that made them so many as are wanted.
 #[derive(Clone, Copy)]
@@ -27,52 +21,32 @@ struct Nest {
     pub mark: usize,
 }
 
-fn nothing() -> Totals
-    ensures { result ≡ no_totals }
-{
-    Totals {
-        clocks: 0,
-        turns: 0,
-        items: 0,
-    }
-}
-
 // The totals of a block that was read.
-fn block_totals(b: Block) -> Totals
+fn block_totals(b: Result<Block, Refusal>) -> Totals
     ensures { result ≡ block_totals b }
 {
     match b {
-        Block::Closed(_, _, t) => t,
-        Block::Stopped(_, _, _, t) => t,
-        Block::Refused(_, _) => nothing(),
+        Ok(Block::Closed(_, _, t) | Block::Stopped(_, _, _, t)) => t,
+        Err(_) => Totals::NONE,
     }
+}
+
+// Whether every line of a log is right, from the number that its check answers: it passes, or 9 or 10 holds.
+fn lines_right(number: u8) -> bool
+    ensures { result ≡ either (eqb number 0) (either (eqb number 9) (eqb number 10)) }
+{
+    number == 0 || number == 9 || number == 10
 }
 
 // The totals of a log whose lines are right, each cut off just above what a log may have; none of another.
 pub fn totals(log: &[u8]) -> Totals
     ensures { result ≡ totals_of log.now }
 {
-    let c = log_check::check(log);
-    if arith::either_of(
-        c.number == 0,
-        arith::either_of(c.number == 9, c.number == 10),
-    ) {
-        return block_totals(read_block(log, start(log), 0));
+    if lines_right(log_check::check(log).number) {
+        block_totals(read_block(log, start(log), 0))
+    } else {
+        Totals::NONE
     }
-    nothing()
-}
-
-// One less, and 0 of 0.
-fn less(x: usize) -> usize
-    ensures { result ≡ x - 1 }
-{
-    if x == 0 { 0 } else { x - 1 }
-}
-
-fn pick_place(test: bool, a: usize, b: usize) -> usize
-    ensures { result ≡ pick test a b }
-{
-    if test { a } else { b }
 }
 
 // Behind a line that begins at a place.
@@ -83,18 +57,13 @@ fn nest_line(want: usize, at: usize, l: Line, s: Nest) -> Nest
     match l {
         Line::Loop(_) => Nest {
             depth: s.depth + 1,
-            mark: pick_place(s.depth + 1 == want, at, s.mark),
+            mark: if s.depth + 1 == want { at } else { s.mark },
         },
         Line::Done => Nest {
-            depth: less(s.depth),
-            mark: s.mark,
+            depth: s.depth.saturating_sub(1),
+            ..s
         },
-        Line::Header => s,
-        Line::Machine => s,
-        Line::One(_) => s,
-        Line::Stop(_) => s,
-        Line::NoForm => s,
-        Line::NoRegister => s,
+        _ => s,
     }
 }
 
@@ -112,29 +81,15 @@ fn nested(log: &[u8], want: usize) -> Nest
     s
 }
 
-// The first k bytes of s.
-fn front(s: &[u8], k: usize) -> &[u8]
-    ensures { result.now ≡ take k s.now }
+// Where the line of the innermost loop begins that is open at a place, if one is: the latest that opened so many loops as are open there.
+pub fn open_at(log: &[u8], place: usize) -> Option<usize>
+    ensures { result ≡ innermost (open_at log.now place) }
 {
-    if k <= s.len() { &s[..k] } else { s }
-}
-
-// The innermost loop that is open at a place: the latest line that opened so many loops as are open there.
-pub fn open_at(log: &[u8], place: usize) -> Opened
-    ensures found_value { result.found ≡ first_open (open_at log.now place) }
-    ensures place_value { result.place ≡ first_place (open_at log.now place) }
-{
-    let s = front(log, place);
-    let n = nested(s, 0);
-    if n.depth == 0 {
-        return Opened {
-            found: false,
-            place: 0,
-        };
-    }
-    let m = nested(s, n.depth);
-    Opened {
-        found: true,
-        place: m.mark,
+    let s = &log[..place.min(log.len())];
+    let depth = nested(s, 0).depth;
+    if depth == 0 {
+        None
+    } else {
+        Some(nested(s, depth).mark)
     }
 }

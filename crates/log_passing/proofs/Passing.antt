@@ -1,5 +1,6 @@
 -- A log that passes: how it is read, that it is the text of exactly one machine and tree with its `stop`, and that every such text passes. Assumes
 -- nothing.
+use Rattle.std.specs.Prelude.{Result, Ok, Err}
 use mathlib.Core.Path.{◌≡◌, refl, ap, ap₂, sym, ◌∙◌}
 use mathlib.Core.List.{List, [], ◌∷◌, ◌++◌, append_assoc, append-nil}
 use mathlib.Core.Bool.{Bool, true, false}
@@ -8,17 +9,15 @@ use native.Mathlib.Omega.{arith}
 use borrow.Author.Tests.{eqb-true, ltb-false, eq-eqb, le-ltb}
 use lib.ListN.{length, drop, drop_of_length-le}
 use lib.Dec.{eqb, ltb}
+use Rattle.refusal.specs.declared.Refusal.{Refusal}
 use Rattle.arith.specs.Pick.{pick, either}
 use Rattle.log_line.specs.declared.Line.{Line}
 use Rattle.log_line.specs.declared.Line.TheVariants.{Header, Machine, One, Loop, Done, Stop}
 use Rattle.log_line.specs.Printed.{line_text, Printable}
 use Rattle.log_fault.specs.declared.Stand.TheVariants.{First, Among}
-use Rattle.log_fault.specs.declared.Spotted.{Spotted}
-use Rattle.log_fault.specs.declared.Spotted.TheVariants.{Right, Wrong}
 use Rattle.log_fault.specs.Fault.{spot_of}
 use Rattle.log_fault.specs.declared.Stand.{Stand as Standing}
 use Rattle.log_fault.proofs.Standing.{bounded, first_header}
-use Rattle.log_rules.specs.declared.Reading.TheVariants.{Item}
 use Rattle.log_rules.specs.Lines.{lines_of, bytes_at, next_line}
 use Rattle.log_rules.specs.Head.{head_text, machine_of, start_of}
 use Rattle.log_rules.specs.Reading.{standing, read_in, read_at}
@@ -39,10 +38,10 @@ abbrev Numbered : Verdict → Type 0
 Numbered right = Unit {0}
 Numbered (wrong k p) = 0 < k
 
-placed_numbered : (st : Standing) (at : ℕ) (l : List ℕ) (f : Spotted) → spot_of st l ≡ f → Numbered (found_at at f)
+placed_numbered : (st : Standing) (at : ℕ) (l : List ℕ) (f : Result Line Refusal) → spot_of st l ≡ f → Numbered (found_at at f)
 unfolding found_at
-placed_numbered st at l (Right m) e = tt
-placed_numbered st at l (Wrong k i) e = let h = (bounded st l k i e).low in omega arith
+placed_numbered st at l (Ok m) e = tt
+placed_numbered st at l (Err why) e = let h = (bounded st l why.number why.place e).low in omega arith
 
 verdict_numbered : (s : Stand) (at : ℕ) (l : List ℕ) → Numbered (verdict s at l)
 unfolding verdict
@@ -125,9 +124,9 @@ passes {log} c =
 -- HOW A LOG THAT PASSES IS READ
 
 pub record Passing (log : List ℕ) : Type 0 where
-  pub header : read_at log 0 ≡ Item Header 6
+  pub header : read_at log 0 ≡ Ok (Header, 6)
   pub ntsc : machine_of log ≡ false → start_of log ≡ 6
-  pub pal : machine_of log ≡ true → read_in (standing log 6 0) log 6 ≡ Item Machine (start_of log)
+  pub pal : machine_of log ≡ true → read_in (standing log 6 0) log 6 ≡ Ok (Machine, start_of log)
   pub head : log ≡ head_text (machine_of log) ++ drop (start_of log) log
   pub place : ℕ
   pub behind : ℕ
@@ -146,16 +145,16 @@ module _ (log : List ℕ) (c : Clear log) where
       go [] h = absurd (not_right h)
       go (b ∷ s) h = omega arith
 
-  first_line : (f : Spotted) → spot_of First (bytes_at log 0) ≡ f → unless (found_at 0 f) (judge_at log second (next_line log 0)) ≡ right
-      → spot_of First (bytes_at log 0) ≡ Right Header
+  first_line : (f : Result Line Refusal) → spot_of First (bytes_at log 0) ≡ f → unless (found_at 0 f) (judge_at log second (next_line log 0)) ≡ right
+      → spot_of First (bytes_at log 0) ≡ Ok Header
   unfolding found_at unless
-  first_line (Right l) e h = e ∙ ap Right (first_header (bytes_at log 0) l e)
-  first_line (Wrong k i) e h = absurd (not_right h)
+  first_line (Ok l) e h = e ∙ ap Ok (first_header (bytes_at log 0) l e)
+  first_line (Err why) e h = absurd (not_right h)
 
-  headed : spot_of First (bytes_at log 0) ≡ Right Header
+  headed : spot_of First (bytes_at log 0) ≡ Ok Header
   headed = first_line (spot_of First (bytes_at log 0)) refl (sym (judged_first log c.short some) ∙ c.fine)
 
-  at_header : read_at log 0 ≡ Item Header 6
+  at_header : read_at log 0 ≡ Ok (Header, 6)
   unfolding read_at
   at_header = read_some First log 0 c.short some ∙ rw (headed, first_next log headed)
 

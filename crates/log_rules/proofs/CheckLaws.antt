@@ -1,4 +1,5 @@
 -- The check that the code makes is the one that is defined line by line. Assumes nothing.
+use Rattle.std.specs.Prelude.{Result, Ok, Err}
 use mathlib.Core.Path.{◌≡◌, refl, ap, sym, ◌∙◌}
 use mathlib.Core.List.{List, [], ◌∷◌}
 use mathlib.Core.Bool.{Bool, true, false}
@@ -8,12 +9,11 @@ use native.Mathlib.Nat.{mul-le-mul}
 use borrow.Author.Tests.{ltb-true, ltb-false, lt-ltb, le-ltb}
 use lib.ListN.{length, length-append}
 use lib.Dec.{eqb, ltb}
+use Rattle.refusal.specs.declared.Refusal.{Refusal}
 use Rattle.arith.specs.Pick.{pick}
 use Rattle.log_line.specs.declared.Line.{Line}
 use Rattle.log_line.specs.declared.Line.TheVariants.{Header, One, Loop}
 use Rattle.log_rules.specs.declared.Checked.{Checked}
-use Rattle.log_rules.specs.declared.Reading.{Reading}
-use Rattle.log_rules.specs.declared.Reading.TheVariants.{Item, Refused}
 use Rattle.log_rules.specs.Lines.{lines_of, bytes_at, next_line}
 use Rattle.log_rules.specs.Head.{machine_of, start_of}
 use Rattle.log_rules.specs.Reading.{taken, read_in, read_at}
@@ -25,8 +25,6 @@ use Rattle.log_rules.specs.Closing.{totalled, limited, closing}
 use Rattle.log_rules.proofs.PlaceLaws.{Had, had_at, had_says, bytes_long, next_le, read_some, read_long}
 use Rattle.log_fault.specs.declared.Stand.{Stand as Standing}
 use Rattle.log_fault.specs.declared.Stand.TheVariants.{First}
-use Rattle.log_fault.specs.declared.Spotted.{Spotted}
-use Rattle.log_fault.specs.declared.Spotted.TheVariants.{Right, Wrong}
 use Rattle.log_fault.specs.Fault.{spot_of}
 use Rattle.log_fault.proofs.Standing.{first_header}
 use Rattle.log_rules.proofs.TotalLaws.{length_times}
@@ -136,9 +134,9 @@ pub record BehindHead (log : List ℕ) (at : ℕ) : Type 0 where
   pub stop : stopping_of log ≡ stop_from at (lines_from log at)
 
 -- the check, from what reading at 0 finds
-abbrev pub CheckedBy : List ℕ → Reading → Type 0
-CheckedBy log (Item l p) = closing (machine_of log) (length log) (block_answer (read_block log (start_of log) 0)) ≡ check_of log
-CheckedBy log (Refused k p) = check_refusal k p ≡ check_of log
+abbrev pub CheckedBy : List ℕ → Result (Line × ℕ) Refusal → Type 0
+CheckedBy log (Ok (l, p)) = closing (machine_of log) (length log) (block_answer (read_block log (start_of log) 0)) ≡ check_of log
+CheckedBy log (Err e) = check_refusal e.number e.place ≡ check_of log
 
 module _ (log : List ℕ) (short : length log ≤ 60000) (some : 0 < length log) where
   check_short : check_of log ≡ unless_wrong (judged log) (weighed (machine_of log) (tree_of log) (stopping_of log))
@@ -149,7 +147,7 @@ module _ (log : List ℕ) (short : length log ≤ 60000) (some : 0 < length log)
   unfolding judged verdict behind
   judged_first = judge_at_lem log 0 first some
 
-  module _ (e : spot_of First (bytes_at log 0) ≡ Right Header) where
+  module _ (e : spot_of First (bytes_at log 0) ≡ Ok Header) where
     at_second : judged log ≡ judge_at log second 6
     unfolding found_at unless
     at_second = judged_first ∙ rw (e, first_next log e)
@@ -191,10 +189,10 @@ module _ (log : List ℕ) (short : length log ≤ 60000) (some : 0 < length log)
         closing_is (machine_of log) log (start_of log) (read_block log (start_of log) 0) (derived log (start_of log) 0)
         ∙ sym (check_short ∙ rw (h.found, h.tree, h.stop) refl)
 
-  first_by : (f : Spotted) → spot_of First (bytes_at log 0) ≡ f → CheckedBy log (taken 0 (next_line log 0) f)
+  first_by : (f : Result Line Refusal) → spot_of First (bytes_at log 0) ≡ f → CheckedBy log (taken 0 (next_line log 0) f)
   unfolding found_at unless unless_wrong
-  first_by (Right l) e = headed (e ∙ ap Right (first_header (bytes_at log 0) l e))
-  first_by (Wrong k i) e = sym (check_short ∙ rw (judged_first, e) refl)
+  first_by (Ok l) e = headed (e ∙ ap Ok (first_header (bytes_at log 0) l e))
+  first_by (Err why) e = sym (check_short ∙ rw (judged_first, e) refl)
 
 short_by : (log : List ℕ) → length log ≤ 60000 → CheckedBy log (read_at log 0)
 unfolding read_at read_in check_of judged judge lines_of ending unless_wrong

@@ -1,14 +1,14 @@
 -- The reading of a block as a derivation, line by line: what proofs about a log that passed go by. Assumes nothing.
+use Rattle.std.specs.Prelude.{Result, Ok, Err}
 use mathlib.Core.Path.{◌≡◌, refl, ap, ◌∙◌}
 use mathlib.Core.List.{List}
 use Prim.Native.Nat.{ℕ, zero, suc, ◌+◌, ◌≤◌, ◌<◌}
 use native.Mathlib.Omega.{arith}
 use lib.ListN.{length}
+use Rattle.refusal.specs.declared.Refusal.{Refusal}
 use Rattle.log_line.specs.declared.Act.{Act}
 use Rattle.log_line.specs.declared.Line.{Line}
 use Rattle.log_line.specs.declared.Line.TheVariants.{Header, Machine, One, Loop, Done, Stop, NoForm, NoRegister}
-use Rattle.log_rules.specs.declared.Reading.{Reading}
-use Rattle.log_rules.specs.declared.Reading.TheVariants.{Item}
 use Rattle.log_rules.specs.Reading.{standing, read_in, read_at}
 use Rattle.log_fault.proofs.Standing.{act as acts-on, opens as opened-on, closes as closes-on, ends as ends_on}
 use Rattle.log_rules.specs.Lines.{bytes_at}
@@ -23,11 +23,11 @@ pub data Ending : Type 0 where
   stops : ℕ → ℕ → ℕ → Ending
 
 pub data Reads (log : List ℕ) : ℕ → ℕ → Tree → Ending → Type 0 where
-  an_act : {at d p : ℕ} {a : Act} {t : Tree} {e : Ending} → read_at log at ≡ Item (One a) p → Reads log p d t e → Reads log at d (act a t) e
-  a_loop : {at d n p q r : ℕ} {b t : Tree} {e : Ending} → read_at log at ≡ Item (Loop n) p → 0 < n → d < 8
+  an_act : {at d p : ℕ} {a : Act} {t : Tree} {e : Ending} → read_at log at ≡ Ok (One a, p) → Reads log p d t e → Reads log at d (act a t) e
+  a_loop : {at d n p q r : ℕ} {b t : Tree} {e : Ending} → read_at log at ≡ Ok (Loop n, p) → 0 < n → d < 8
       → Reads log p (d + 1) b (closes q r) → Reads log r d t e → Reads log at d (loop n b t) e
-  a_done : {at d p : ℕ} → read_at log at ≡ Item Done p → 0 < d → Reads log at d end (closes at p)
-  a_stop : {at p n : ℕ} → read_at log at ≡ Item (Stop n) p → Reads log at 0 end (stops at p n)
+  a_done : {at d p : ℕ} → read_at log at ≡ Ok (Done, p) → 0 < d → Reads log at d end (closes at p)
+  a_stop : {at p n : ℕ} → read_at log at ≡ Ok (Stop n, p) → Reads log at 0 end (stops at p n)
 
 abbrev pub Derived : List ℕ → ℕ → ℕ → Got → Type 0
 Derived log at d (closed t p q) = Reads log at d t (closes p q)
@@ -35,30 +35,30 @@ Derived log at d (stopped t p q n) = Reads log at d t (stops p q n)
 Derived log at d (refused k p) = Unit {0}
 
 -- a loop has turns
-turned : (log : List ℕ) (at n p : ℕ) → read_at log at ≡ Item (Loop n) p → 0 < n
+turned : (log : List ℕ) (at n p : ℕ) → read_at log at ≡ Ok (Loop n, p) → 0 < n
 turned log at n p e = let h = (had_text (had_at log at (Loop n) p e)).1 in omega arith
 
 module _ (log : List ℕ) (at d : ℕ) where
-  act_on : (a : Act) (p : ℕ) (g : Got) → read_at log at ≡ Item (One a) p → Derived log p d g → Derived log at d (before (act a) g)
+  act_on : (a : Act) (p : ℕ) (g : Got) → read_at log at ≡ Ok (One a, p) → Derived log p d g → Derived log at d (before (act a) g)
   unfolding before
   act_on a p (closed t q r) l h = an_act l h
   act_on a p (stopped t q r m) l h = an_act l h
   act_on a p (refused k q) l h = tt
 
-  loop_on : (n p q r : ℕ) (b : Tree) (g : Got) → read_at log at ≡ Item (Loop n) p → d < 8 → Reads log p (d + 1) b (closes q r) → Derived log r d g → Derived log at d (before (loop n b) g)
+  loop_on : (n p q r : ℕ) (b : Tree) (g : Got) → read_at log at ≡ Ok (Loop n, p) → d < 8 → Reads log p (d + 1) b (closes q r) → Derived log r d g → Derived log at d (before (loop n b) g)
   unfolding before
   loop_on n p q r b (closed t u v) l k h i = a_loop l (turned log at n p l) k h i
   loop_on n p q r b (stopped t u v m) l k h i = a_loop l (turned log at n p l) k h i
   loop_on n p q r b (refused m u) l k h i = tt
 
-  body_on : (n p : ℕ) (g : Got) → read_at log at ≡ Item (Loop n) p → d < 8 → at < p → Derived log p (d + 1) g → Behind p (length log) g
+  body_on : (n p : ℕ) (g : Got) → read_at log at ≡ Ok (Loop n, p) → d < 8 → at < p → Derived log p (d + 1) g → Behind p (length log) g
       → ((q : ℕ) → at < q → q ≤ length log → Derived log q d (read_block log q d)) → Derived log at d (onward (λ q. read_block log q d) (looped n g))
   unfolding looped onward
   body_on n p (closed b q r) l k a h i rec = loop_on n p q r b (read_block log r d) l k h (rec r (omega arith) i.2)
   body_on n p (stopped b q r m) l k a h i rec = tt
   body_on n p (refused m q) l k a h i rec = tt
 
-  line_on : (l : Line) (p : ℕ) → read_at log at ≡ Item l p → Stands at d l → BegunBehind at (length log) d (begun at p l)
+  line_on : (l : Line) (p : ℕ) → read_at log at ≡ Ok (l, p) → Stands at d l → BegunBehind at (length log) d (begun at p l)
       → ((p e : ℕ) → at < p → p ≤ length log → Derived log p e (read_block log p e))
       → Derived log at d (onward (λ p. read_block log p d) (piece (read_block log) d (begun at p l)))
   unfolding begun piece onward
@@ -74,12 +74,12 @@ module _ (log : List ℕ) (at d : ℕ) where
   line_on Header p l (inner z x9) b rec = elim x9 [ ]
   line_on Machine p l (inner z x8) b rec = elim x8 [ ]
 
-  read_on : (s : Reading) → read_in (standing log at d) log at ≡ s → BegunBehind at (length log) d (begun_by at s)
+  read_on : (s : Result (Line × ℕ) Refusal) → read_in (standing log at d) log at ≡ s → BegunBehind at (length log) d (begun_by at s)
       → ((p e : ℕ) → at < p → p ≤ length log → Derived log p e (read_block log p e))
       → Derived log at d (onward (λ p. read_block log p d) (piece (read_block log) d (begun_by at s)))
   unfolding begun_by piece onward
-  read_on (Reading.Refused k p) l b rec = tt
-  read_on (Item m p) l b rec = line_on m p (from_depth log at d m p l) (stands log at d (bytes_at log at) m (had (standing log at d) log at m p l).found) b rec
+  read_on (Err e) l b rec = tt
+  read_on (Ok (m, p)) l b rec = line_on m p (from_depth log at d m p l) (stands log at d (bytes_at log at) m (had (standing log at d) log at m p l).found) b rec
 
   step_on : ((p e : ℕ) → at < p → p ≤ length log → Derived log p e (read_block log p e)) → Derived log at d (read_block log at d)
   unfolding read_part read_begun

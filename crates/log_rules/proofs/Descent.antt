@@ -1,14 +1,12 @@
 -- Laws of reading a block: one line at a time, with no count of lines. Assumes nothing.
+use Rattle.std.specs.Prelude.{Result, Ok, Err}
 use mathlib.Core.Path.{◌≡◌, refl, ap, sym, ◌∙◌}
-use mathlib.Core.List.{List, [], ◌∷◌}
+use mathlib.Core.List.{List}
 use Prim.Native.Nat.{ℕ, zero, suc, ◌+◌, ◌*◌, ◌≤◌, ◌<◌}
 use native.Mathlib.Omega.{arith}
 use lib.ListN.{length}
-use types.Run.{OneOf, miss}
-use denote.Enum.Declared.{tag_of}
+use Rattle.refusal.specs.declared.Refusal.{Refusal}
 use Rattle.log_line.specs.declared.Line.{Line}
-use Rattle.log_rules.specs.declared.Reading.{Reading}
-use Rattle.log_rules.specs.declared.Reading.TheVariants.{Item}
 use Rattle.log_rules.specs.declared.Totals.{Totals}
 use Rattle.log_rules.specs.declared.Step.{Step}
 use Rattle.log_rules.specs.declared.Step.TheVariants.{Plain, Open}
@@ -20,9 +18,9 @@ use Rattle.log_rules.specs.Lines.{bytes_at}
 use Rattle.log_rules.specs.Reading.{standing, read_in}
 use Rattle.log_fault.proofs.Standing.{act as acts-on, opens as opened-on, closes as closes-on, ends as ends_on}
 use Rattle.log_rules.specs.Tree.{Tree, act, loop, acts, act_clocks, clocks, turns}
-use Rattle.log_rules.specs.Block.{Got, closed, stopped, refused, LinePiece, one, many, shut, halt, bad, Begun, whole, opens, begun, begun_by, read_begun, looped, piece, before, onward, block_in, read_block, read_part, cut, no_totals, sum_of, Small, totals, block_answer, part_answer, step_answer, part_end, SmallBlock, loop_part}
+use Rattle.log_rules.specs.Block.{Got, closed, stopped, refused, LinePiece, one, many, shut, halt, bad, Begun, whole, opens, begun, begun_by, read_begun, looped, piece, before, onward, block_in, read_block, read_part, cut, no_totals, sum_of, Small, totals, block_answer, part_answer, plain_step, step_answer, SmallBlock, loop_part}
 use Rattle.log_rules.proofs.PlaceLaws.{HadIn, had_in, Stands, head, tells, inner, stands, next_pos, next_le}
-use Rattle.log_rules.proofs.TotalLaws.{sum_sum, none_sum, small_sum, small_cut, act_sum, loop_sum, times_totals}
+use Rattle.log_rules.proofs.TotalLaws.{sum_sum, none_sum, small_cut, act_sum, loop_sum, times_totals}
 
 -- WHERE A BLOCK ENDS
 
@@ -78,12 +76,12 @@ onward_behind rec at most (shut p q) h r = h
 onward_behind rec at most (halt p q n) h r = tt
 onward_behind rec at most (bad k p) h r = tt
 
-begun_by_behind : (log : List ℕ) (at d : ℕ) (r : Reading) → HadIn (standing log at d) log at r → BegunBehind at (length log) d (begun_by at r)
+begun_by_behind : (log : List ℕ) (at d : ℕ) (r : Result (Line × ℕ) Refusal) → HadIn (standing log at d) log at r → BegunBehind at (length log) d (begun_by at r)
 unfolding begun_by
-begun_by_behind log at d (Item l next) h =
+begun_by_behind log at d (Ok (l, next)) h =
     begun_behind at next d (length log) l (rw h.on (next_pos log at h.inside)) (rw h.on (let z : at ≤ length log = omega (arith, h.inside) in next_le log at z))
     (stands log at d (bytes_at log at) l h.found)
-begun_by_behind log at d (Reading.Refused k p) h = tt
+begun_by_behind log at d (Err e) h = tt
 
 -- every line that is read leads on
 pub begun_on : (log : List ℕ) (at d : ℕ) → BegunBehind at (length log) d (read_begun log at d)
@@ -137,33 +135,33 @@ unrolled log at d = sym (more_lines (length log) log at d (omega arith))
 
 -- THE CODE'S ANSWERS
 
-abbrev pub plus : Totals → Block → Block
-plus s (Closed p q t) = Closed p q (sum_of s t)
-plus s (Stopped p q n t) = Stopped p q n (sum_of s t)
-plus s (Block.Refused k p) = Block.Refused k p
+abbrev pub plus : Totals → Result Block Refusal → Result Block Refusal
+plus s (Ok (Closed p q t)) = Ok (Closed p q (sum_of s t))
+plus s (Ok (Stopped p q n t)) = Ok (Stopped p q n (sum_of s t))
+plus s (Err e) = Err e
 
-pub plus_plus : (s s' : Totals) (b : Block) → plus s (plus s' b) ≡ plus (sum_of s s') b
-plus_plus s s' (Closed p q t) = ap (Closed p q) (sum_sum s s' t)
-plus_plus s s' (Stopped p q n t) = ap (Stopped p q n) (sum_sum s s' t)
-plus_plus s s' (Block.Refused k p) = refl
+pub plus_plus : (s s' : Totals) (b : Result Block Refusal) → plus s (plus s' b) ≡ plus (sum_of s s') b
+plus_plus s s' (Ok (Closed p q t)) = ap (λ (x : Totals). Ok (Closed p q x)) (sum_sum s s' t)
+plus_plus s s' (Ok (Stopped p q n t)) = ap (λ (x : Totals). Ok (Stopped p q n x)) (sum_sum s s' t)
+plus_plus s s' (Err e) = refl
 
 pub plus_none : (g : Got) → block_answer g ≡ plus no_totals (block_answer g)
 unfolding block_answer
-plus_none (closed b p q) = ap (Closed p q) (none_sum b)
-plus_none (stopped b p q n) = ap (Stopped p q n) (none_sum b)
+plus_none (closed b p q) = ap (λ (x : Totals). Ok (Closed p q x)) (none_sum b)
+plus_none (stopped b p q n) = ap (λ (x : Totals). Ok (Stopped p q n x)) (none_sum b)
 plus_none (refused k p) = refl
 
 -- what a line's answer makes of the answer behind it
-abbrev pub carry : Part → (ℕ → Block) → Block
-carry (Acts p t) k = plus t (k p)
-carry (Close p q) k = Closed p q no_totals
-carry (Halt p q n) k = Stopped p q n no_totals
-carry (Part.Refused m p) k = Block.Refused m p
+abbrev pub carry : Result Part Refusal → (ℕ → Result Block Refusal) → Result Block Refusal
+carry (Ok (Acts p t)) k = plus t (k p)
+carry (Ok (Close p q)) k = Ok (Closed p q no_totals)
+carry (Ok (Halt p q n)) k = Ok (Stopped p q n no_totals)
+carry (Err e) k = Err e
 
 answer_before : (s : Totals) (f : Tree → Tree) (g : Got) → ((t : Tree) → totals (f t) ≡ sum_of s (totals t)) → block_answer (before f g) ≡ plus s (block_answer g)
 unfolding block_answer before
-answer_before s f (closed b p q) h = ap (Closed p q) (h b)
-answer_before s f (stopped b p q n) h = ap (Stopped p q n) (h b)
+answer_before s f (closed b p q) h = ap (λ (x : Totals). Ok (Closed p q x)) (h b)
+answer_before s f (stopped b p q n) h = ap (λ (x : Totals). Ok (Stopped p q n x)) (h b)
 answer_before s f (refused k p) h = refl
 
 answer_onward : (rec : ℕ → Got) (q : LinePiece) → block_answer (onward rec q) ≡ carry (part_answer q) (λ p. block_answer (rec p))
@@ -179,11 +177,11 @@ pub turn : (log : List ℕ) (i d : ℕ) → block_answer (read_block log i d) �
 turn log i d = ap block_answer (unrolled log i d) ∙ answer_onward (λ p. read_block log p d) (read_part log i d)
 
 -- A LINE'S ANSWER LEADS ON, AND ANSWERS ARE SMALL
-abbrev pub Good : ℕ → ℕ → Part → Type 0
-Good at most (Acts p t) = (at < p) × (p ≤ most) × Small t
-Good at most (Close p q) = Unit {0}
-Good at most (Halt p q n) = Unit {0}
-Good at most (Part.Refused k p) = Unit {0}
+abbrev pub Good : ℕ → ℕ → Result Part Refusal → Type 0
+Good at most (Ok (Acts p t)) = (at < p) × (p ≤ most) × Small t
+Good at most (Ok (Close p q)) = Unit {0}
+Good at most (Ok (Halt p q n)) = Unit {0}
+Good at most (Err e) = Unit {0}
 
 piece_good : (at most : ℕ) (q : LinePiece) → PieceBehind at most q → Good at most (part_answer q)
 unfolding part_answer
@@ -210,38 +208,40 @@ answer_small (refused k p) = tt
 -- a loop line's answer from its body's
 looped_answer : (n : ℕ) (g : Got) → loop_part n (block_answer g) ≡ part_answer (looped n g)
 unfolding looped block_answer part_answer
-looped_answer n (closed b p q) = ap (Acts q) (times_totals n b)
+looped_answer n (closed b p q) = ap (λ (x : Totals). Ok (Acts q x)) (times_totals n b)
 looped_answer n (stopped b p q m) = refl
 looped_answer n (refused k p) = refl
 
--- what `let .. else` knows of the line's answer where it is no `Acts`: its variant's number
-pub end_plus : (p : Part) (k : ℕ → Block) (t : Totals) → Small t
-    → OneOf (1 ∷ 2 ∷ 3 ∷ []) (tag_of Rattle.log_rules.specs.contracts.Part.the_type p) → part_end p t ≡ plus t (carry p k)
-end_plus (Acts p s) k t h o = absurd (miss (1 ∷ 2 ∷ 3 ∷ []) 0 tt o)
-end_plus (Close p q) k t h o = ap (Closed p q) (small_sum t h)
-end_plus (Halt p q n) k t h o = ap (Stopped p q n) (small_sum t h)
-end_plus (Part.Refused m p) k t h o = refl
+abbrev pub StepGood : ℕ → ℕ → ℕ → Result Step Refusal → Type 0
+StepGood at most d (Ok (Plain q)) = Unit {0}
+StepGood at most d (Ok (Open n p)) = (at < p) × (p ≤ most) × (d < 8)
+StepGood at most d (Err e) = Unit {0}
 
-abbrev pub StepGood : ℕ → ℕ → ℕ → Step → Type 0
-StepGood at most d (Plain q) = Unit {0}
-StepGood at most d (Open n p) = (at < p) × (p ≤ most) × (d < 8)
+plain_good : (at most d : ℕ) (r : Result Part Refusal) → StepGood at most d (plain_step r)
+plain_good at most d (Ok q) = tt
+plain_good at most d (Err e) = tt
 
 step_good_of : (at most d : ℕ) (s : Begun) → BegunBehind at most d s → StepGood at most d (step_answer s)
 unfolding step_answer
-step_good_of at most d (whole q) h = tt
+step_good_of at most d (whole q) h = plain_good at most d (part_answer q)
 step_good_of at most d (opens n p) h = h
 
 pub step_good : (log : List ℕ) (at d : ℕ) → StepGood at (length log) d (step_answer (read_begun log at d))
 step_good log at d = step_good_of at (length log) d (read_begun log at d) (begun_on log at d)
 
 -- what the step's answer makes of the line's
-abbrev pub finish : ℕ → (ℕ → ℕ → Block) → Step → Part
-finish d k (Plain q) = q
-finish d k (Open n p) = loop_part n (k p (d + 1))
+abbrev pub finish : ℕ → (ℕ → ℕ → Result Block Refusal) → Result Step Refusal → Result Part Refusal
+finish d k (Ok (Plain q)) = Ok q
+finish d k (Ok (Open n p)) = loop_part n (k p (d + 1))
+finish d k (Err e) = Err e
+
+finish_plain : (d : ℕ) (k : ℕ → ℕ → Result Block Refusal) (r : Result Part Refusal) → finish d k (plain_step r) ≡ r
+finish_plain d k (Ok q) = refl
+finish_plain d k (Err e) = refl
 
 finish_is : (rec : ℕ → ℕ → Got) (d : ℕ) (s : Begun) → finish d (λ p e. block_answer (rec p e)) (step_answer s) ≡ part_answer (piece rec d s)
 unfolding step_answer piece
-finish_is rec d (whole q) = refl
+finish_is rec d (whole q) = finish_plain d (λ p e. block_answer (rec p e)) (part_answer q)
 finish_is rec d (opens n p) = looped_answer n (rec p (d + 1))
 
 pub part_of : (log : List ℕ) (at d : ℕ) → finish d (λ p e. block_answer (read_block log p e)) (step_answer (read_begun log at d)) ≡ part_answer (read_part log at d)

@@ -1,4 +1,5 @@
 -- The head of a log: its first line is six bytes, and its second is `machine=pal` exactly for PAL. Assumes nothing.
+use Rattle.std.specs.Prelude.{Ok}
 use mathlib.Core.Path.{◌≡◌, refl, ap, sym, ◌∙◌}
 use mathlib.Core.List.{List, ◌++◌, append_assoc}
 use mathlib.Core.Bool.{Bool, true, false, false≢true}
@@ -10,12 +11,10 @@ use Rattle.text.proofs.KeyLaws.{starts_split, starts_length, starts_joined}
 use Rattle.log_line.specs.declared.Line.TheVariants.{Header, Machine}
 use Rattle.log_line.specs.Printed.{ended, line_text}
 use Rattle.log_fault.specs.declared.Stand.TheVariants.{First, Among}
-use Rattle.log_fault.specs.declared.Spotted.TheVariants.{Right}
 use Rattle.log_fault.specs.Allowed.{keys_of}
 use Rattle.log_fault.specs.Fault.{spot_of}
 use Rattle.log_begins.specs.Fronts.{allowed}
 use Rattle.log_fault.proofs.FaultLaws.{right_line, line_right}
-use Rattle.log_rules.specs.declared.Reading.TheVariants.{Item}
 use Rattle.log_rules.specs.Lines.{line_len, bytes_at, next_line}
 use Rattle.log_rules.specs.Head.{head_text, machine_of, start_of}
 use Rattle.log_rules.specs.Reading.{is_second, standing, read_in}
@@ -71,7 +70,7 @@ module _ (log : List ℕ) (p : machine_of log ≡ true) where
   second_next = rw (second_rest, second_len (drop 18 log))
 
 -- a log whose first line is right
-module _ (log : List ℕ) (e : spot_of First (bytes_at log 0) ≡ Right Header) where
+module _ (log : List ℕ) (e : spot_of First (bytes_at log 0) ≡ Ok Header) where
   pub first_next : next_line log 0 ≡ 6
   first_next =
       let r = right_line First (bytes_at log 0) Header e in
@@ -88,7 +87,7 @@ module _ (log : List ℕ) (e : spot_of First (bytes_at log 0) ≡ Right Header) 
   first_second = ap (starts_with (line_text Header)) first_rest ∙ starts_joined (line_text Header) (drop 6 log)
 
   -- without the second line it is NTSC
-  pub ntsc_second : machine_of log ≡ false → spot_of (Among true 0) (bytes_at log 6) ≡ Right Machine → ⊥
+  pub ntsc_second : machine_of log ≡ false → spot_of (Among true 0) (bytes_at log 6) ≡ Ok Machine → ⊥
   unfolding machine_of
   ntsc_second m f =
       let r = right_line (Among true 0) (bytes_at log 6) Machine f in
@@ -121,6 +120,6 @@ module _ (log : List ℕ) (short : length log ≤ 60000) (p : machine_of log ≡
         on = sym (second_next log p);
       }
 
-  pub read_second : read_in (standing log 6 0) log 6 ≡ Item Machine 18
+  pub read_second : read_in (standing log 6 0) log 6 ≡ Ok (Machine, 18)
   unfolding standing
   read_second = rw (second_is log p) (read_some (Among true 0) log 6 short had_second.inside ∙ rw (had_second.found, second_next log p))

@@ -1,4 +1,5 @@
 -- The judgement line by line is what the reading by blocks finds. Assumes nothing.
+use Rattle.std.specs.Prelude.{Result, Ok, Err}
 use mathlib.Core.Path.{◌≡◌, refl, ap, ◌∙◌}
 use mathlib.Core.List.{List, [], ◌∷◌}
 use mathlib.Core.Bool.{Bool, true, false}
@@ -8,6 +9,7 @@ use borrow.Author.Tests.{eq-eqb, ltb-true, ltb-false, ne_eqb}
 use lib.ListN.{length, take, drop, length-drop, drop_of_length-le}
 use lib.Seq.{drop-drop}
 use lib.Dec.{eqb, ltb}
+use Rattle.refusal.specs.declared.Refusal.{Refusal}
 use Rattle.arith.specs.Pick.{pick}
 use Rattle.log_line.specs.declared.Line.{Line}
 use Rattle.log_line.specs.declared.Line.TheVariants.{Machine, One, Loop, Done, Stop}
@@ -20,8 +22,6 @@ use Rattle.log_rules.specs.Block.{whole, bad, Got, closed, stopped, refused, Beg
 use Rattle.log_rules.proofs.PlaceLaws.{bytes_long, read_some, read_none, standing_on}
 use Rattle.log_fault.specs.declared.Stand.{Stand as Standing}
 use Rattle.log_fault.specs.declared.Stand.TheVariants.{Among}
-use Rattle.log_fault.specs.declared.Spotted.{Spotted}
-use Rattle.log_fault.specs.declared.Spotted.TheVariants.{Right, Wrong}
 use Rattle.log_fault.specs.Fault.{spot_of}
 use Rattle.log_fault.proofs.Standing.{Goes, act as acts-on, opens as opened-on, closes as closes-on, ends as ends_on, Lets, pal, turn, lets, second_only, told}
 use Rattle.log_rules.proofs.Descent.{unrolled, begun_on, got_behind, BegunBehind, Behind}
@@ -123,32 +123,32 @@ record Stood (log : List ℕ) (at d : ℕ) (m : Bool) (s : Stand) : Type 0 where
   now : verdict s at (bytes_at log at) ≡ found_at at (spot_of (Among m d) (bytes_at log at))
   then : behind s (bytes_at log at) ≡ leaves d (line_of (bytes_at log at))
   last : ending s at ≡ wrong 18 at
-  turns : spot_of (Among m d) (bytes_at log at) ≡ Right Machine → ⊥
+  turns : spot_of (Among m d) (bytes_at log at) ≡ Ok Machine → ⊥
 
 among_stood : (log : List ℕ) (at d : ℕ) → 6 < at → Stood log at d false (among d)
 unfolding is_second verdict behind ending
 among_stood log at d h = record { place = rw (ne_eqb at 6 (λ q. omega arith)); now = refl; then = refl; last = refl; turns = second_only d (bytes_at log at) }
 
-second_stood : (log : List ℕ) → is_second log 6 ≡ true → (spot_of (Among true 0) (bytes_at log 6) ≡ Right Machine → ⊥) → Stood log 6 0 true second
+second_stood : (log : List ℕ) → is_second log 6 ≡ true → (spot_of (Among true 0) (bytes_at log 6) ≡ Ok Machine → ⊥) → Stood log 6 0 true second
 unfolding verdict behind ending
 second_stood log i h = record { place = i; now = refl; then = refl; last = refl; turns = h }
 
 module _ (log : List ℕ) (short : length log ≤ 60000) (at d : ℕ) (m : Bool) (s : Stand) (stood : Stood log at d m s) (z : 0 < at) where
-  line_goes : (l : Line) → spot_of (Among m d) (bytes_at log at) ≡ Right l → Goes d l
+  line_goes : (l : Line) → spot_of (Among m d) (bytes_at log at) ≡ Ok l → Goes d l
   line_goes l e = go l (lets m d (bytes_at log at) l e) e
     where
-      go : (l : Line) → Lets m d l → spot_of (Among m d) (bytes_at log at) ≡ Right l → Goes d l
+      go : (l : Line) → Lets m d l → spot_of (Among m d) (bytes_at log at) ≡ Ok l → Goes d l
       go l (pal h) e = absurd (stood.turns e)
       go l (turn g) e = g
 
   -- what is found of the line at `at`
-  found_told : (f : Spotted) → spot_of (Among m d) (bytes_at log at) ≡ f → BegunBehind at (length log) d (begun_by at (taken at (next_line log at) f))
+  found_told : (f : Result Line Refusal) → spot_of (Among m d) (bytes_at log at) ≡ f → BegunBehind at (length log) d (begun_by at (taken at (next_line log at) f))
       → ((p e : ℕ) → at < p → p ≤ length log → judge_at log (among e) p ≡ after log e (read_block log p e))
       → unless (found_at at f) (judge_at log (leaves d (line_of (bytes_at log at))) (next_line log at)) ≡ Onward log short at d (begun_by at (taken at (next_line log at) f))
   unfolding found_at unless begun_by Onward piece onward after
-  found_told (Right l) e b rec =
+  found_told (Ok l) e b rec =
       rw (told (Among m d) (bytes_at log at) l e).says (line_told log short at d l (line_goes l e) b rec)
-  found_told (Wrong k i) e b rec = wrong_told k (at + i)
+  found_told (Err why) e b rec = wrong_told why.number (at + why.place)
     where
       wrong_told : (k p : ℕ) → wrong k p ≡ Onward log short at d (whole (bad k p))
       wrong_told k p = refl
@@ -195,7 +195,7 @@ pub bridge : (log : List ℕ) (at d : ℕ) → length log ≤ 60000 → 6 < at �
 bridge log at d s z h = bridge_in (length log) log at d s z h (omega arith)
 
 -- and so do those from the second line on, where that is not `machine=pal`
-pub bridge_second : (log : List ℕ) → length log ≤ 60000 → 6 ≤ length log → is_second log 6 ≡ true → (spot_of (Among true 0) (bytes_at log 6) ≡ Right Machine → ⊥)
+pub bridge_second : (log : List ℕ) → length log ≤ 60000 → 6 ≤ length log → is_second log 6 ≡ true → (spot_of (Among true 0) (bytes_at log 6) ≡ Ok Machine → ⊥)
     → judge_at log second 6 ≡ after log 0 (read_block log 6 0)
 bridge_second log s h i k =
     told_step log s 6 0 true second (second_stood log i k) (omega arith) h (λ p e a b. bridge log p e s a b)

@@ -1,5 +1,6 @@
 -- What a check answers is within document 01's limits: its number is in the table, its place in the log, and its clocks are those that a log
 -- may have. Assumes nothing.
+use Rattle.std.specs.Prelude.{Result, Ok, Err}
 use mathlib.Core.Path.{◌≡◌, refl}
 use mathlib.Core.List.{List, [], ◌∷◌}
 use mathlib.Core.Bool.{Bool, true, false}
@@ -8,6 +9,7 @@ use native.Mathlib.Omega.{arith}
 use borrow.Author.Tests.{ltb-false}
 use lib.ListN.{length}
 use lib.Dec.{eqb, ltb}
+use Rattle.refusal.specs.declared.Refusal.{Refusal}
 use Rattle.arith.specs.Pick.{pick, either}
 use Rattle.arith.proofs.PickLaws.{pick_both, pick_each}
 use Rattle.log_line.specs.declared.Line.{Line}
@@ -18,8 +20,6 @@ use Rattle.log_rules.specs.Lines.{onto, lines_of}
 use Rattle.log_rules.specs.Head.{machine_of}
 use Rattle.log_fault.specs.declared.Stand.{Stand as Standing}
 use Rattle.log_fault.specs.declared.Stand.TheVariants.{First, Among}
-use Rattle.log_fault.specs.declared.Spotted.{Spotted}
-use Rattle.log_fault.specs.declared.Spotted.TheVariants.{Right, Wrong}
 use Rattle.log_fault.specs.Fault.{spot_of}
 use Rattle.log_fault.proofs.Standing.{bounded}
 use Rattle.log_rules.specs.Judge.{Verdict, right, wrong, Stand, first, second, among, over, found_at, verdict, behind, ending, unless, judge, judged}
@@ -51,11 +51,11 @@ abbrev UpTo : ℕ → Verdict → Type 0
 UpTo n right = Unit {0}
 UpTo n (wrong k p) = (k ≤ 19) × (p ≤ n)
 
-placed_to : (n at : ℕ) (st : Standing) (l : List ℕ) → at + length l ≤ n → (f : Spotted) → spot_of st l ≡ f → UpTo n (found_at at f)
+placed_to : (n at : ℕ) (st : Standing) (l : List ℕ) → at + length l ≤ n → (f : Result Line Refusal) → spot_of st l ≡ f → UpTo n (found_at at f)
 unfolding found_at
-placed_to n at st l h (Right m) e = tt
-placed_to n at st l h (Wrong k i) e =
-    let b = bounded st l k i e in
+placed_to n at st l h (Ok m) e = tt
+placed_to n at st l h (Err why) e =
+    let b = bounded st l why.number why.place e in
     let u = b.high in
     let p = b.place in
     (omega arith, omega arith)

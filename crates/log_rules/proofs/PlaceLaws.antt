@@ -1,4 +1,5 @@
 -- Laws of places: where a line ends, and what reading one there knows. Assumes nothing.
+use Rattle.std.specs.Prelude.{Result, Ok, Err}
 use mathlib.Core.Path.{◌≡◌, refl, ap, sym, ◌∙◌, subst}
 use mathlib.Core.List.{List, [], ◌∷◌, ◌++◌}
 use mathlib.Core.Bool.{Bool, true, false}
@@ -9,19 +10,17 @@ use borrow.Author.Tests.{eq-eqb, ne_eqb, eqb-true, eqb-false, lt-ltb, le-ltb, lt
 use lib.ListN.{length, get_or, take, drop, length-drop, length-take, take-append-drop, drop_of_length-le}
 use lib.Seq.{drop-cons, drop-drop}
 use lib.Dec.{ltb, eqb}
+use Rattle.refusal.specs.declared.Refusal.{Refusal}
+use Rattle.refusal.specs.Refusal.{refusal}
 use Rattle.arith.specs.Pick.{pick}
 use Rattle.log_line.specs.declared.Line.{Line}
 use Rattle.log_line.specs.declared.Line.TheVariants.{Header, Machine}
 use Rattle.log_line.specs.Said.{line_of}
 use Rattle.log_line.specs.Printed.{line_text, Printable}
-use Rattle.log_rules.specs.declared.Reading.{Reading}
-use Rattle.log_rules.specs.declared.Reading.TheVariants.{Item, Refused}
 use Rattle.log_rules.specs.Lines.{line_len, bytes_at, next_line}
 use Rattle.log_rules.specs.Reading.{taken, Reaches, is_second, standing, read_in, read_at}
 use Rattle.arith.proofs.PickLaws.{pick_each, both_left}
 use Rattle.log_fault.specs.declared.Stand.{Stand}
-use Rattle.log_fault.specs.declared.Spotted.{Spotted}
-use Rattle.log_fault.specs.declared.Spotted.TheVariants.{Right, Wrong}
 use Rattle.log_fault.specs.Fault.{spot_of}
 use Rattle.log_fault.proofs.FaultLaws.{right_line}
 use Rattle.log_fault.specs.declared.Stand.TheVariants.{First, Among, Alone}
@@ -76,7 +75,7 @@ module _ (log : List ℕ) (i : ℕ) where
 -- READING, FROM WHAT IS FOUND OF A LINE
 
 -- what `read` answers behind its two tests, from what the code finds of the line
-pub read_is : (st : Stand) (log : List ℕ) (at e : ℕ) (f : Spotted) → length log ≤ 60000 → at < length log → e ≡ at + line_len (drop at log)
+pub read_is : (st : Stand) (log : List ℕ) (at e : ℕ) (f : Result Line Refusal) → length log ≤ 60000 → at < length log → e ≡ at + line_len (drop at log)
     → f ≡ spot_of st (take (e - at) (drop at log)) → taken at e f ≡ read_in st log at
 unfolding read_in next_line bytes_at
 read_is st log at e f h k he hf =
@@ -84,11 +83,11 @@ read_is st log at e f h k he hf =
     rw (le-ltb 60000 (length log) h, lt-ltb at (length log) k, hf, q, he)
 
 -- and its place is in the log
-pub read_reaches : (st : Stand) (log : List ℕ) (at e : ℕ) (f : Spotted) → length log ≤ 60000 → at < length log → e ≡ at + line_len (drop at log)
+pub read_reaches : (st : Stand) (log : List ℕ) (at e : ℕ) (f : Result Line Refusal) → length log ≤ 60000 → at < length log → e ≡ at + line_len (drop at log)
     → f ≡ spot_of st (take (e - at) (drop at log)) → Reaches at 60000 f
-read_reaches st log at e (Right l) h k he hf = tt
-read_reaches st log at e (Wrong n i) h k he hf =
-    let b = (bounded st (take (e - at) (drop at log)) n i (sym hf)).place in
+read_reaches st log at e (Ok l) h k he hf = tt
+read_reaches st log at e (Err why) h k he hf =
+    let b = (bounded st (take (e - at) (drop at log)) why.number why.place (sym hf)).place in
     let u = len_le (drop at log) in
     omega (arith, length-take (e - at) (drop at log), length-drop at log)
 
@@ -98,17 +97,17 @@ read_reaches st log at e (Wrong n i) h k he hf =
 pub record Had (st : Stand) (log : List ℕ) (at : ℕ) (l : Line) (next : ℕ) : Type 0 where
   pub short : length log ≤ 60000
   pub inside : at < length log
-  pub found : spot_of st (bytes_at log at) ≡ Right l
+  pub found : spot_of st (bytes_at log at) ≡ Ok l
   pub on : next ≡ next_line log at
 
-abbrev pub HadIn : Stand → List ℕ → ℕ → Reading → Type 0
-HadIn st log at (Item l next) = Had st log at l next
-HadIn st log at (Refused k p) = Unit {0}
+abbrev pub HadIn : Stand → List ℕ → ℕ → Result (Line × ℕ) Refusal → Type 0
+HadIn st log at (Ok (l, next)) = Had st log at l next
+HadIn st log at (Err e) = Unit {0}
 
-had_taken : (st : Stand) (log : List ℕ) (at : ℕ) (f : Spotted) → length log ≤ 60000 → at < length log → spot_of st (bytes_at log at) ≡ f
+had_taken : (st : Stand) (log : List ℕ) (at : ℕ) (f : Result Line Refusal) → length log ≤ 60000 → at < length log → spot_of st (bytes_at log at) ≡ f
     → HadIn st log at (taken at (next_line log at) f)
-had_taken st log at (Right l) s h e = record { short = s; inside = h; found = e; on = refl }
-had_taken st log at (Wrong k i) s h e = tt
+had_taken st log at (Ok l) s h e = record { short = s; inside = h; found = e; on = refl }
+had_taken st log at (Err why) s h e = tt
 
 pub had_in : (st : Stand) (log : List ℕ) (at : ℕ) → HadIn st log at (read_in st log at)
 unfolding read_in
@@ -117,7 +116,7 @@ had_in st log at =
     pick_each (HadIn st log at) (ltb at (length log))
     (λ h. had_taken st log at (spot_of st (bytes_at log at)) (ltb-false 60000 (length log) e) (ltb-true at (length log) h) refl) (λ h. tt)
 
-pub had : (st : Stand) (log : List ℕ) (at : ℕ) (l : Line) (next : ℕ) → read_in st log at ≡ Item l next → Had st log at l next
+pub had : (st : Stand) (log : List ℕ) (at : ℕ) (l : Line) (next : ℕ) → read_in st log at ≡ Ok (l, next) → Had st log at l next
 had st log at l next e = rw e at (had_in st log at)
 
 module _ {st : Stand} {log : List ℕ} {at : ℕ} {l : Line} {next : ℕ} (h : Had st log at l next) where
@@ -136,19 +135,19 @@ module _ (st : Stand) (log : List ℕ) (at : ℕ) (s : length log ≤ 60000) whe
   unfolding read_in
   read_some h = rw (le-ltb 60000 (length log) s, lt-ltb at (length log) h)
 
-  pub read_none : length log ≤ at → read_in st log at ≡ Refused 18 (length log)
+  pub read_none : length log ≤ at → read_in st log at ≡ Err (refusal 18 (length log))
   unfolding read_in
   read_none h = rw (le-ltb 60000 (length log) s, le-ltb at (length log) h)
 
-pub read_long : (st : Stand) (log : List ℕ) (at : ℕ) → 60000 < length log → read_in st log at ≡ Refused 5 0
+pub read_long : (st : Stand) (log : List ℕ) (at : ℕ) → 60000 < length log → read_in st log at ≡ Err (refusal 5 0)
 unfolding read_in
 read_long st log at h = rw (lt-ltb 60000 (length log) h)
 
 -- WITH A DEPTH AND WITHOUT: an item at some depth is one where no depth is known, and the other way round where it may stand
 
 item_in_lem : (st : Stand) (log : List ℕ) (at : ℕ) (l : Line) (next : ℕ) → length log ≤ 60000 → at < length log → next ≡ next_line log at
-    → spot_of st (bytes_at log at) ≡ Right l → read_in st log at ≡ Item l next
-item_in_lem st log at l next s h n e = read_some st log at s h ∙ (ap (taken at (next_line log at)) e ∙ ap (λ (x : ℕ). Item l x) (sym n))
+    → spot_of st (bytes_at log at) ≡ Ok l → read_in st log at ≡ Ok (l, next)
+item_in_lem st log at l next s h n e = read_some st log at s h ∙ (ap (taken at (next_line log at)) e ∙ ap (λ (x : ℕ). Ok (l, x)) (sym n))
 
 pub standing_on : (log : List ℕ) (at d : ℕ) → 0 < at → standing log at d ≡ Among (is_second log at) d
 unfolding standing
@@ -160,7 +159,7 @@ pub data Stands (at d : ℕ) : Line → Type 0 where
   tells : at ≡ 6 → Stands at d Machine
   inner : {l : Line} → 0 < at → Goes d l → Stands at d l
 
-pub stands : (log : List ℕ) (at d : ℕ) (s : List ℕ) (l : Line) → spot_of (standing log at d) s ≡ Right l → Stands at d l
+pub stands : (log : List ℕ) (at d : ℕ) (s : List ℕ) (l : Line) → spot_of (standing log at d) s ≡ Ok l → Stands at d l
 unfolding standing is_second
 stands log at d s l e = go (eqb at 0) refl e
   where
@@ -168,15 +167,15 @@ stands log at d s l e = go (eqb at 0) refl e
     further z (pal h) = tells (eqb-true at 6 (both_left (eqb at 6) _ h))
     further z (turn g) = inner (omega (arith, z)) g
 
-    go : (b : Bool) → eqb at 0 ≡ b → spot_of (pick b First (Among (is_second log at) d)) s ≡ Right l → Stands at d l
+    go : (b : Bool) → eqb at 0 ≡ b → spot_of (pick b First (Among (is_second log at) d)) s ≡ Ok l → Stands at d l
     go true q e = subst (Stands at d) (sym (first_header s l e)) (head (eqb-true at 0 q))
     go false q e = further (eqb-false at 0 q) (lets (is_second log at) d s l e)
 
-pub from_depth : (log : List ℕ) (at d : ℕ) (l : Line) (next : ℕ) → read_in (standing log at d) log at ≡ Item l next → read_at log at ≡ Item l next
+pub from_depth : (log : List ℕ) (at d : ℕ) (l : Line) (next : ℕ) → read_in (standing log at d) log at ≡ Ok (l, next) → read_at log at ≡ Ok (l, next)
 unfolding read_at standing
 from_depth log at d l next e = go (eqb at 0) refl (had (pick (eqb at 0) First (Among (is_second log at) d)) log at l next e)
   where
-    go : (b : Bool) → eqb at 0 ≡ b → Had (pick b First (Among (is_second log at) d)) log at l next → read_in (pick b First (Alone (is_second log at))) log at ≡ Item l next
+    go : (b : Bool) → eqb at 0 ≡ b → Had (pick b First (Among (is_second log at) d)) log at l next → read_in (pick b First (Alone (is_second log at))) log at ≡ Ok (l, next)
     go true q h = item_in_lem First log at l next h.short h.inside h.on h.found
     go false q h = item_in_lem (Alone (is_second log at)) log at l next h.short h.inside h.on (alone (is_second log at) d (bytes_at log at) l h.found)
 
@@ -189,14 +188,14 @@ goes_inner g = go Header g refl
     go l (closes-on h) e = let z : ◌≡◌ {A = ℕ} 0 1 = cc in omega arith
     go l (ends_on h) e = let z : ◌≡◌ {A = ℕ} 0 1 = cc in omega arith
 
-pub to_depth : (log : List ℕ) (at d : ℕ) (l : Line) (next : ℕ) → Goes d l → read_at log at ≡ Item l next → read_in (standing log at d) log at ≡ Item l next
+pub to_depth : (log : List ℕ) (at d : ℕ) (l : Line) (next : ℕ) → Goes d l → read_at log at ≡ Ok (l, next) → read_in (standing log at d) log at ≡ Ok (l, next)
 unfolding read_at standing
 to_depth log at d l next g e = go (eqb at 0) (had (pick (eqb at 0) First (Alone (is_second log at))) log at l next e)
   where
-    go : (b : Bool) → Had (pick b First (Alone (is_second log at))) log at l next → read_in (pick b First (Among (is_second log at) d)) log at ≡ Item l next
+    go : (b : Bool) → Had (pick b First (Alone (is_second log at))) log at l next → read_in (pick b First (Among (is_second log at) d)) log at ≡ Ok (l, next)
     go true h = absurd (goes_inner (subst (Goes d) (first_header (bytes_at log at) l h.found) g))
     go false h = item_in_lem (Among (is_second log at) d) log at l next h.short h.inside h.on (tell (Among (is_second log at) d) (bytes_at log at) l (had_says h) (goes_may (is_second log at) g))
 
-pub had_at : (log : List ℕ) (at : ℕ) (l : Line) (next : ℕ) → read_at log at ≡ Item l next → Had (pick (eqb at 0) First (Alone (is_second log at))) log at l next
+pub had_at : (log : List ℕ) (at : ℕ) (l : Line) (next : ℕ) → read_at log at ≡ Ok (l, next) → Had (pick (eqb at 0) First (Alone (is_second log at))) log at l next
 unfolding read_at
 had_at log at l next e = had (pick (eqb at 0) First (Alone (is_second log at))) log at l next e

@@ -1,11 +1,11 @@
 -- Document 01: "a block holds lines and a line may open a block": reading a block of lines from a place of the log, by recursive descent. That this is
 -- the judgement line by line, and the tree that the lines stand for, is proved (proofs/Descent).
-use Rattle.std.specs.Prelude.{ℕ, zero, suc, ◌+◌, ◌*◌, ◌≤◌, min, ◌≡◌, List, length}
+use Rattle.std.specs.Prelude.{ℕ, zero, suc, ◌+◌, ◌*◌, ◌≤◌, min, ◌≡◌, List, length, Result, Ok, Err}
+use Rattle.refusal.specs.declared.Refusal.{Refusal}
+use Rattle.refusal.specs.Refusal.{refusal}
 use Rattle.log_line.specs.declared.Act.{Act}
 use Rattle.log_line.specs.declared.Line.{Line}
 use Rattle.log_line.specs.declared.Line.TheVariants.{Header, Machine, One, Loop, Done, Stop, NoForm, NoRegister}
-use Rattle.log_rules.specs.declared.Reading.{Reading}
-use Rattle.log_rules.specs.declared.Reading.TheVariants.{Item}
 use Rattle.log_rules.specs.declared.Totals.{Totals}
 use Rattle.log_rules.specs.declared.Part.{Part}
 use Rattle.log_rules.specs.declared.Part.TheVariants.{Acts, Close, Halt}
@@ -48,9 +48,9 @@ begun at next (Stop n) = whole (halt at next n)
 begun at next NoForm = whole (bad 14 at)
 begun at next NoRegister = whole (bad 4 at)
 
-unfoldable pub begun_by : ℕ → Reading → Begun
-begun_by at (Item l next) = begun at next l
-begun_by at (Reading.Refused k p) = whole (bad k p)
+unfoldable pub begun_by : ℕ → Result (Line × ℕ) Refusal → Begun
+begun_by at (Ok (l, next)) = begun at next l
+begun_by at (Err e) = whole (bad e.number e.place)
 
 -- where d loops are open
 unfoldable pub read_begun : List ℕ → ℕ → ℕ → Begun
@@ -120,55 +120,52 @@ pub record Small (t : Totals) : Type 0 where
 unfoldable pub totals : Tree → Totals
 totals t = cut (clocks t) (turns t) (length (acts t))
 
-unfoldable pub block_answer : Got → Block
-block_answer (closed b p q) = Closed p q (totals b)
-block_answer (stopped b p q n) = Stopped p q n (totals b)
-block_answer (refused k p) = Block.Refused k p
+unfoldable pub block_answer : Got → Result Block Refusal
+block_answer (closed b p q) = Ok (Closed p q (totals b))
+block_answer (stopped b p q n) = Ok (Stopped p q n (totals b))
+block_answer (refused k p) = Err (refusal k p)
 
-unfoldable pub part_answer : LinePiece → Part
-part_answer (one a p) = Acts p (cut (act_clocks a) 1 1)
-part_answer (many n b p) = Acts p (cut (n * clocks b) (n * (1 + turns b)) (n * length (acts b)))
-part_answer (shut p q) = Close p q
-part_answer (halt p q n) = Halt p q n
-part_answer (bad k p) = Part.Refused k p
+unfoldable pub part_answer : LinePiece → Result Part Refusal
+part_answer (one a p) = Ok (Acts p (cut (act_clocks a) 1 1))
+part_answer (many n b p) = Ok (Acts p (cut (n * clocks b) (n * (1 + turns b)) (n * length (acts b))))
+part_answer (shut p q) = Ok (Close p q)
+part_answer (halt p q n) = Ok (Halt p q n)
+part_answer (bad k p) = Err (refusal k p)
 
-unfoldable pub step_answer : Begun → Step
-step_answer (whole q) = Plain (part_answer q)
-step_answer (opens n p) = Open n p
+abbrev pub plain_step : Result Part Refusal → Result Step Refusal
+plain_step (Ok p) = Ok (Plain p)
+plain_step (Err e) = Err e
 
--- the block that a line ends, with the totals before it; no caller asks of acts
-abbrev pub part_end : Part → Totals → Block
-part_end (Acts p t') t = Block.Refused 0 p
-part_end (Close p q) t = Closed p q t
-part_end (Halt p q n) t = Stopped p q n t
-part_end (Part.Refused k p) t = Block.Refused k p
+unfoldable pub step_answer : Begun → Result Step Refusal
+step_answer (whole q) = plain_step (part_answer q)
+step_answer (opens n p) = Ok (Open n p)
 
-abbrev pub SmallBlock : Block → Type 0
-SmallBlock (Closed p q t) = Small t
-SmallBlock (Stopped p q n t) = Unit {0}
-SmallBlock (Block.Refused k p) = Unit {0}
+abbrev pub SmallBlock : Result Block Refusal → Type 0
+SmallBlock (Ok (Closed p q t)) = Small t
+SmallBlock (Ok (Stopped p q n t)) = Unit {0}
+SmallBlock (Err e) = Unit {0}
 
-abbrev pub loop_part : ℕ → Block → Part
-loop_part n (Closed p q t) = Acts q (times_of n t)
-loop_part n (Stopped p q m t) = Part.Refused 8 p
-loop_part n (Block.Refused k p) = Part.Refused k p
+abbrev pub loop_part : ℕ → Result Block Refusal → Result Part Refusal
+loop_part n (Ok (Closed p q t)) = Ok (Acts q (times_of n t))
+loop_part n (Ok (Stopped p q m t)) = Err (refusal 8 p)
+loop_part n (Err e) = Err e
 
 -- Document 01: "When an answer is an enum, a definition states this paper's number and values for each enum case": a block that was read is 0 at 0
 -- with its totals, a refusal its number and place
-abbrev pub block_number : Block → ℕ
-block_number (Closed p q t) = 0
-block_number (Stopped p q n t) = 0
-block_number (Block.Refused k p) = k
+abbrev pub block_number : Result Block Refusal → ℕ
+block_number (Ok (Closed p q t)) = 0
+block_number (Ok (Stopped p q n t)) = 0
+block_number (Err e) = e.number
 
-abbrev pub block_place : Block → ℕ
-block_place (Closed p q t) = 0
-block_place (Stopped p q n t) = 0
-block_place (Block.Refused k p) = p
+abbrev pub block_place : Result Block Refusal → ℕ
+block_place (Ok (Closed p q t)) = 0
+block_place (Ok (Stopped p q n t)) = 0
+block_place (Err e) = e.place
 
-abbrev pub block_totals : Block → Totals
-block_totals (Closed p q t) = t
-block_totals (Stopped p q n t) = t
-block_totals (Block.Refused k p) = no_totals
+abbrev pub block_totals : Result Block Refusal → Totals
+block_totals (Ok (Closed p q t)) = t
+block_totals (Ok (Stopped p q n t)) = t
+block_totals (Err e) = no_totals
 
 -- the same of what the lines come to
 abbrev pub got_number : Got → ℕ
@@ -187,5 +184,5 @@ got_totals (stopped b p q n) = totals b
 got_totals (refused k p) = no_totals
 
 -- an answer has them
-abbrev pub BlockIs : Got → Block → Type 0
+abbrev pub BlockIs : Got → Result Block Refusal → Type 0
 BlockIs g r = (block_number r ≡ got_number g) × (block_place r ≡ got_place g) × (block_totals r ≡ got_totals g)

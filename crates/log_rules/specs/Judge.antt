@@ -1,11 +1,10 @@
 -- What is right about a log, line by line.
-use Rattle.std.specs.Prelude.{ℕ, ◌+◌, ◌-◌, List, [], ◌∷◌, true, false, length}
+use Rattle.std.specs.Prelude.{ℕ, ◌+◌, ◌-◌, List, [], ◌∷◌, true, false, length, Result, Ok, Err}
+use Rattle.refusal.specs.declared.Refusal.{Refusal}
 use Rattle.log_line.specs.declared.Line.{Line}
 use Rattle.log_line.specs.declared.Line.TheVariants.{Header, Machine, One, Loop, Done, Stop, NoForm, NoRegister}
 use Rattle.log_line.specs.Said.{line_of}
 use Rattle.log_fault.specs.declared.Stand.TheVariants.{First, Among}
-use Rattle.log_fault.specs.declared.Spotted.{Spotted}
-use Rattle.log_fault.specs.declared.Spotted.TheVariants.{Right, Wrong}
 use Rattle.log_fault.specs.Fault.{spot_of}
 use Rattle.log_rules.specs.Lines.{lines_of}
 
@@ -22,9 +21,9 @@ pub data Stand : Type 0 where
   over : Stand
 
 -- what is found of the line that begins at `at`
-unfoldable pub found_at : ℕ → Spotted → Verdict
-found_at at (Right l) = right
-found_at at (Wrong k i) = wrong k (at + i)
+unfoldable pub found_at : ℕ → Result Line Refusal → Verdict
+found_at at (Ok l) = right
+found_at at (Err e) = wrong e.number (at + e.place)
 
 -- the verdict on one line; "Last `stop=N` .., then nothing"
 unfoldable pub verdict : Stand → ℕ → List ℕ → Verdict

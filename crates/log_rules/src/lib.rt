@@ -1,15 +1,6 @@
 // A log judged line by line, and as blocks of lines: definitions and laws, no code.
 #![tactic(auto)]
 
-use log_line::Line;
-
-// What reading one line at a place finds: an item and where the next line begins, or a refusal's number and place.
-#[derive(Clone, Copy)]
-pub enum Reading {
-    Item(Line, usize),
-    Refused(u8, usize),
-}
-
 // Clocks, turns and items, each cut off just above what a log may have.
 #[derive(Clone, Copy)]
 pub struct Totals {
@@ -18,14 +9,22 @@ pub struct Totals {
     pub items: u64,
 }
 
+impl Totals {
+    // Those of no line.
+    pub const NONE: Totals = Totals {
+        clocks: 0,
+        turns: 0,
+        items: 0,
+    };
+}
+
 // What one line comes to, with the block that it opens: acts, and the place behind them; a `done`, its place and the place behind it; a
-// `stop`, with its number too; or a refusal.
+// `stop`, with its number too.
 #[derive(Clone, Copy)]
 pub enum Part {
     Acts(usize, Totals),
     Close(usize, usize),
     Halt(usize, usize, u32),
-    Refused(u8, usize),
 }
 
 // What a line says before the block that it opens is read: a loop says how often, and where its body begins.
@@ -40,10 +39,9 @@ pub enum Step {
 pub enum Block {
     Closed(usize, usize, Totals),
     Stopped(usize, usize, u32, Totals),
-    Refused(u8, usize),
 }
 
-// The answer of the check: 0, whether the log's machine is PAL, and its totals; or a refusal's number and place.
+// The answer of the check: 0, whether the log's machine is PAL, and its totals; or a refusal's number and place. Flat, as `check_of` states it.
 #[derive(Clone, Copy)]
 pub struct Checked {
     pub number: u8,

@@ -1,4 +1,5 @@
 -- A pass line by line: what is kept, written and counted behind each line. Assumes nothing.
+use Rattle.std.specs.Prelude.{Ok}
 use mathlib.Core.Path.{◌≡◌, refl, ap, sym, ◌∙◌}
 use mathlib.Core.List.{List, [], ◌∷◌, ◌++◌, append-nil}
 use mathlib.Core.Bool.{Bool, true, false, false≢true}
@@ -9,7 +10,6 @@ use lib.ListN.{length, length-append}
 use Rattle.log_line.specs.declared.Line.{Line}
 use Rattle.log_line.specs.declared.Line.TheVariants.{Header, Machine, One, Loop, Done, Stop, NoForm, NoRegister}
 use Rattle.log_fault.specs.declared.Stand.TheVariants.{Among}
-use Rattle.log_fault.specs.declared.Spotted.TheVariants.{Right}
 use Rattle.log_fault.specs.Fault.{spot_of}
 use Rattle.log_fault.proofs.FaultLaws.{right_line}
 use Rattle.log_fault.proofs.Standing.{lets, Lets, turn, opens as opened-on, closes as closes-on, ends as ends_on}
@@ -97,7 +97,7 @@ module _ {k : Kept} {t : Tally} (y : Tallied k t) (at : ℕ) (l : List ℕ) wher
   unfolding dropping
   tallied_dropped r n = record { weights = y.weights; in_clocks = y.in_clocks; in_turns = y.in_turns; counts_clocks = y.counts_clocks; counts_turns = y.counts_turns; going = y.going; over = y.over; cut = y.cut }
 
-  tallied_kept : k.stopped ≡ false → (m : Line) → spot_of (Among k.second k.depth) l ≡ Right m → Tallied (behind_line k at l (Keep m)) (tally_line t k.depth m)
+  tallied_kept : k.stopped ≡ false → (m : Line) → spot_of (Among k.second k.depth) l ≡ Ok m → Tallied (behind_line k at l (Keep m)) (tally_line t k.depth m)
   unfolding behind_line
   tallied_kept n m e =
       let w = weighs y n in
@@ -114,7 +114,7 @@ module _ {k : Kept} {t : Tally} (y : Tallied k t) (at : ℕ) (l : List ℕ) wher
         cut = cut_line w.cut k.depth w.depth m (lets_opens k.second k.depth m h);
       }
 
-  tallied_behind : k.stopped ≡ false → (f : Fate) → ((m : Line) → f ≡ Keep m → spot_of (Among k.second k.depth) l ≡ Right m) → Tallied (behind_line k at l f) (tally_behind t k.depth f)
+  tallied_behind : k.stopped ≡ false → (f : Fate) → ((m : Line) → f ≡ Keep m → spot_of (Among k.second k.depth) l ≡ Ok m) → Tallied (behind_line k at l f) (tally_behind t k.depth f)
   unfolding tally_behind behind_line
   tallied_behind n (Keep m) h = tallied_kept n m (h m refl)
   tallied_behind n (Drop r) h = tallied_dropped r k.ninths
@@ -163,7 +163,7 @@ module _ {o l : List ℕ} {k : Kept} {out list : List ℕ} {s : Sifted} (i : Sif
   unfolding fate_by
   fate_is = fate_same k line s.tally.clocks (known i.tallied g.unstopped) last s.place i.stood.second i.stood.depth i.stood.ninths
 
-  fate_right : (m : Line) → fate_of k last line ≡ Keep m → spot_of (Among k.second k.depth) line ≡ Right m
+  fate_right : (m : Line) → fate_of k last line ≡ Keep m → spot_of (Among k.second k.depth) line ≡ Ok m
   unfolding fate_by
   fate_right m e =
       rw (← i.stood.second, ← i.stood.depth) (kept_right (spot_of (Among s.place.second s.place.depth) line) s.place s.tally.clocks last m (fate_is ∙ e))

@@ -1,4 +1,5 @@
 -- One line: the fate that the code decides is the one that is defined, and a pass that has kept k has kept what is behind the line. Assumes nothing.
+use Rattle.std.specs.Prelude.{Result, Ok, Err}
 use mathlib.Core.Path.{◌≡◌, refl, ap, ap₂, sym, ◌∙◌}
 use mathlib.Core.List.{List}
 use mathlib.Core.Bool.{Bool, true, false}
@@ -6,14 +7,14 @@ use Prim.Native.Nat.{ℕ, zero, suc, ◌≤◌, ◌<◌, min}
 use native.Mathlib.Omega.{arith}
 use borrow.Author.Tests.{eqb-true, eqb-false, eq-eqb, ne_eqb, ltb-true, lt-ltb}
 use lib.Dec.{eqb, ltb}
+use Rattle.refusal.specs.declared.Refusal.{Refusal}
+use Rattle.refusal.specs.Refusal.{refusal, number_of}
 use Rattle.arith.specs.Pick.{pick, both}
 use Rattle.arith.proofs.PickLaws.{both_left, both_right, pick_both}
 use Rattle.log_line.specs.declared.Line.{Line}
 use Rattle.log_line.specs.declared.Line.TheVariants.{Header, Machine, One, Loop, Done, Stop, NoForm, NoRegister}
 use Rattle.log_line.specs.Said.{line_of}
 use Rattle.log_fault.specs.declared.Stand.TheVariants.{Among}
-use Rattle.log_fault.specs.declared.Spotted.{Spotted}
-use Rattle.log_fault.specs.declared.Spotted.TheVariants.{Right, Wrong}
 use Rattle.log_fault.specs.Fault.{spot_of}
 use Rattle.log_fault.proofs.FaultLaws.{right_line, zero_one, Eight, done, stop, eight_line, line_stop}
 use Rattle.log_fault.proofs.Standing.{told, tell, goes_may, lets, Lets, turn, opens as opened-on, ends as ends_on}
@@ -36,10 +37,10 @@ module _ (p : Place) (l : List ℕ) (c : ℕ) (last : Bool) where
   right_opens NoForm h = tt
   right_opens NoRegister h = tt
 
-  found_opens : (f : Spotted) → spot_of (Among p.second p.depth) l ≡ f → OpensBy p.depth (found_by f p c last)
+  found_opens : (f : Result Line Refusal) → spot_of (Among p.second p.depth) l ≡ f → OpensBy p.depth (found_by f p c last)
   unfolding found_by
-  found_opens (Right x) e = right_opens x (lets p.second p.depth l x e)
-  found_opens (Wrong r i) e = pick_both (OpensBy p.depth) (eqb r 7) tt (pick_both (OpensBy p.depth) (both (eqb r 8) (ltb 0 p.depth)) tt tt)
+  found_opens (Ok x) e = right_opens x (lets p.second p.depth l x e)
+  found_opens (Err why) e = pick_both (OpensBy p.depth) (eqb why.number 7) tt (pick_both (OpensBy p.depth) (both (eqb why.number 8) (ltb 0 p.depth)) tt tt)
 
   pub opens_by : OpensBy p.depth (found_by (spot_of (Among p.second p.depth) l) p c last)
   opens_by = found_opens (spot_of (Among p.second p.depth) l) refl
@@ -69,7 +70,7 @@ module _ (k : Kept) (l : List ℕ) (c : ℕ) (known : Known k c) (last : Bool) w
       let e : eqb n c ≡ eqb n (clocks (kept_tree k.new)) = ap (eqb n) (known.exact d) ∙ same_number n (clocks (kept_tree k.new)) h in
       rw (d, e)
 
-  right_same : (x : Line) → spot_of (Among k.second k.depth) l ≡ Right x → right_by x k.ninths c last ≡ line_fate k last (Right x) x
+  right_same : (x : Line) → spot_of (Among k.second k.depth) l ≡ Ok x → right_by x k.ninths c last ≡ line_fate k last (Ok x) x
   unfolding line_fate found_fate right_fate
   right_same (Stop n) e = go (lets k.second k.depth l (Stop n) e)
     where
@@ -84,7 +85,7 @@ module _ (k : Kept) (l : List ℕ) (c : ℕ) (known : Known k c) (last : Bool) w
   right_same NoRegister e = refl
 
   -- 8 is a `stop`'s where a loop is open
-  not_stop : (r i : ℕ) → spot_of (Among k.second k.depth) l ≡ Wrong r i → is_stop (line_of l) ≡ false → both (eqb r 8) (ltb 0 k.depth) ≡ false
+  not_stop : (r i : ℕ) → spot_of (Among k.second k.depth) l ≡ Err (refusal r i) → is_stop (line_of l) ≡ false → both (eqb r 8) (ltb 0 k.depth) ≡ false
   unfolding is_stop
   not_stop r i e n = go (both (eqb r 8) (ltb 0 k.depth)) refl
     where
@@ -95,27 +96,27 @@ module _ (k : Kept) (l : List ℕ) (c : ℕ) (known : Known k c) (last : Bool) w
       go : (b : Bool) → both (eqb r 8) (ltb 0 k.depth) ≡ b → b ≡ false
       go true h =
           let q : r ≡ 8 = eqb-true r 8 (both_left (eqb r 8) _ h) in
-          by (eight_line (Among k.second k.depth) l i (e ∙ ap (λ (x : ℕ). Wrong x i) q)) (ltb-true 0 k.depth (both_right (eqb r 8) _ h))
+          by (eight_line (Among k.second k.depth) l i (e ∙ ap (λ (x : ℕ). Err (refusal x i)) q)) (ltb-true 0 k.depth (both_right (eqb r 8) _ h))
       go false h = refl
 
   -- with none open it is right
-  stop_inside : (n : ℕ) → line_of l ≡ Stop n → (r i : ℕ) → spot_of (Among k.second k.depth) l ≡ Wrong r i → 0 < k.depth
+  stop_inside : (n : ℕ) → line_of l ≡ Stop n → (r i : ℕ) → spot_of (Among k.second k.depth) l ≡ Err (refusal r i) → 0 < k.depth
   stop_inside n x r i e = go k.depth refl
     where
       go : (d : ℕ) → k.depth ≡ d → 0 < d
       go zero h =
-          let q : spot_of (Among k.second k.depth) l ≡ Right (Stop n) = tell (Among k.second k.depth) l (Stop n) x (goes_may k.second (ends_on h)) in
+          let q : spot_of (Among k.second k.depth) l ≡ Ok (Stop n) = tell (Among k.second k.depth) l (Stop n) x (goes_may k.second (ends_on h)) in
           zero_one (cc)
       go (suc d) h = omega arith
 
-  stop_dropped : (n : ℕ) → line_of l ≡ Stop n → (r i : ℕ) → spot_of (Among k.second k.depth) l ≡ Wrong r i → wrong_by r k.depth last ≡ stop_fate k last n
+  stop_dropped : (n : ℕ) → line_of l ≡ Stop n → (r i : ℕ) → spot_of (Among k.second k.depth) l ≡ Err (refusal r i) → wrong_by r k.depth last ≡ stop_fate k last n
   unfolding stop_fate
   stop_dropped n x r i e =
       let h = stop_inside n x r i e in
-      let q : r ≡ 8 = let z = line_stop l k.second k.depth n h x in cc in
+      let q : r ≡ 8 = ap (number_of {A = Line}) (sym e ∙ line_stop l k.second k.depth n h x) in
       rw (q, lt-ltb 0 k.depth h, ne_eqb k.depth 0 (λ z. omega (arith, z)), both_not last)
 
-  wrong_same : (r i : ℕ) → spot_of (Among k.second k.depth) l ≡ Wrong r i → (x : Line) → line_of l ≡ x → wrong_by r k.depth last ≡ line_fate k last (Wrong r i) x
+  wrong_same : (r i : ℕ) → spot_of (Among k.second k.depth) l ≡ Err (refusal r i) → (x : Line) → line_of l ≡ x → wrong_by r k.depth last ≡ line_fate k last (Err (refusal r i)) x
   unfolding line_fate found_fate is_stop
   wrong_same r i e (Stop n) x = stop_dropped n x r i e
   wrong_same r i e Header x = rw (not_stop r i e (ap is_stop x))
@@ -126,10 +127,10 @@ module _ (k : Kept) (l : List ℕ) (c : ℕ) (known : Known k c) (last : Bool) w
   wrong_same r i e NoForm x = rw (not_stop r i e (ap is_stop x))
   wrong_same r i e NoRegister x = rw (not_stop r i e (ap is_stop x))
 
-  found_same : (p : Place) → p.depth ≡ k.depth → p.ninths ≡ k.ninths → (f : Spotted) → spot_of (Among k.second k.depth) l ≡ f → found_by f p c last ≡ line_fate k last f (line_of l)
+  found_same : (p : Place) → p.depth ≡ k.depth → p.ninths ≡ k.ninths → (f : Result Line Refusal) → spot_of (Among k.second k.depth) l ≡ f → found_by f p c last ≡ line_fate k last f (line_of l)
   unfolding found_by
-  found_same p d n (Right x) e = ap (λ (j : ℕ). right_by x j c last) n ∙ (right_same x e ∙ ap (line_fate k last (Right x)) (sym (told (Among k.second k.depth) l x e).says))
-  found_same p d n (Wrong r i) e = ap (λ (j : ℕ). wrong_by r j last) d ∙ wrong_same r i e (line_of l) refl
+  found_same p d n (Ok x) e = ap (λ (j : ℕ). right_by x j c last) n ∙ (right_same x e ∙ ap (line_fate k last (Ok x)) (sym (told (Among k.second k.depth) l x e).says))
+  found_same p d n (Err why) e = ap (λ (j : ℕ). wrong_by why.number j last) d ∙ wrong_same why.number why.place e (line_of l) refl
 
   pub fate_same : (p : Place) → p.second ≡ k.second → p.depth ≡ k.depth → p.ninths ≡ k.ninths → found_by (spot_of (Among p.second p.depth) l) p c last ≡ fate_of k last l
   unfolding fate_of
@@ -137,27 +138,27 @@ module _ (k : Kept) (l : List ℕ) (c : ℕ) (known : Known k c) (last : Bool) w
       ap₂ (λ (b : Bool) (j : ℕ). found_by (spot_of (Among b j) l) p c last) s d ∙ found_same p d n (spot_of (Among k.second k.depth) l) refl
 
 -- what is kept is right
-pub kept_right : (f : Spotted) (p : Place) (c : ℕ) (last : Bool) (m : Line) → found_by f p c last ≡ Keep m → f ≡ Right m
+pub kept_right : (f : Result Line Refusal) (p : Place) (c : ℕ) (last : Bool) (m : Line) → found_by f p c last ≡ Keep m → f ≡ Ok m
 unfolding found_by
-kept_right (Wrong r i) p c last m e = wrongly (eqb r 7) (both (eqb r 8) (ltb 0 p.depth)) e
+kept_right (Err why) p c last m e = wrongly (eqb why.number 7) (both (eqb why.number 8) (ltb 0 p.depth)) e
   where
-    wrongly : (a b : Bool) → pick a Ninth (pick b (Drop (pick last 10 19)) (Drop r)) ≡ Keep m → Wrong r i ≡ Right m
+    wrongly : (a b : Bool) → pick a Ninth (pick b (Drop (pick last 10 19)) (Drop why.number)) ≡ Keep m → ◌≡◌ {A = Result Line Refusal} (Err (refusal why.number why.place)) (Ok m)
     wrongly true b e = zero_one (cc)
     wrongly false true e = zero_one (cc)
     wrongly false false e = zero_one (cc)
-kept_right (Right Header) p c last m e = cc
-kept_right (Right Machine) p c last m e = cc
-kept_right (Right (One a)) p c last m e = cc
-kept_right (Right (Loop n)) p c last m e = cc
-kept_right (Right NoForm) p c last m e = cc
-kept_right (Right NoRegister) p c last m e = cc
-kept_right (Right Done) p c last m e = by (ltb 0 p.ninths) e
+kept_right (Ok Header) p c last m e = cc
+kept_right (Ok Machine) p c last m e = cc
+kept_right (Ok (One a)) p c last m e = cc
+kept_right (Ok (Loop n)) p c last m e = cc
+kept_right (Ok NoForm) p c last m e = cc
+kept_right (Ok NoRegister) p c last m e = cc
+kept_right (Ok Done) p c last m e = by (ltb 0 p.ninths) e
   where
-    by : (b : Bool) → pick b NinthDone (Keep Done) ≡ Keep m → Right Done ≡ Right m
+    by : (b : Bool) → pick b NinthDone (Keep Done) ≡ Keep m → ◌≡◌ {A = Result Line Refusal} (Ok Done) (Ok m)
     by true e = zero_one (cc)
     by false e = cc
-kept_right (Right (Stop n)) p c last m e = by (both last (eqb n c)) e
+kept_right (Ok (Stop n)) p c last m e = by (both last (eqb n c)) e
   where
-    by : (b : Bool) → stop_by b last n ≡ Keep m → Right (Stop n) ≡ Right m
+    by : (b : Bool) → stop_by b last n ≡ Keep m → ◌≡◌ {A = Result Line Refusal} (Ok (Stop n)) (Ok m)
     by true e = cc
     by false e = zero_one (cc)

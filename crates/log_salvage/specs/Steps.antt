@@ -1,11 +1,10 @@
 -- Helper: nobody has to believe this; what the code decides at a line, from what is found of it, where it stands and the totals. That it is the fate that
 -- is defined, and that the totals are those of the tree, is proved.
-use Rattle.std.specs.Prelude.{ℕ, ◌+◌, ◌-◌, ◌*◌, ◌≤◌, ◌<◌, min, List, [], ◌∷◌, Bool, true, false, get_or, set, eqb, ltb}
+use Rattle.std.specs.Prelude.{ℕ, ◌+◌, ◌-◌, ◌*◌, ◌≤◌, ◌<◌, min, List, [], ◌∷◌, Bool, true, false, get_or, set, eqb, ltb, Result, Ok, Err}
+use Rattle.refusal.specs.declared.Refusal.{Refusal}
 use Rattle.arith.specs.Pick.{pick, both}
 use Rattle.log_line.specs.declared.Line.{Line}
 use Rattle.log_line.specs.declared.Line.TheVariants.{Header, Machine, One, Loop, Done, Stop, NoForm, NoRegister}
-use Rattle.log_fault.specs.declared.Spotted.{Spotted}
-use Rattle.log_fault.specs.declared.Spotted.TheVariants.{Right, Wrong}
 use Rattle.log_rules.specs.Tree.{act_clocks}
 use Rattle.log_salvage_rules.specs.declared.Fate.{Fate}
 use Rattle.log_salvage_rules.specs.declared.Fate.TheVariants.{Keep, Drop, Ninth, NinthDone}
@@ -33,9 +32,9 @@ right_by NoRegister ninths clocks last = Keep NoRegister
 abbrev pub wrong_by : ℕ → ℕ → Bool → Fate
 wrong_by r depth last = pick (eqb r 7) Ninth (pick (both (eqb r 8) (ltb 0 depth)) (Drop (pick last 10 19)) (Drop r))
 
-unfoldable pub found_by : Spotted → Place → ℕ → Bool → Fate
-found_by (Right l) p clocks last = right_by l p.ninths clocks last
-found_by (Wrong r i) p clocks last = wrong_by r p.depth last
+unfoldable pub found_by : Result Line Refusal → Place → ℕ → Bool → Fate
+found_by (Ok l) p clocks last = right_by l p.ninths clocks last
+found_by (Err e) p clocks last = wrong_by e.number p.depth last
 
 -- WHERE THE NEXT LINE STANDS
 

@@ -2,7 +2,7 @@
 // nothing lent to it, which measures, so that a refused call writes nothing.
 #![tactic(auto)]
 
-ghost use Rattle.std.specs.Prelude.{◌≡◌, List, [], ◌∷◌, ℕ, ◌+◌, ◌-◌, ◌*◌, ◌≤◌, ◌<◌, ltb, length, take, drop};
+ghost use Rattle.std.specs.Prelude.{◌≡◌, List, [], ◌∷◌, ℕ, ◌+◌, ◌-◌, ◌*◌, ◌≤◌, ◌<◌, length, take, drop};
 ghost use Rattle.arith.specs.Pick.{pick};
 ghost use Rattle.text_print.specs.Printed.{printed};
 ghost use Rattle.log_rules.specs.Tree as Tree;
@@ -13,15 +13,17 @@ ghost use Rattle.log_salvage_rules.specs.Mending.{Kept, kept_tree, deeper, is_st
 ghost use Rattle.log_salvage_rules.specs.Promise.{Mends};
 ghost use Rattle.log_salvage_rules.proofs.SiftLaws.{Going};
 ghost use Rattle.log_salvage.specs.Answer.{salvage_refusal, salvage_of, salvage_text, salvage_list};
-ghost use Rattle.log_salvage.specs.Steps.{stop_by, right_by, wrong_by, found_by, place_behind, more_by, opened_by, tally_line, tally_behind, Small, Opens, OpensBy, kept_by, entries_by, head_entries, begun_by};
+ghost use Rattle.log_salvage.specs.Steps.{right_by, wrong_by, found_by, place_behind, more_by, opened_by, tally_line, tally_behind, Small, Opens, OpensBy, kept_by, entries_by, head_entries, begun_by};
 ghost use Rattle.log_salvage.specs.Writing.{Written, Sifts, fate_by, Bound, Stepped, Adds, Passes};
 
-use log_fault::{Spotted, Stand};
+use log_fault::Stand;
 use log_line::{Act, Line};
 use log_read::line_end;
 use log_salvage_rules::Fate;
+use refusal::Refusal;
 
 // The answer: 0, and the lengths of the repaired log in bytes and of the list in entries; or a refusal's number. The place is 0.
+// Flat, with the number first, as document 01 has it: "a refusal returns its number and place, the state as given, 0 or no for the rest".
 #[derive(Clone, Copy)]
 pub struct Salvaged {
     pub number: u8,
@@ -81,18 +83,17 @@ fn put(out: &mut [u8], at: usize, text: &[u8]) -> usize
 }
 
 // An entry behind n others, where it fits.
+#[tactic(auto, using(crate::proofs::WriteLaws::two_put, crate::proofs::WriteLaws::two_not))]
 fn note(list: &mut [u32], n: usize, first: usize, second: u8) -> usize
     requires { (n ≤ 4294967295) × (first ≤ 4294967295) }
     ensures value { result ≡ n + 1 }
     ensures list_after { list.new ≡ printed list.old (2 * n) (first ∷ second ∷ []) }
 {
     let i = 2 * n;
-    let j = i + 1;
-    if list.len() <= j {
-        return n + 1;
+    if i + 1 < list.len() {
+        list[i] = first as u32;
+        list[i + 1] = u32::from(second);
     }
-    list[i] = first as u32;
-    list[j] = second as u32;
     n + 1
 }
 
@@ -103,48 +104,21 @@ fn end_reason(last: bool) -> u8
     if last { 10 } else { 19 }
 }
 
-// A `stop` where no loop is open.
-fn stop_fate(stays: bool, last: bool, n: u32) -> Fate
-    ensures { result ≡ stop_by stays last n }
-{
-    if stays {
-        Fate::Keep(Line::Stop(n))
-    } else {
-        Fate::Drop(end_reason(last))
-    }
-}
-
-// A `done` where a loop is open.
-fn done_fate(ninths: u64) -> Fate
-    ensures { result ≡ pick (ltb 0 ninths) Fate.NinthDone (Fate.Keep Line.Done) }
-{
-    if 0 < ninths {
-        Fate::NinthDone
-    } else {
-        Fate::Keep(Line::Done)
-    }
-}
-
-// One less, and 0 of 0.
-fn less(x: u64) -> u64
-    ensures { result ≡ x - 1 }
-{
-    if x == 0 { 0 } else { x - 1 }
-}
-
 // A line that is right where it stands.
 fn right_fate(l: Line, ninths: u64, clocks: u64, last: bool) -> Fate
     ensures { result ≡ right_by l ninths clocks last }
 {
     match l {
-        Line::Stop(n) => stop_fate(arith::both_of(last, (n as u64) == clocks), last, n),
-        Line::Done => done_fate(ninths),
-        Line::Header => Fate::Keep(l),
-        Line::Machine => Fate::Keep(l),
-        Line::One(_) => Fate::Keep(l),
-        Line::Loop(_) => Fate::Keep(l),
-        Line::NoForm => Fate::Keep(l),
-        Line::NoRegister => Fate::Keep(l),
+        Line::Stop(n) if last && u64::from(n) == clocks => Fate::Keep(l),
+        Line::Stop(_) => Fate::Drop(end_reason(last)),
+        Line::Done if 0 < ninths => Fate::NinthDone,
+        Line::Header
+        | Line::Machine
+        | Line::One(_)
+        | Line::Loop(_)
+        | Line::Done
+        | Line::NoForm
+        | Line::NoRegister => Fate::Keep(l),
     }
 }
 
@@ -152,58 +126,51 @@ fn right_fate(l: Line, ninths: u64, clocks: u64, last: bool) -> Fate
 fn wrong_fate(k: u8, depth: u64, last: bool) -> Fate
     ensures { result ≡ wrong_by k depth last }
 {
-    if k == 7 {
-        return Fate::Ninth;
+    match k {
+        7 => Fate::Ninth,
+        8 if 0 < depth => Fate::Drop(end_reason(last)),
+        _ => Fate::Drop(k),
     }
-    if arith::both_of(k == 8, 0 < depth) {
-        return Fate::Drop(end_reason(last));
-    }
-    Fate::Drop(k)
 }
 
 // What is done with a line of which this is found.
-fn fate_of(f: Spotted, p: Place, clocks: u64, last: bool) -> Fate
+#[tactic(auto, unfolding(crate::specs::Steps::found_by))]
+fn fate_of(f: Result<Line, Refusal>, p: Place, clocks: u64, last: bool) -> Fate
     ensures { result ≡ found_by f p clocks last }
 {
     match f {
-        Spotted::Right(l) => right_fate(l, p.ninths, clocks, last),
-        Spotted::Wrong(k, _) => wrong_fate(k, p.depth, last),
+        Ok(l) => right_fate(l, p.ninths, clocks, last),
+        Err(e) => wrong_fate(e.number, p.depth, last),
     }
 }
 
 // The loops open behind a line that is kept.
+#[tactic(auto, unfolding(log_salvage_rules::specs::Mending::deeper))]
 fn deeper(depth: u64, l: Line) -> u64
     requires { depth ≤ 8 }
     ensures { result ≡ deeper depth l }
 {
     match l {
         Line::Loop(_) => depth + 1,
-        Line::Done => less(depth),
-        Line::Header => depth,
-        Line::Machine => depth,
-        Line::One(_) => depth,
-        Line::Stop(_) => depth,
-        Line::NoForm => depth,
-        Line::NoRegister => depth,
+        Line::Done => depth.saturating_sub(1),
+        Line::Header
+        | Line::Machine
+        | Line::One(_)
+        | Line::Stop(_)
+        | Line::NoForm
+        | Line::NoRegister => depth,
     }
 }
 
+#[tactic(auto, unfolding(log_salvage_rules::specs::Mending::is_stop))]
 fn is_stop(l: Line) -> bool
     ensures { result ≡ is_stop l }
 {
-    match l {
-        Line::Stop(_) => true,
-        Line::Header => false,
-        Line::Machine => false,
-        Line::One(_) => false,
-        Line::Loop(_) => false,
-        Line::Done => false,
-        Line::NoForm => false,
-        Line::NoRegister => false,
-    }
+    matches!(l, Line::Stop(_))
 }
 
 // How the line behind it stands.
+#[tactic(auto, unfolding(crate::specs::Steps::place_behind))]
 fn place_behind(p: Place, f: Fate) -> Place
     requires { (p.depth ≤ 8) × (p.ninths ≤ 60000) }
     ensures { result ≡ place_behind p f }
@@ -217,62 +184,61 @@ fn place_behind(p: Place, f: Fate) -> Place
         },
         Fate::Drop(_) => p,
         Fate::Ninth => Place {
-            second: p.second,
-            depth: p.depth,
             ninths: p.ninths + 1,
-            stopped: p.stopped,
+            ..p
         },
         Fate::NinthDone => Place {
-            second: p.second,
-            depth: p.depth,
-            ninths: less(p.ninths),
-            stopped: p.stopped,
+            ninths: p.ninths.saturating_sub(1),
+            ..p
         },
     }
 }
 
+#[tactic(auto, unfolding(log_rules::specs::Tree::act_clocks))]
 fn clocks_of(a: Act) -> u64
     ensures { (result ≡ act_clocks a) × (result ≤ 4294967295) }
 {
     match a {
-        Act::Wait(n) => n as u64,
+        Act::Wait(n) => u64::from(n),
         Act::Access(_) => 0,
     }
 }
 
 // So many turns more, each of so many clocks, of a block that is done w times over.
+#[tactic(auto, unfolding(crate::specs::Steps::more_by))]
 fn more(t: Tally, w: u64, turns: u64, clocks: u64) -> Tally
     requires { Small t × (w ≤ 2000000001) × (turns ≤ 255) × (clocks ≤ 4294967295) }
     ensures { result ≡ more_by t w turns clocks }
 {
-    let mut s = t;
-    s.clocks = arith::least_u64(2000000001, t.clocks + w * clocks);
-    s.turns = arith::least_u64(1000001, t.turns + w * turns);
-    s
+    Tally {
+        clocks: (t.clocks + w * clocks).min(2000000001),
+        turns: (t.turns + w * turns).min(1000001),
+        ..t
+    }
 }
 
 // A loop of n turns is opened where d are open.
+#[tactic(auto, unfolding(crate::specs::Steps::opened_by, crate::specs::Steps::more_by))]
 fn opened(t: Tally, d: usize, n: u64) -> Tally
     requires { Small t × (d < 8) × (n ≤ 255) }
     ensures { result ≡ opened_by t d n }
 {
-    let often = t.often;
-    let w = often[d];
+    let w = t.often[d];
     let mut s = more(t, w, n, 0);
-    let inner = d + 1;
-    s.often[inner] = arith::least_u64(2000000001, w * n);
+    s.often[d + 1] = (w * n).min(2000000001);
     s
 }
 
+#[tactic(auto, unfolding(crate::specs::Steps::tally_line))]
 fn acted(t: Tally, d: usize, a: Act) -> Tally
     requires { Small t × (d ≤ 8) }
     ensures { result ≡ tally_line t d (Line.One a) }
 {
-    let often = t.often;
-    more(t, often[d], 1, clocks_of(a))
+    more(t, t.often[d], 1, clocks_of(a))
 }
 
 // The totals behind a line that is kept where so many loops are open.
+#[tactic(auto, unfolding(crate::specs::Steps::tally_line))]
 fn tally_line(t: Tally, depth: u64, l: Line) -> Tally
     requires { Small t × (depth ≤ 8) × Opens depth l }
     ensures { result ≡ tally_line t depth l }
@@ -280,41 +246,40 @@ fn tally_line(t: Tally, depth: u64, l: Line) -> Tally
     let d = depth as usize;
     match l {
         Line::One(a) => acted(t, d, a),
-        Line::Loop(n) => opened(t, d, arith::wide_u8(n)),
-        Line::Header => t,
-        Line::Machine => t,
-        Line::Done => t,
-        Line::Stop(_) => t,
-        Line::NoForm => t,
-        Line::NoRegister => t,
+        Line::Loop(n) => opened(t, d, u64::from(n)),
+        Line::Header
+        | Line::Machine
+        | Line::Done
+        | Line::Stop(_)
+        | Line::NoForm
+        | Line::NoRegister => t,
     }
 }
 
+#[tactic(auto, unfolding(crate::specs::Steps::tally_behind))]
 fn tally_behind(t: Tally, depth: u64, f: Fate) -> Tally
     requires { Small t × (depth ≤ 8) × OpensBy depth f }
     ensures { result ≡ tally_behind t depth f }
 {
     match f {
         Fate::Keep(l) => tally_line(t, depth, l),
-        Fate::Drop(_) => t,
-        Fate::Ninth => t,
-        Fate::NinthDone => t,
+        Fate::Drop(_) | Fate::Ninth | Fate::NinthDone => t,
     }
 }
 
 // The bytes of a line that are kept: all or none.
+#[tactic(auto, unfolding(crate::specs::Steps::kept_by))]
 fn kept(line: &[u8], f: Fate) -> &[u8]
     ensures { result.now ≡ kept_by f line.now }
 {
     match f {
         Fate::Keep(_) => line,
-        Fate::Drop(_) => &line[..0],
-        Fate::Ninth => &line[..0],
-        Fate::NinthDone => &line[..0],
+        Fate::Drop(_) | Fate::Ninth | Fate::NinthDone => &line[..0],
     }
 }
 
 // The entry for a line that is dropped.
+#[tactic(auto, using(crate::proofs::WriteLaws::printed_none), unfolding(crate::specs::Steps::entries_by, log_salvage_rules::specs::Entries::list_words, log_salvage_rules::specs::Entries::entry_words))]
 fn note_fate(list: &mut [u32], n: usize, at: usize, f: Fate) -> usize
     requires { (n ≤ 4294967295) × (at ≤ 4294967295) }
     ensures value { result ≡ n + length (entries_by f at) }
@@ -323,12 +288,12 @@ fn note_fate(list: &mut [u32], n: usize, at: usize, f: Fate) -> usize
     match f {
         Fate::Keep(_) => n,
         Fate::Drop(k) => note(list, n, at, k),
-        Fate::Ninth => note(list, n, at, 7),
-        Fate::NinthDone => note(list, n, at, 7),
+        Fate::Ninth | Fate::NinthDone => note(list, n, at, 7),
     }
 }
 
 // The entry for `log=1`, if it is added.
+#[tactic(auto, using(crate::proofs::WriteLaws::printed_none), unfolding(log_salvage_rules::specs::Entries::list_words, log_salvage_rules::specs::Entries::entry_words))]
 fn note_head(list: &mut [u32], headed: bool) -> usize
     ensures value { result ≡ length (head_entries headed) }
     ensures list_after { list.new ≡ printed list.old 0 (list_words (head_entries headed)) }
@@ -428,10 +393,8 @@ fn close(out: &mut [u8], list: &mut [u32], pen: Pen, depth: u64) -> Pen
     ensures by_index { (o l : List ℕ) (k : Kept) → Written o l k out.old list.old pen → Written o l (closed_by depth k) out.new list.new result }
 {
     let mut p = pen;
-    let mut d = depth;
-    while 0 < d {
+    for _ in 0..depth {
         p = add(out, list, p, b"done=loop\n");
-        d -= 1;
     }
     p
 }
@@ -447,9 +410,8 @@ fn end(out: &mut [u8], list: &mut [u32], pen: Pen, stopped: bool, clocks: u32) -
     let at = pen.bytes;
     let entries = note(list, pen.entries, at, 0);
     log_writer::put_line(out, at, Line::Stop(clocks));
-    let n = log_writer::line_length(Line::Stop(clocks));
     Pen {
-        bytes: at + n,
+        bytes: at + log_writer::line_length(Line::Stop(clocks)),
         entries,
     }
 }
@@ -467,7 +429,7 @@ fn pass(log: &[u8], out: &mut [u8], list: &mut [u32]) -> Passed
     let ended = end(out, list, closed, p.stopped, t.clocks as u32);
     Passed {
         pen: ended,
-        heavy: arith::either_of(2000000000 < t.clocks, 1000000 < t.turns),
+        heavy: 2000000000 < t.clocks || 1000000 < t.turns,
     }
 }
 
@@ -502,7 +464,7 @@ pub fn salvage(log: &[u8], out: &mut [u8], list: &mut [u32]) -> Salvaged
     let pen = m.pen;
     let length = pen.bytes;
     let entries = pen.entries;
-    if arith::either_of(out.len() < length, 60000 < length) {
+    if out.len() < length || 60000 < length {
         return refusal(30);
     }
     if list.len() / 2 < entries {

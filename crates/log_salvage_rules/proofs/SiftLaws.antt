@@ -1,4 +1,5 @@
 -- What has been kept is right lines, one behind the other; a `stop` stays only behind the last. Assumes nothing.
+use Rattle.std.specs.Prelude.{Result, Ok, Err}
 use mathlib.Core.Path.{◌≡◌, refl, ap, sym, ◌∙◌}
 use mathlib.Core.Logic.{inl, inr}
 use mathlib.Core.List.{List, [], ◌∷◌, ◌++◌}
@@ -8,6 +9,7 @@ use native.Mathlib.Omega.{arith}
 use borrow.Author.Tests.{eqb-true}
 use lib.ListN.{length}
 use lib.Dec.{eqb, ltb}
+use Rattle.refusal.specs.declared.Refusal.{Refusal}
 use Rattle.arith.specs.Pick.{pick, both}
 use Rattle.arith.proofs.PickLaws.{both_left, both_right, pick_both}
 use Rattle.log_line.specs.declared.Line.{Line}
@@ -17,8 +19,6 @@ use Rattle.log_line.specs.Printed.{line_text, Printable}
 use Rattle.log_line.proofs.Forth.{AtFault}
 use Rattle.log_line.proofs.LineLaws.{read_printed}
 use Rattle.log_fault.specs.declared.Stand.TheVariants.{Among}
-use Rattle.log_fault.specs.declared.Spotted.{Spotted}
-use Rattle.log_fault.specs.declared.Spotted.TheVariants.{Right, Wrong}
 use Rattle.log_fault.specs.Fault.{spot_of}
 use Rattle.log_fault.proofs.FaultLaws.{right_line}
 use Rattle.log_fault.proofs.Standing.{told, lets, turn, closes}
@@ -57,14 +57,14 @@ module _ (k : Kept) (g : Going k) (at : ℕ) (l : List ℕ) where
   unfolding dropping
   dropped_goes r m = record { run = g.run; unstopped = g.unstopped }
 
-  kept_goes : (x : Line) → spot_of (Among k.second k.depth) l ≡ Right x → is_stop x ≡ false → Going (behind_line k at l (Keep x))
+  kept_goes : (x : Line) → spot_of (Among k.second k.depth) l ≡ Ok x → is_stop x ≡ false → Going (behind_line k at l (Keep x))
   unfolding behind_line
   kept_goes x e n =
       let r = right_line (Among k.second k.depth) l x e in
       let w : Run false (deeper k.depth x) (k.new ++ l) = rw r.is (more g.run (lets k.second k.depth l x e) r.within n) in
       record { run = w; unstopped = n }
 
-  right_goes : (x : Line) → spot_of (Among k.second k.depth) l ≡ Right x → is_stop x ≡ false → Going (behind_line k at l (right_fate k x))
+  right_goes : (x : Line) → spot_of (Among k.second k.depth) l ≡ Ok x → is_stop x ≡ false → Going (behind_line k at l (right_fate k x))
   unfolding right_fate is_stop behind_line
   right_goes Header e n = kept_goes Header e n
   right_goes Machine e n = kept_goes Machine e n
@@ -75,10 +75,10 @@ module _ (k : Kept) (g : Going k) (at : ℕ) (l : List ℕ) where
   right_goes NoForm e n = kept_goes NoForm e n
   right_goes NoRegister e n = kept_goes NoRegister e n
 
-  found_goes : (f : Spotted) → spot_of (Among k.second k.depth) l ≡ f → is_stop (line_of l) ≡ false → Going (behind_line k at l (found_fate k f))
+  found_goes : (f : Result Line Refusal) → spot_of (Among k.second k.depth) l ≡ f → is_stop (line_of l) ≡ false → Going (behind_line k at l (found_fate k f))
   unfolding found_fate behind_line
-  found_goes (Right x) e n = right_goes x e (ap is_stop (sym (told (Among k.second k.depth) l x e).says) ∙ n)
-  found_goes (Wrong r i) e n = pick_both (λ f. Going (behind_line k at l f)) (eqb r 7) (dropped_goes 7 (k.ninths + 1)) (dropped_goes r k.ninths)
+  found_goes (Ok x) e n = right_goes x e (ap is_stop (sym (told (Among k.second k.depth) l x e).says) ∙ n)
+  found_goes (Err why) e n = pick_both (λ f. Going (behind_line k at l f)) (eqb why.number 7) (dropped_goes 7 (k.ninths + 1)) (dropped_goes why.number k.ninths)
 
   stop_left : (last : Bool) (n : ℕ) → line_of l ≡ Stop n → Left last (behind_line k at l (stop_fate k last n))
   unfolding stop_fate behind_line is_stop deeper
@@ -103,7 +103,7 @@ module _ (k : Kept) (g : Going k) (at : ℕ) (l : List ℕ) where
           })
       go false h = goes (dropped_goes (pick last 10 19) k.ninths)
 
-  line_left : (last : Bool) (f : Spotted) → spot_of (Among k.second k.depth) l ≡ f → (m : Line) → line_of l ≡ m → Left last (behind_line k at l (line_fate k last f m))
+  line_left : (last : Bool) (f : Result Line Refusal) → spot_of (Among k.second k.depth) l ≡ f → (m : Line) → line_of l ≡ m → Left last (behind_line k at l (line_fate k last f m))
   unfolding line_fate is_stop
   line_left last f e (Stop n) h = stop_left last n h
   line_left last f e Header h = goes (found_goes f e (ap is_stop h))

@@ -1,4 +1,5 @@
 -- A log that passes comes back byte for byte, with an empty list. Assumes nothing.
+use Rattle.std.specs.Prelude.{Ok}
 use mathlib.Core.Path.{◌≡◌, refl, ap, ap₂, sym, ◌∙◌}
 use mathlib.Core.List.{List, [], ◌++◌, append_assoc, append-nil}
 use mathlib.Core.Bool.{Bool, true, false, false≢true}
@@ -13,7 +14,6 @@ use Rattle.log_line.specs.declared.Line.TheVariants.{Header, Machine, One, Loop,
 use Rattle.log_line.specs.Printed.{ended as fed, line_text, Printable}
 use Rattle.log_line.proofs.LineLaws.{printed_read}
 use Rattle.log_fault.specs.declared.Stand.TheVariants.{Among}
-use Rattle.log_fault.specs.declared.Spotted.TheVariants.{Right}
 use Rattle.log_fault.proofs.FaultLaws.{line_right}
 use Rattle.log_fault.proofs.Standing.{Lets, pal, turn, act as acts-on, opens as opened-on, closes as closes-on}
 use Rattle.log_rules.specs.Head.{head_text, machine_of}
@@ -30,7 +30,7 @@ use Rattle.log_salvage_rules.proofs.RunLaws.{lets_may}
 abbrev so : List ℕ → Bool → ℕ → Kept
 so new s d = record { new = new; list = []; second = s; depth = d; ninths = 0; stopped = false }
 
-keeps : (new : List ℕ) (s : Bool) (d : ℕ) (last : Bool) (l : Line) → is_stop l ≡ false → line_fate (so new s d) last (Right l) l ≡ Keep l
+keeps : (new : List ℕ) (s : Bool) (d : ℕ) (last : Bool) (l : Line) → is_stop l ≡ false → line_fate (so new s d) last (Ok l) l ≡ Keep l
 unfolding line_fate found_fate right_fate is_stop
 keeps new s d last Header n = refl
 keeps new s d last Machine n = refl

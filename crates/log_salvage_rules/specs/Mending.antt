@@ -1,5 +1,6 @@
 -- Change request 12: a damaged log repaired.
-use Rattle.std.specs.Prelude.{ℕ, zero, suc, ◌+◌, ◌-◌, List, [], ◌∷◌, ◌++◌, Bool, true, false, length, drop, eqb, ltb}
+use Rattle.std.specs.Prelude.{ℕ, zero, suc, ◌+◌, ◌-◌, List, [], ◌∷◌, ◌++◌, Bool, true, false, length, drop, eqb, ltb, Result, Ok, Err}
+use Rattle.refusal.specs.declared.Refusal.{Refusal}
 use Rattle.arith.specs.Pick.{pick, both}
 use Rattle.text.specs.Key.{starts_with}
 use Rattle.log_line.specs.declared.Line.{Line}
@@ -7,8 +8,6 @@ use Rattle.log_line.specs.declared.Line.TheVariants.{Header, Machine, One, Loop,
 use Rattle.log_line.specs.Said.{line_of}
 use Rattle.log_line.specs.Printed.{line_text}
 use Rattle.log_fault.specs.declared.Stand.TheVariants.{Among}
-use Rattle.log_fault.specs.declared.Spotted.{Spotted}
-use Rattle.log_fault.specs.declared.Spotted.TheVariants.{Right, Wrong}
 use Rattle.log_fault.specs.Fault.{spot_of}
 use Rattle.log_rules.specs.Lines.{lines_of}
 use Rattle.log_rules.specs.Tree.{Tree, clocks}
@@ -52,11 +51,11 @@ right_fate k NoRegister = Keep NoRegister
 
 -- "Drop lines at fault by 4 or 14 to 17, a `done` with no loop open (8), and a ninth loop line with the `done` that belongs to it (7 for both), keeping
 -- its body."
-unfoldable pub found_fate : Kept → Spotted → Fate
-found_fate k (Right l) = right_fate k l
-found_fate k (Wrong r i) = pick (eqb r 7) Ninth (Drop r)
+unfoldable pub found_fate : Kept → Result Line Refusal → Fate
+found_fate k (Ok l) = right_fate k l
+found_fate k (Err e) = pick (eqb e.number 7) Ninth (Drop e.number)
 
-unfoldable pub line_fate : Kept → Bool → Spotted → Line → Fate
+unfoldable pub line_fate : Kept → Bool → Result Line Refusal → Line → Fate
 line_fate k last f (Stop n) = stop_fate k last n
 line_fate k last f Header = found_fate k f
 line_fate k last f Machine = found_fate k f

@@ -32,6 +32,7 @@ fn write_line(out: &mut [u8], at: usize, register: u16, value: u8) -> usize
     text_print::fixed(out, d, b"\n")
 }
 
+#[tactic(auto, unfolding(log_line::specs::Printed::line_text, log_line::specs::Printed::act_text, log_line::specs::Printed::ended))]
 fn access_line(out: &mut [u8], at: usize, x: Access) -> usize
     requires { at + length (access_text x) ≤ length out.old }
     ensures { Put out.old at (access_text x) out.new result }
@@ -42,17 +43,19 @@ fn access_line(out: &mut [u8], at: usize, x: Access) -> usize
     }
 }
 
+#[tactic(auto, unfolding(log_line::specs::Printed::act_text, log_line::specs::Printed::ended))]
 fn act_line(out: &mut [u8], at: usize, a: Act) -> usize
     requires { at + length (ended (act_text a)) ≤ length out.old }
     ensures { Put out.old at (ended (act_text a)) out.new result }
 {
     match a {
-        Act::Wait(n) => keyed(out, at, b"wait=", arith::wide_u32(n)),
+        Act::Wait(n) => keyed(out, at, b"wait=", u64::from(n)),
         Act::Access(x) => access_line(out, at, x),
     }
 }
 
 // Any line where there is room for it; a line at fault has no text.
+#[tactic(auto, unfolding(log_line::specs::Printed::line_text, log_line::specs::Printed::ended))]
 fn any_line(out: &mut [u8], at: usize, l: Line) -> usize
     requires { at + length (line_text l) ≤ length out.old }
     ensures { Put out.old at (line_text l) out.new result }
@@ -61,14 +64,14 @@ fn any_line(out: &mut [u8], at: usize, l: Line) -> usize
         Line::Header => text_print::fixed(out, at, b"log=1\n"),
         Line::Machine => text_print::fixed(out, at, b"machine=pal\n"),
         Line::One(a) => act_line(out, at, a),
-        Line::Loop(n) => keyed(out, at, b"loop=", n as u64),
+        Line::Loop(n) => keyed(out, at, b"loop=", u64::from(n)),
         Line::Done => text_print::fixed(out, at, b"done=loop\n"),
-        Line::Stop(n) => keyed(out, at, b"stop=", arith::wide_u32(n)),
-        Line::NoForm => at,
-        Line::NoRegister => at,
+        Line::Stop(n) => keyed(out, at, b"stop=", u64::from(n)),
+        Line::NoForm | Line::NoRegister => at,
     }
 }
 
+#[tactic(auto, unfolding(log_line::specs::Printed::act_text, log_line::specs::Printed::ended, text::specs::Hex::hex_text))]
 fn access_length(x: Access) -> usize
     ensures { (result ≡ length (access_text x)) × (result ≤ 16) }
 {
@@ -78,16 +81,18 @@ fn access_length(x: Access) -> usize
     }
 }
 
+#[tactic(auto, unfolding(log_line::specs::Printed::act_text, log_line::specs::Printed::ended), using(crate::proofs::PieceLaws::keyed_long))]
 fn act_length(a: Act) -> usize
     ensures { (result ≡ length (ended (act_text a))) × (result ≤ 16) }
 {
     match a {
-        Act::Wait(n) => 6 + text_print::width(arith::wide_u32(n)),
+        Act::Wait(n) => 6 + text_print::width(u64::from(n)),
         Act::Access(x) => access_length(x),
     }
 }
 
 // How long a line is, with its line feed: 16 bytes hold the longest.
+#[tactic(auto, unfolding(log_line::specs::Printed::line_text, log_line::specs::Printed::ended), using(crate::proofs::PieceLaws::keyed_long))]
 pub fn line_length(l: Line) -> usize
     ensures { (result ≡ length (line_text l)) × (result ≤ 16) }
 {
@@ -95,11 +100,10 @@ pub fn line_length(l: Line) -> usize
         Line::Header => 6,
         Line::Machine => 12,
         Line::One(a) => act_length(a),
-        Line::Loop(n) => 6 + text_print::width(n as u64),
+        Line::Loop(n) => 6 + text_print::width(u64::from(n)),
         Line::Done => 10,
-        Line::Stop(n) => 6 + text_print::width(arith::wide_u32(n)),
-        Line::NoForm => 0,
-        Line::NoRegister => 0,
+        Line::Stop(n) => 6 + text_print::width(u64::from(n)),
+        Line::NoForm | Line::NoRegister => 0,
     }
 }
 
@@ -108,13 +112,10 @@ pub fn put_line(out: &mut [u8], at: usize, l: Line) -> usize
     ensures value { result ≡ placed out.old at (line_text l) }
     ensures out_after { out.new ≡ printed out.old at (line_text l) }
 {
-    let n = line_length(l);
     let size = out.len();
-    if size < at {
-        return at;
+    if at <= size && line_length(l) <= size - at {
+        any_line(out, at, l)
+    } else {
+        at
     }
-    if size - at < n {
-        return at;
-    }
-    any_line(out, at, l)
 }

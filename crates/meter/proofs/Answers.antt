@@ -1,15 +1,16 @@
 -- What each answer says of the list, and that it is the only answer of which that holds. Assumes nothing.
-use Prim.Native.Nat.{ℕ, min, max, ◌≤◌, ◌<◌}
+use Prim.Native.Nat.{ℕ, min, max, ◌-◌, ◌≤◌, ◌<◌}
 use mathlib.Core.Path.{◌≡◌, refl, sym, ap, subst, ◌∙◌}
 use mathlib.Core.Bool.{Bool, true, false}
 use mathlib.Core.List.{List, [], ◌∷◌}
 use native.Mathlib.Omega.{arith}
 use borrow.Author.Tests.{ltb-true, ltb-false, eqb-true, eqb-false}
 use lib.Dec.{eqb, ltb}
-use lib.ListN.{length, get_or}
+use lib.ListN.{length, get_or, take, drop}
+use lib.Seq.{take_all}
 use Rattle.arith.specs.Pick.{pick}
-use Rattle.meter.specs.declared.Measured.{Measured}
-use Rattle.meter.specs.declared.Measured.TheVariants.{Refused, NoLevels, Silent, Steady, Moving}
+use Rattle.meter.specs.declared.Metering.{Metering}
+use Rattle.meter.specs.declared.Metering.TheVariants.{Refused, NoLevels, Silent, Steady, Moving}
 use Rattle.meter.specs.Levels.{any_above, all_are, lowest, highest}
 use Rattle.meter.specs.Measure.{measure_of}
 use Rattle.meter.specs.Says.{All, and, Some, here, Says, MeterSays, MeterOnly}
@@ -111,6 +112,12 @@ told_first (x ∷ l) h =
     let f : max x x ≡ x = omega arith in
     rw (e, f) (told_is x l)
 
+-- by the first level and the rest
+pub told_rest : (l : List ℕ) → 0 < length l
+    → told_of (lowest (get_or l 0 0) (take (length l - 1) (drop 1 l))) (highest (get_or l 0 0) (take (length l - 1) (drop 1 l))) ≡ measure_of l
+told_rest [] h = absurd (omega arith)
+told_rest (x ∷ l) h = rw (take_all (length (x ∷ l) - 1) l (omega arith)) (told_is x l)
+
 pub empty : (l : List ℕ) → length l ≡ 0 → NoLevels ≡ measure_of l
 unfolding measure_of
 empty [] h = refl
@@ -120,4 +127,4 @@ empty (x ∷ l) h = absurd (omega arith)
 pub says : MeterSays
 unfolding measure_of
 says [] = refl
-says (x ∷ l) = subst (λ (r : Measured). Says (x ∷ l) r) (told_is x l) (told_so x l)
+says (x ∷ l) = subst (λ (r : Metering ℕ). Says (x ∷ l) r) (told_is x l) (told_so x l)

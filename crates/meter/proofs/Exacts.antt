@@ -4,8 +4,8 @@ use mathlib.Core.List.{List}
 use native.Mathlib.Omega.{arith}
 use Rattle.chip_mixer.specs.Fraction.{fraction_of}
 use Rattle.chip_mixer.proofs.FractionLaws.{over, again}
-use Rattle.meter.specs.declared.Measured.{Measured}
-use Rattle.meter.specs.declared.Measured.TheVariants.{Refused, NoLevels, Silent, Steady, Moving}
+use Rattle.meter.specs.declared.Metering.{Metering}
+use Rattle.meter.specs.declared.Metering.TheVariants.{Refused, NoLevels, Silent, Steady, Moving}
 use Rattle.meter.specs.Measure.{measure_of, measured_levels}
 use Rattle.meter.specs.Meter.{values_of, in_fractions}
 use Rattle.meter.specs.Says.{Says, Exact, Exactly, MeterExact}
@@ -15,7 +15,7 @@ one : (n : ℕ) → n ≤ 32767 → Exact (fraction_of n) n
 unfolding fraction_of
 one n h = record { value = over n (omega arith); back = again n (omega arith) }
 
-each : (l : List ℕ) (r : Measured) → Says l r → Exactly (values_of (in_fractions r)) (measured_levels r)
+each : (l : List ℕ) (r : Metering ℕ) → Says l r → Exactly (values_of (in_fractions r)) (measured_levels r)
 each l (Refused k) s = tt
 each l NoLevels s = tt
 each l Silent s = tt

@@ -1,7 +1,5 @@
 -- The levels of records. Document 01: "its number in the run (from 1) and the level, as two 32-bit words".
-use Rattle.std.specs.Prelude.{ℕ, ◌+◌, List, [], ◌∷◌, take, drop}
-use Rattle.meter.specs.declared.records.Before.{Before}
-use Rattle.meter.specs.declared.records.Before.TheVariants.{Nothing, Level}
+use Rattle.std.specs.Prelude.{ℕ, ◌+◌, List, [], ◌∷◌, take, drop, Option, None, Some}
 
 -- the levels of words: the second of each two; a last word alone is no record
 unfoldable pub levels_in : List ℕ → List ℕ
@@ -14,6 +12,6 @@ unfoldable pub record_levels : ℕ → ℕ → List ℕ → List ℕ
 record_levels start count words = drop start (take (start + count) (levels_in words))
 
 -- with the level before them, where it counts
-abbrev pub levels_heard : Before → List ℕ → List ℕ
-levels_heard Nothing l = l
-levels_heard (Level x) l = x ∷ l
+abbrev pub levels_heard : Option ℕ → List ℕ → List ℕ
+levels_heard None l = l
+levels_heard (Some x) l = x ∷ l

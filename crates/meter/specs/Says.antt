@@ -5,8 +5,8 @@ use Rattle.std.specs.Float.{binary32}
 use Rattle.std.specs.Float.Ieee.{mul, of_int}
 use Rattle.std.specs.Float.Ieee.Exact.{HasValue}
 use Rattle.chip_mixer.specs.Fraction.{scale}
-use Rattle.meter.specs.declared.Measured.{Measured}
-use Rattle.meter.specs.declared.Measured.TheVariants.{Refused, NoLevels, Silent, Steady, Moving}
+use Rattle.meter.specs.declared.Metering.{Metering}
+use Rattle.meter.specs.declared.Metering.TheVariants.{Refused, NoLevels, Silent, Steady, Moving}
 use Rattle.meter.specs.Measure.{measure_of, measured_levels}
 use Rattle.meter.specs.Meter.{values_of, meter_of}
 
@@ -21,7 +21,7 @@ pub data Some (P : ℕ → Type 0) : List ℕ → Type 0 where
   later : {x : ℕ} {l : List ℕ} → Some P l → Some P (x ∷ l)
 
 -- what an answer says of a list of levels
-abbrev pub Says : List ℕ → Measured → Type 0
+abbrev pub Says : List ℕ → Metering ℕ → Type 0
 Says l (Refused k) = (k ≡ 29) × Some (λ y. 32767 < y) l
 Says l NoLevels = l ≡ []
 Says l Silent = (0 < length l) × All (λ y. y ≡ 0) l
@@ -34,7 +34,7 @@ abbrev pub MeterSays : Type 0
 MeterSays = (l : List ℕ) → Says l (measure_of l)
 
 abbrev pub MeterOnly : Type 0
-MeterOnly = (l : List ℕ) (r : Measured) → Says l r → r ≡ measure_of l
+MeterOnly = (l : List ℕ) (r : Metering ℕ) → Says l r → r ≡ measure_of l
 
 -- a float is a level's exact fraction
 pub record Exact (v : Float) (level : ℕ) : Type 0 where

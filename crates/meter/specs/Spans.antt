@@ -2,8 +2,8 @@
 -- meter (proofs/Answers: told-is).
 use Rattle.std.specs.Prelude.{ℕ, ◌≡◌, List, [], ◌∷◌, eqb, ltb}
 use Rattle.arith.specs.Pick.{pick}
-use Rattle.meter.specs.declared.Measured.{Measured}
-use Rattle.meter.specs.declared.Measured.TheVariants.{Refused, Silent, Steady, Moving}
+use Rattle.meter.specs.declared.Metering.{Metering}
+use Rattle.meter.specs.declared.Metering.TheVariants.{Refused, Silent, Steady, Moving}
 use Rattle.meter.specs.declared.Span as declared
 use Rattle.meter.specs.Levels.{lowest, highest}
 use Rattle.meter.specs.Measure.{measured_number, measured_levels}
@@ -21,7 +21,7 @@ abbrev pub span_from : ℕ → List ℕ → declared.Span
 span_from x l = span_over (span_at x) l
 
 -- silent, steady or moving, by the span
-unfoldable pub told_of : ℕ → ℕ → Measured
+unfoldable pub told_of : ℕ → ℕ → Metering ℕ
 told_of low high =
     pick (ltb 32767 high) (Refused 29)
     (pick (ltb low high) (Moving low high) (pick (eqb high 0) Silent (Steady high)))
@@ -35,5 +35,5 @@ span_levels s =
     pick (ltb 32767 s.high) []
     (pick (ltb s.low s.high) (s.low ∷ s.high ∷ []) (pick (eqb s.high 0) [] (s.high ∷ [])))
 
-abbrev pub SpanIs : declared.Span → Measured → Type 0
+abbrev pub SpanIs : declared.Span → Metering ℕ → Type 0
 SpanIs s r = (measured_number r ≡ span_number s) × (measured_levels r ≡ span_levels s)

@@ -2,51 +2,36 @@
 // records of a run in `records`.
 #![tactic(auto)]
 
-ghost use Rattle.std.specs.Prelude.{◌≡◌, [], ◌∷◌, min, max};
+ghost use Rattle.std.specs.Prelude.{◌≡◌, [], ◌∷◌};
 ghost use Rattle.meter.specs.Measure.{measured_levels, meter_number, meter_levels, MeasuredIs, measure_of};
 ghost use Rattle.meter.specs.Meter.{metered_number, values_of, fractions, MeteredIs, in_fractions, meter_of};
 ghost use Rattle.meter.specs.Spans.{span_at, span_over, span_from, told_of, SpanIs};
 
 pub mod records;
 
-// What a list of levels is, in whole levels out of 32,768.
+// What a list of levels is: refused by a number, or with its levels, each as an L.
+// No Result: request 11 names the cases, and `measure_of` the refusal among them.
 #[derive(Clone, Copy)]
-pub enum Measured {
+pub enum Metering<L> {
     Refused(u8),
     NoLevels,
     Silent,
-    Steady(u16),
+    Steady(L),
     // The lowest and the highest.
-    Moving(u16, u16),
+    Moving(L, L),
 }
 
-// The same, every level as the exact fraction of 32,768.
-#[derive(Clone, Copy)]
-pub enum Metered {
-    Refused(u8),
-    NoLevels,
-    Silent,
-    Steady(f32),
-    Moving(f32, f32),
-}
+// It in whole levels out of 32,768.
+pub type Measured = Metering<u16>;
+
+// It with every level as the exact fraction of 32,768.
+pub type Metered = Metering<f32>;
 
 // The lowest and the highest of some levels.
 #[derive(Clone, Copy)]
 pub struct Span {
     pub low: u32,
     pub high: u32,
-}
-
-fn lower(x: u32, y: u32) -> u32
-    ensures { result ≡ min x y }
-{
-    if x < y { x } else { y }
-}
-
-fn higher(x: u32, y: u32) -> u32
-    ensures { result ≡ max x y }
-{
-    if x < y { y } else { x }
 }
 
 // The lowest and the highest of one level.
@@ -57,32 +42,32 @@ pub fn at_level(x: u32) -> Span
 }
 
 // Those of some levels and one more.
+#[tactic(auto, unfolding(crate::specs::Levels::lowest, crate::specs::Levels::highest))]
 pub fn with_level(s: Span, x: u32) -> Span
     ensures { result ≡ span_over s (x ∷ []) }
 {
     Span {
-        low: lower(s.low, x),
-        high: higher(s.high, x),
+        low: s.low.min(x),
+        high: s.high.max(x),
     }
 }
 
 // The lowest and the highest of x and the levels. The loop tests nothing, so that it runs in wide steps.
+#[tactic(auto, using(crate::proofs::Steps::low_step, crate::proofs::Steps::high_step, crate::proofs::Steps::low_over, crate::proofs::Steps::high_over))]
 fn span_of(levels: &[u32], x: u32) -> Span
     ensures { result ≡ span_from x levels.now }
 {
     let mut low = x;
     let mut high = x;
-    let mut i: usize = 0;
-    while i < levels.len() {
-        let y = levels[i];
-        low = lower(low, y);
-        high = higher(high, y);
-        i += 1;
+    for y in levels {
+        low = low.min(*y);
+        high = high.max(*y);
     }
     Span { low, high }
 }
 
 // What levels are, by the lowest and the highest of them. A level is above 32,767 exactly where the highest is.
+#[tactic(auto, unfolding(crate::specs::Spans::told_of, crate::specs::Spans::span_number, crate::specs::Spans::span_levels))]
 pub fn told(s: Span) -> Measured
     ensures value { result ≡ told_of s.low s.high }
     ensures span_is { SpanIs s result }
@@ -100,15 +85,15 @@ pub fn told(s: Span) -> Measured
 }
 
 // What a list of levels is, in whole levels. Refused: 29.
+#[tactic(auto, using(crate::proofs::Answers::told_rest, crate::proofs::Answers::empty, crate::proofs::Numbers::measured_number_lem, crate::proofs::Numbers::measured_levels_lem))]
 pub fn measure(levels: &[u32]) -> Measured
     ensures value { result ≡ measure_of levels.now }
     ensures measured_is { MeasuredIs levels.now result }
 {
-    if levels.len() == 0 {
+    let [first, rest @ ..] = levels else {
         return Measured::NoLevels;
-    }
-    let s = span_of(levels, levels[0]);
-    told(s)
+    };
+    told(span_of(rest, *first))
 }
 
 // Document 01's number of an answer: 0, or that of a refusal.
@@ -117,14 +102,11 @@ pub fn number_of(m: Metered) -> u8
 {
     match m {
         Metered::Refused(number) => number,
-        Metered::NoLevels => 0,
-        Metered::Silent => 0,
-        Metered::Steady(_) => 0,
-        Metered::Moving(_, _) => 0,
+        Metered::NoLevels | Metered::Silent | Metered::Steady(_) | Metered::Moving(_, _) => 0,
     }
 }
 
-// An answer with every level as the exact fraction of 32,768.
+// An answer with every level as the exact fraction of 32,768. No `map` with a closure: its contract would be longer than these cases, for this one caller.
 pub fn in_fractions(m: Measured) -> Metered
     ensures value { result ≡ in_fractions m }
     ensures metered_is { MeteredIs m result }
@@ -135,9 +117,7 @@ pub fn in_fractions(m: Measured) -> Metered
         Measured::Silent => Metered::Silent,
         Measured::Steady(level) => Metered::Steady(chip_mixer::fraction(level)),
         Measured::Moving(low, high) => {
-            let a = chip_mixer::fraction(low);
-            let b = chip_mixer::fraction(high);
-            Metered::Moving(a, b)
+            Metered::Moving(chip_mixer::fraction(low), chip_mixer::fraction(high))
         }
     }
 }
@@ -149,6 +129,5 @@ pub fn meter(levels: &[u32]) -> Metered
     ensures result_value_2 { values_of result ≡ fractions (measured_levels (measure_of levels.now)) }
     ensures levels_value { values_of result ≡ fractions (meter_levels levels.now) }
 {
-    let m = measure(levels);
-    in_fractions(m)
+    in_fractions(measure(levels))
 }

@@ -7,40 +7,25 @@ ghost use Rattle.meter.specs.Spans.{span_over, span_from};
 
 use super::{Measured, Metered, Span};
 
-// The level before the first record, where it counts.
-#[derive(Clone, Copy)]
-pub enum Before {
-    Nothing,
-    Level(u32),
-}
-
 // The place behind the last of `count` records from `start` on, of those that are there.
 fn end_of(start: usize, count: usize, all: usize) -> usize
     ensures { result ≡ min (start + count) all }
 {
-    if all <= start {
-        return all;
-    }
-    if count < all - start {
-        start + count
-    } else {
-        all
-    }
+    start.saturating_add(count).min(all)
 }
 
 // The lowest and the highest of some levels and the records' levels.
+#[tactic(auto, using(crate::proofs::Steps::there_low, crate::proofs::Steps::there_high, crate::proofs::Steps::there_is, crate::proofs::Steps::there_length, crate::proofs::Steps::low_over, crate::proofs::Steps::high_over))]
 pub fn with_records(s: Span, words: &[u32], start: usize, count: usize) -> Span
     ensures { result ≡ span_over s (record_levels start count words.now) }
 {
     let end = end_of(start, count, words.len() / 2);
     let mut low = s.low;
     let mut high = s.high;
-    let mut i = start;
-    while i < end {
+    for i in start..end {
         let y = words[2 * i + 1];
-        low = super::lower(low, y);
-        high = super::higher(high, y);
-        i += 1;
+        low = low.min(y);
+        high = high.max(y);
     }
     Span { low, high }
 }
@@ -53,6 +38,7 @@ fn span_of(words: &[u32], start: usize, count: usize, x: u32) -> Span
 }
 
 // What the records' levels are by themselves.
+#[tactic(auto, using(crate::proofs::Answers::told_first, crate::proofs::Answers::empty, crate::proofs::Steps::there_none, crate::proofs::Steps::there_some, crate::proofs::Steps::there_first))]
 fn alone(words: &[u32], start: usize, count: usize) -> Measured
     ensures { result ≡ measure_of (record_levels start count words.now) }
 {
@@ -60,31 +46,27 @@ fn alone(words: &[u32], start: usize, count: usize) -> Measured
     if end <= start {
         return Measured::NoLevels;
     }
-    let s = span_of(words, start, count, words[2 * start + 1]);
-    super::told(s)
+    super::told(span_of(words, start, count, words[2 * start + 1]))
 }
 
-// What the levels of `count` records from record `start` on are, of those that are there. Refused: 29.
-pub fn measure(before: Before, words: &[u32], start: usize, count: usize) -> Measured
+// What the levels of `count` records from record `start` on are, of those that are there, with the level before them where it counts. Refused: 29.
+#[tactic(auto, using(crate::proofs::Answers::told_is, crate::proofs::Numbers::measured_number_lem, crate::proofs::Numbers::measured_levels_lem))]
+pub fn measure(before: Option<u32>, words: &[u32], start: usize, count: usize) -> Measured
     ensures value { result ≡ measure_of (levels_heard before (record_levels start count words.now)) }
     ensures measured_is { MeasuredIs (levels_heard before (record_levels start count words.now)) result }
 {
     match before {
-        Before::Nothing => alone(words, start, count),
-        Before::Level(x) => {
-            let s = span_of(words, start, count, x);
-            super::told(s)
-        }
+        None => alone(words, start, count),
+        Some(x) => super::told(span_of(words, start, count, x)),
     }
 }
 
 // The same, every level as the exact fraction of 32,768.
-pub fn meter(before: Before, words: &[u32], start: usize, count: usize) -> Metered
+pub fn meter(before: Option<u32>, words: &[u32], start: usize, count: usize) -> Metered
     ensures value { result ≡ meter_of (levels_heard before (record_levels start count words.now)) }
     ensures result_value { metered_number result ≡ meter_number (levels_heard before (record_levels start count words.now)) }
     ensures result_value_2 { values_of result ≡ fractions (measured_levels (measure_of (levels_heard before (record_levels start count words.now)))) }
     ensures levels_value { values_of result ≡ fractions (meter_levels (levels_heard before (record_levels start count words.now))) }
 {
-    let m = measure(before, words, start, count);
-    super::in_fractions(m)
+    super::in_fractions(measure(before, words, start, count))
 }

@@ -1,14 +1,12 @@
 // `perch fold`: a log on standard input, the folded log on standard output, and nothing else there.
 use super::refused::refuse;
-use perch_fold::Outcome;
 
 fn tell(rt: &HostRuntime, log: &[u8]) -> bool {
     let mut out = [0u8; 60000];
-    let o = perch_fold::fold(log, &mut out);
-    match o {
-        Outcome::Done(n) => program_io::write_front(&mut rt.stdout(), &out, n),
-        Outcome::Refused(number, place) => {
-            refuse(rt, number, place);
+    match perch_fold::fold(log, &mut out) {
+        Ok(n) => program_io::write_front(&mut rt.stdout(), &out, n),
+        Err(e) => {
+            refuse(rt, e.number, e.place);
             true
         }
     }
@@ -21,6 +19,5 @@ pub(crate) fn fold(rt: &HostRuntime) -> bool {
     if r.failed {
         return true;
     }
-    let n = r.count;
-    tell(rt, &log[..n])
+    tell(rt, &log[..r.count])
 }

@@ -8,10 +8,7 @@ fn say_clock(rt: &HostRuntime, clock: u32) {
 
 // Nothing is said of a log, and of a clock that is known.
 pub(crate) fn warn(rt: &HostRuntime, recording: &[u8]) {
-    if arith::both_of(
-        recording::is_file(recording),
-        !vgm_file::is_known(recording),
-    ) {
+    if recording::is_file(recording) && !vgm_file::is_known(recording) {
         say_clock(rt, vgm_file::clock_of(recording));
     }
 }

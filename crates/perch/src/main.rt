@@ -30,55 +30,55 @@ fn run(rt: &HostRuntime, verb: &[u8], words: usize) -> bool {
     if words < 2 {
         return usage::usage(&mut rt.stdout());
     }
-    if arith::both_of(words == 2, text::exact(verb, b"help")) {
+    if words == 2 && text::exact(verb, b"help") {
         return usage::usage(&mut rt.stdout());
     }
-    if arith::both_of(words == 2, text::exact(verb, b"version")) {
+    if words == 2 && text::exact(verb, b"version") {
         return usage::version(rt);
     }
-    if arith::both_of(words == 2, text::exact(verb, b"check")) {
+    if words == 2 && text::exact(verb, b"check") {
         return recordings::answer(rt, Asked::Check);
     }
-    if arith::both_of(words == 2, text::exact(verb, b"fold")) {
+    if words == 2 && text::exact(verb, b"fold") {
         return fold::fold(rt);
     }
-    if arith::both_of(words == 2, text::exact(verb, b"import")) {
+    if words == 2 && text::exact(verb, b"import") {
         return recordings::answer(rt, Asked::Import);
     }
-    if arith::both_of(words == 2, text::exact(verb, b"salvage")) {
+    if words == 2 && text::exact(verb, b"salvage") {
         return salvage::salvage(rt);
     }
-    if arith::both_of(words == 2, text::exact(verb, b"samples")) {
+    if words == 2 && text::exact(verb, b"samples") {
         return recordings::answer(rt, Asked::Samples);
     }
-    if arith::both_of(words == 2, text::exact(verb, b"play")) {
+    if words == 2 && text::exact(verb, b"play") {
         return recordings::play(rt, Played::Play);
     }
-    if arith::both_of(words == 3, text::exact(verb, b"why")) {
+    if words == 3 && text::exact(verb, b"why") {
         return why::why(rt);
     }
-    if arith::both_of(words == 3, text::exact(verb, b"at")) {
+    if words == 3 && text::exact(verb, b"at") {
         return states::at(rt);
     }
-    if arith::both_of(words == 4, text::exact(verb, b"vcd")) {
+    if words == 4 && text::exact(verb, b"vcd") {
         return trace::vcd(rt);
     }
-    if arith::both_of(words == 2, text::exact(verb, b"wav")) {
+    if words == 2 && text::exact(verb, b"wav") {
         return sound::at_rate(rt, 44100);
     }
-    if arith::both_of(words == 3, text::exact(verb, b"wav")) {
+    if words == 3 && text::exact(verb, b"wav") {
         return sound::asked(rt);
     }
-    if arith::both_of(words == 2, text::exact(verb, b"meter")) {
+    if words == 2 && text::exact(verb, b"meter") {
         return meters::meter(rt, false);
     }
-    if arith::both_of(words == 3, text::exact(verb, b"meter")) {
+    if words == 3 && text::exact(verb, b"meter") {
         return meters::asked(rt);
     }
-    if arith::both_of(words == 2, text::exact(verb, b"interrupts")) {
+    if words == 2 && text::exact(verb, b"interrupts") {
         return recordings::play(rt, Played::Interrupts);
     }
-    if arith::both_of(words == 2, text::exact(verb, b"dwell")) {
+    if words == 2 && text::exact(verb, b"dwell") {
         return recordings::play(rt, Played::Dwell);
     }
     if text::exact(verb, b"sheet") {

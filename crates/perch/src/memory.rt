@@ -3,7 +3,6 @@ ghost use Rattle.std.specs.Prelude.{◌≤◌, length};
 ghost use Rattle.std.specs.Counts.{IsPrefixLen};
 
 use program_io::Input;
-use vgm_file::Part;
 
 // The memory of the blocks from a place of a file on; how many sample blocks they are.
 fn from(file: &[u8], at: usize, memory: &mut [u8]) -> usize {
@@ -16,13 +15,9 @@ fn from(file: &[u8], at: usize, memory: &mut [u8]) -> usize {
 
 // The same of a whole file; none in what is no VGM file.
 pub(crate) fn of_blocks(file: &[u8], memory: &mut [u8]) -> usize {
-    let p = vgm_file::start(file);
-    match p {
-        Part::From(at) => from(file, at, memory),
-        Part::NoVgm => 0,
-        Part::Cut => 0,
-        Part::Outside => 0,
-        Part::Dual => 0,
+    match vgm_file::start(file) {
+        Ok(at) => from(file, at, memory),
+        Err(_) => 0,
     }
 }
 

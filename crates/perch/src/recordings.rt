@@ -56,7 +56,7 @@ fn with_sample(rt: &HostRuntime, p: Played, log: &[u8]) -> bool {
 
 // Whether bytes are a VGM file that is too long; that is said.
 fn is_long(rt: &HostRuntime, log: &[u8]) -> bool {
-    if arith::both_of(524288 < log.len(), recording::is_file(log)) {
+    if 524288 < log.len() && recording::is_file(log) {
         program_io::say(rt, b"perch: a VGM file of more than 512 KiB is not read\n");
         return true;
     }

@@ -2,7 +2,6 @@
 ghost use Rattle.std.specs.Prelude.{◌≡◌, ◌%◌};
 
 use super::refused::refuse;
-use perch_salvage::Outcome;
 
 // The line of an entry: 160 bytes hold it, since a line that is added has at most 15 and a reason at most 60.
 fn line(rt: &HostRuntime, log: &[u8], new: &[u8], first: u32, second: u8) {
@@ -20,26 +19,22 @@ fn reason(word: u32) -> u8
 
 // The first n entries of a list, or all.
 fn lines(rt: &HostRuntime, log: &[u8], new: &[u8], list: &[u32], n: usize) {
-    let end = arith::least_usize(n, list.len() / 2);
-    let mut i = 0;
-    while i < end {
+    for i in 0..n.min(list.len() / 2) {
         line(rt, log, new, list[2 * i], reason(list[2 * i + 1]));
-        i += 1;
     }
 }
 
 fn tell(rt: &HostRuntime, log: &[u8]) -> bool {
     let mut out = [0u8; 60000];
     let mut list = [0u32; 120020];
-    let o = perch_salvage::salvage(log, &mut out, &mut list);
-    match o {
-        Outcome::Done(n, entries) => {
-            let written = program_io::write_front(&mut rt.stdout(), &out, n);
-            lines(rt, log, &out, &list, entries);
+    match perch_salvage::salvage(log, &mut out, &mut list) {
+        Ok(n) => {
+            let written = program_io::write_front(&mut rt.stdout(), &out, n.bytes);
+            lines(rt, log, &out, &list, n.entries);
             written
         }
-        Outcome::Refused(number, place) => {
-            refuse(rt, number, place);
+        Err(e) => {
+            refuse(rt, e.number, e.place);
             true
         }
     }
@@ -52,6 +47,5 @@ pub(crate) fn salvage(rt: &HostRuntime) -> bool {
     if r.failed {
         return true;
     }
-    let n = r.count;
-    tell(rt, &log[..n])
+    tell(rt, &log[..r.count])
 }

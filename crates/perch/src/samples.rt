@@ -1,7 +1,7 @@
 // `perch samples`: a VGM file on standard input, and on standard output the sample memory that the data blocks in front of its commands hold.
 use super::memory::of_blocks;
 use super::refused::refuse;
-use vgm_file::Part;
+use vgm_file::NoPart;
 
 fn write(rt: &HostRuntime, file: &[u8]) -> bool {
     let mut memory = [0u8; 32768];
@@ -20,25 +20,24 @@ fn checked(rt: &HostRuntime, file: &[u8]) -> bool {
 }
 
 pub(crate) fn tell(rt: &HostRuntime, file: &[u8]) -> bool {
-    let p = vgm_file::start(file);
-    match p {
-        Part::From(_) => checked(rt, file),
-        Part::NoVgm => {
+    match vgm_file::start(file) {
+        Ok(_) => checked(rt, file),
+        Err(NoPart::NoVgm) => {
             program_io::say(rt, b"perch: no VGM file: it doesn't begin with `Vgm `\n");
             true
         }
-        Part::Cut => {
+        Err(NoPart::Cut) => {
             program_io::say(rt, b"perch: the VGM file ends inside its header\n");
             true
         }
-        Part::Outside => {
+        Err(NoPart::Outside) => {
             program_io::say(
                 rt,
                 b"perch: the VGM file's header says no place for its commands\n",
             );
             true
         }
-        Part::Dual => {
+        Err(NoPart::Dual) => {
             program_io::say(rt, b"perch: a VGM file for two chips\n");
             true
         }

@@ -56,7 +56,7 @@ fn draw(rt: &HostRuntime, level: u32, address: u32, size: u32) -> bool {
 }
 
 // A word that is missing, or longer than any right one, reads as an empty one.
-fn words(rt: &HostRuntime) -> Args {
+fn words(rt: &HostRuntime) -> Option<Args> {
     let mut level = [0u8; 16];
     let l = arguments::word(rt, 2, &mut level);
     let mut address = [0u8; 16];
@@ -71,9 +71,8 @@ pub(crate) fn sheet(rt: &HostRuntime, count: usize) -> bool {
     if count != 5 {
         return expected(rt);
     }
-    let w = words(rt);
-    match w {
-        Args::Right(level, address, size) => draw(rt, level, address, size),
-        Args::Wrong => expected(rt),
+    match words(rt) {
+        Some(a) => draw(rt, a.level, a.address, a.size),
+        None => expected(rt),
     }
 }

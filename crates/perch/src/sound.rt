@@ -2,7 +2,6 @@
 use super::recordings::Played;
 use super::refused::explain;
 use super::{arguments, recordings};
-use text::Number;
 
 pub(crate) fn tell(rt: &HostRuntime, log: &[u8], memory: &[u8], rate: u32) -> bool {
     let t = wav_stdout::write(rt, log, memory, rate);
@@ -20,8 +19,8 @@ pub(crate) fn asked(rt: &HostRuntime) -> bool {
     let mut bytes = [0u8; 16];
     let n = arguments::word(rt, 2, &mut bytes);
     match text::decimal_in(&bytes[..n], 8000, 192000) {
-        Number::Is(rate) => at_rate(rt, rate),
-        Number::None => {
+        Some(rate) => at_rate(rt, rate),
+        None => {
             program_io::say(
                 rt,
                 b"perch: wav [RATE]: a decimal with no leading zero from 8000 to 192000\n",

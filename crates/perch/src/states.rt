@@ -6,7 +6,6 @@ ghost use Rattle.perch_at.specs.Text.{at_text};
 use super::recordings::Played;
 use super::refused::{explain, unplayed};
 use super::{arguments, recordings};
-use text::Number;
 
 // The text: 3,072 bytes always hold it.
 fn answer(log: &[u8], memory: &[u8], clock: u64, out: &mut [u8; 3072]) -> usize
@@ -30,11 +29,11 @@ pub(crate) fn at(rt: &HostRuntime) -> bool {
     let n = arguments::word(rt, 2, &mut word);
     let c = text::decimal_in(&word[..n], 0, 2000000000);
     match c {
-        Number::Is(clock) => {
+        Some(clock) => {
             let p = Played::At(clock as u64);
             recordings::play(rt, p)
         }
-        Number::None => {
+        None => {
             program_io::say(
                 rt,
                 b"perch: at CLOCK: a decimal from 0 to 2000000000 with no leading zero\n",

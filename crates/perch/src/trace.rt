@@ -2,7 +2,6 @@
 use super::recordings::Played;
 use super::refused::explain;
 use super::{arguments, recordings};
-use text::Number;
 
 pub(crate) fn tell(rt: &HostRuntime, log: &[u8], memory: &[u8], from: u32, count: u32) -> bool {
     let t = vcd_stdout::write(rt, log, memory, from, count);
@@ -16,7 +15,7 @@ fn window(rt: &HostRuntime, from: u32, count: u32) -> bool {
 }
 
 // A word that is longer than any clock reads as an empty one.
-fn number(rt: &HostRuntime, word: usize, least: u32) -> Number {
+fn number(rt: &HostRuntime, word: usize, least: u32) -> Option<u32> {
     let mut bytes = [0u8; 16];
     let n = arguments::word(rt, word, &mut bytes);
     text::decimal_in(&bytes[..n], least, 2000000000)
@@ -32,10 +31,10 @@ fn expected(rt: &HostRuntime) -> bool {
 
 pub(crate) fn vcd(rt: &HostRuntime) -> bool {
     match number(rt, 2, 0) {
-        Number::Is(from) => match number(rt, 3, 1) {
-            Number::Is(count) => window(rt, from, count),
-            Number::None => expected(rt),
+        Some(from) => match number(rt, 3, 1) {
+            Some(count) => window(rt, from, count),
+            None => expected(rt),
         },
-        Number::None => expected(rt),
+        None => expected(rt),
     }
 }

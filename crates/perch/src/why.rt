@@ -6,7 +6,6 @@ ghost use Rattle.perch_why.specs.Text.{why_text};
 use super::recordings::Played;
 use super::refused::{explain, unplayed};
 use super::{arguments, recordings};
-use text::Number;
 
 // The text: 128 bytes always hold it.
 fn answer(log: &[u8], memory: &[u8], clock: u64, out: &mut [u8; 128]) -> usize
@@ -30,11 +29,11 @@ pub(crate) fn why(rt: &HostRuntime) -> bool {
     let n = arguments::word(rt, 2, &mut word);
     let c = text::decimal_in(&word[..n], 0, 2000000000);
     match c {
-        Number::Is(clock) => {
+        Some(clock) => {
             let p = Played::Why(clock as u64);
             recordings::play(rt, p)
         }
-        Number::None => {
+        None => {
             program_io::say(
                 rt,
                 b"perch: why CLOCK: a decimal from 0 to 2000000000 with no leading zero\n",

@@ -33,11 +33,10 @@ fn status_line(out: &mut [u8], at: usize, byte: u8) -> usize
 fn seen_lines(out: &mut [u8], at: usize, pal: bool, level: u16, status: u8, line: bool) -> usize
     ensures { Puts out.old at (seen_lines pal level status line) out.new result }
 {
-    let n = arith::wide_u8(arith::pick_u8(line, 1, 0));
     let a = machine_line(out, at, pal);
-    let b = text_lines::keyed_line(out, a, b"level=", level as u64);
+    let b = text_lines::keyed_line(out, a, b"level=", u64::from(level));
     let c = status_line(out, b, status);
-    text_lines::keyed_line(out, c, b"line=", n)
+    text_lines::keyed_line(out, c, b"line=", u64::from(line))
 }
 
 // The state at a clock. The status is that of a read; the lines are those of the state before it.

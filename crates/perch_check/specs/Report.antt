@@ -1,12 +1,12 @@
 -- What `perch check` writes about a log, or about a VGM file.
-use Rattle.std.specs.Prelude.{ℕ, List, [], ◌++◌, Bool, eqb}
+use Rattle.std.specs.Prelude.{ℕ, List, [], ◌++◌, Bool, eqb, Option, Some, None}
 use Rattle.arith.specs.Pick.{pick}
 use Rattle.text.specs.Ascii.{bytes}
 use Rattle.text.specs.Decimal.{decimal_text}
 use Rattle.log_rules.specs.declared.Checked.{Checked}
 use Rattle.log_rules.specs.declared.Totals.{Totals}
 use Rattle.recording.specs.Whole.{is_file, check_of}
-use Rattle.log_mend.specs.Mending.{totals_of, first_open, first_place, open_at}
+use Rattle.log_mend.specs.Mending.{totals_of, innermost, open_at}
 use Rattle.text_lines.specs.Lines.{keyed_line, refused_line}
 use Rattle.text_place.specs.Place.{line_number, column}
 use Rattle.perch_reasons.specs.Reasons.{reason_text}
@@ -43,9 +43,14 @@ refused_text log number place =
     ++ (shown_line log place
     ++ mark_line log place))
 
+-- the number of the line at a place; 0 of none
+abbrev pub line_or_none : List ℕ → Option ℕ → ℕ
+line_or_none log (Some place) = line_number log place
+line_or_none log None = 0
+
 -- the number of the line of the innermost loop that is open at a place; 0 where none is
 unfoldable pub open_line : List ℕ → ℕ → ℕ
-open_line log place = pick (first_open (open_at log place)) (line_number log (first_place (open_at log place))) 0
+open_line log place = line_or_none log (innermost (open_at log place))
 
 -- clocks and turns in all
 unfoldable pub totals_text : Totals → List ℕ

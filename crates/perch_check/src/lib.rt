@@ -22,13 +22,13 @@ fn machine_line(out: &mut [u8], at: usize, pal: bool) -> usize
 }
 
 // The machine and the totals of a log that passes.
-fn passed(out: &mut [u8], at: usize, pal: bool, clocks: u64, turns: u64, items: u64) -> usize
-    ensures { Puts out.old at (passed_text pal clocks turns items) out.new result }
+fn passed(out: &mut [u8], at: usize, c: Checked) -> usize
+    ensures { Puts out.old at (passed_text c.pal c.clocks c.turns c.items) out.new result }
 {
-    let a = machine_line(out, at, pal);
-    let b = keyed_line(out, a, b"clocks=", clocks);
-    let c = keyed_line(out, b, b"turns=", turns);
-    keyed_line(out, c, b"items=", items)
+    let a = machine_line(out, at, c.pal);
+    let b = keyed_line(out, a, b"clocks=", c.clocks);
+    let d = keyed_line(out, b, b"turns=", c.turns);
+    keyed_line(out, d, b"items=", c.items)
 }
 
 // `line L, column C: REASON`.
@@ -55,14 +55,14 @@ fn refused(out: &mut [u8], at: usize, log: &[u8], number: u8, place: usize) -> u
 }
 
 // The number of the line of the innermost loop that is open at a place; 0 where none is.
+#[tactic(auto, unfolding(crate::specs::Report::open_line))]
 fn open_line(log: &[u8], place: usize) -> usize
     ensures { result ≡ open_line log.now place }
 {
-    let o = log_mend::open_at(log, place);
-    if o.found {
-        return line_number(log, o.place);
+    match log_mend::open_at(log, place) {
+        Some(at) => line_number(log, at),
+        None => 0,
     }
-    0
 }
 
 // Clocks and turns in all.
@@ -77,17 +77,12 @@ fn totals_text(out: &mut [u8], at: usize, t: Totals) -> usize
 fn more(out: &mut [u8], at: usize, log: &[u8], c: Checked) -> usize
     ensures { Puts out.old at (more_text log.now c) out.new result }
 {
-    if c.number == 10 {
-        let t = log_mend::totals(log);
-        return keyed_line(out, at, b"clocks=", t.clocks);
+    match c.number {
+        10 => keyed_line(out, at, b"clocks=", log_mend::totals(log).clocks),
+        9 => totals_text(out, at, log_mend::totals(log)),
+        8 => keyed_line(out, at, b"open=", open_line(log, c.place) as u64),
+        _ => at,
     }
-    if c.number == 9 {
-        return totals_text(out, at, log_mend::totals(log));
-    }
-    if c.number == 8 {
-        return keyed_line(out, at, b"open=", open_line(log, c.place) as u64);
-    }
-    at
 }
 
 // Number, place and reason of the refusal of a VGM file.
@@ -120,7 +115,7 @@ fn whole(out: &mut [u8], log: &[u8]) -> usize
     let c = recording::check(log);
     let a = text_print::fixed(out, 0, b"check=1\n");
     if c.number == 0 {
-        return passed(out, a, c.pal, c.clocks, c.turns, c.items);
+        return passed(out, a, c);
     }
     failed(out, a, log, c)
 }

@@ -23,8 +23,7 @@ fn flag_line(out: &mut [u8], at: usize, key: &[u8], time: u64, before: bool, aft
     if play_interrupts::same_flag(before, after) {
         return at;
     }
-    let value = arith::wide_u8(arith::pick_u8(after, 1, 0));
-    text_lines::pair_line(out, at, key, time, value)
+    text_lines::pair_line(out, at, key, time, u64::from(after))
 }
 
 // The lines of a change.

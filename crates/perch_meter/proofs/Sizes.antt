@@ -15,14 +15,14 @@ use Rattle.text.specs.Ascii.{bytes}
 use Rattle.text_lines.specs.Lines.{refused_line}
 use Rattle.text_lines.proofs.Pieces.{puts, front}
 use Rattle.text_lines.proofs.Sizes.{UpTo, decimal_ten, pair_size}
-use Rattle.meter.specs.declared.Measured.{Measured}
-use Rattle.meter.specs.declared.Measured.TheVariants.{Refused, NoLevels, Silent, Steady, Moving}
+use Rattle.meter.specs.declared.Metering.{Metering}
+use Rattle.meter.specs.declared.Metering.TheVariants.{Refused, NoLevels, Silent, Steady, Moving}
 use Rattle.play_meter.specs.declared.Answer.{Answer}
 use Rattle.play_meter.specs.declared.waits.Next.{Next}
 use Rattle.play_meter.specs.Meters.{log_meter}
 use Rattle.perch_meter.specs.Text.{numbered, moving_word, meter_word, all_line, outcome_text, meter_text, wait_line, next_text}
 
-word_size : (m : Measured) → UpTo 28 (meter_word m)
+word_size : (m : Metering ℕ) → UpTo 28 (meter_word m)
 unfolding meter_word numbered moving_word
 word_size (Refused k) = rw length-append (omega (arith, decimal_ten k))
 word_size NoLevels = omega arith
@@ -30,7 +30,7 @@ word_size Silent = omega arith
 word_size (Steady v) = rw length-append (omega (arith, decimal_ten v))
 word_size (Moving low high) = simp length-append (omega (arith, decimal_ten low, decimal_ten high))
 
-all_size : (m : Measured) → UpTo 33 (all_line m)
+all_size : (m : Metering ℕ) → UpTo 33 (all_line m)
 unfolding all_line
 all_size m = simp length-append (omega (arith, word_size m))
 
@@ -44,7 +44,7 @@ unfolding meter_text
 meter_size log memory = rw length-append (omega (arith, outcome_size (log_meter log memory)))
 
 -- and a wait's line
-pub wait_size : (time clocks : ℕ) (m : Measured) → length (wait_line time clocks m) ≤ 64
+pub wait_size : (time clocks : ℕ) (m : Metering ℕ) → length (wait_line time clocks m) ≤ 64
 unfolding wait_line
 wait_size time clocks m = simp length-append (omega (arith, decimal_ten time, decimal_ten clocks, word_size m))
 

@@ -9,8 +9,8 @@ use Rattle.log_rules.specs.Tree.{acts}
 use Rattle.recording.specs.Whole.{tree_of}
 use Rattle.chip.specs.Range.{power_on}
 use Rattle.play_walk.specs.declared.Moment.{Moment}
-use Rattle.meter.specs.declared.Measured.{Measured}
-use Rattle.meter.specs.declared.Measured.TheVariants.{Refused, NoLevels, Silent, Steady, Moving}
+use Rattle.meter.specs.declared.Metering.{Metering}
+use Rattle.meter.specs.declared.Metering.TheVariants.{Refused, NoLevels, Silent, Steady, Moving}
 use Rattle.play_meter.specs.declared.Answer.{Answer}
 use Rattle.play_meter.specs.declared.waits.Next.{Next}
 use Rattle.play_meter.specs.Meters.{WaitMeter, waits_from, log_meter}
@@ -25,7 +25,7 @@ unfoldable pub moving_word : ℕ → ℕ → List ℕ
 moving_word low high = bytes "moving:" ++ (decimal_text low ++ (bytes ":" ++ decimal_text high))
 
 -- a meter in a word (what a log sounds like has a level, and none is above 32,767: `refused` and `none` never come)
-unfoldable pub meter_word : Measured → List ℕ
+unfoldable pub meter_word : Metering ℕ → List ℕ
 meter_word (Refused k) = numbered (bytes "refused:") k
 meter_word NoLevels = bytes "none"
 meter_word Silent = bytes "silent"
@@ -33,7 +33,7 @@ meter_word (Steady v) = numbered (bytes "steady:") v
 meter_word (Moving low high) = moving_word low high
 
 -- `all=METER`
-unfoldable pub all_line : Measured → List ℕ
+unfoldable pub all_line : Metering ℕ → List ℕ
 all_line m = bytes "all=" ++ (meter_word m ++ bytes "\n")
 
 -- the meter of the whole log, or the refusal
@@ -45,7 +45,7 @@ unfoldable pub meter_text : List ℕ → List ℕ → List ℕ
 meter_text log memory = bytes "meter=1\n" ++ outcome_text (log_meter log memory)
 
 -- `wait=CLOCK:CLOCKS:METER`: the clock at which a wait begins, its clocks and its meter
-unfoldable pub wait_line : ℕ → ℕ → Measured → List ℕ
+unfoldable pub wait_line : ℕ → ℕ → Metering ℕ → List ℕ
 wait_line time clocks m =
     bytes "wait=" ++ (decimal_text time ++ (bytes ":" ++ (decimal_text clocks ++ (bytes ":" ++ (meter_word m ++ bytes "\n")))))
 

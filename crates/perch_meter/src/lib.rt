@@ -29,15 +29,16 @@ fn moving_word(out: &mut [u8], at: usize, low: u64, high: u64) -> usize
 }
 
 // A meter in a word.
+#[tactic(auto, unfolding(crate::specs::Text::meter_word))]
 fn word(out: &mut [u8], at: usize, m: Measured) -> usize
     ensures { Puts out.old at (meter_word m) out.new result }
 {
     match m {
-        Measured::Refused(number) => numbered_word(out, at, b"refused:", number as u64),
+        Measured::Refused(number) => numbered_word(out, at, b"refused:", u64::from(number)),
         Measured::NoLevels => text_print::fixed(out, at, b"none"),
         Measured::Silent => text_print::fixed(out, at, b"silent"),
-        Measured::Steady(level) => numbered_word(out, at, b"steady:", level as u64),
-        Measured::Moving(low, high) => moving_word(out, at, low as u64, high as u64),
+        Measured::Steady(level) => numbered_word(out, at, b"steady:", u64::from(level)),
+        Measured::Moving(low, high) => moving_word(out, at, u64::from(low), u64::from(high)),
     }
 }
 
@@ -54,9 +55,8 @@ fn all_line(out: &mut [u8], at: usize, m: Measured) -> usize
 fn outcome(out: &mut [u8], at: usize, a: Answer) -> usize
     ensures { Puts out.old at (outcome_text a) out.new result }
 {
-    let m = a.meter;
     if a.number == 0 {
-        return all_line(out, at, m);
+        return all_line(out, at, a.meter);
     }
     text_lines::refused_line(out, at, a.number, a.place)
 }
@@ -87,7 +87,7 @@ fn wait_line(out: &mut [u8], at: usize, time: u64, clocks: u32, m: Measured) -> 
     let a = text_print::fixed(out, at, b"wait=");
     let b = text_print::decimal(out, a, time);
     let c = text_print::fixed(out, b, b":");
-    let d = text_print::decimal(out, c, clocks as u64);
+    let d = text_print::decimal(out, c, u64::from(clocks));
     let e = text_print::fixed(out, d, b":");
     let f = word(out, e, m);
     text_print::fixed(out, f, b"\n")
@@ -120,10 +120,5 @@ pub fn put_next(out: &mut [u8], at: usize, n: Next) -> usize
 pub fn is_over(n: Next) -> bool
     ensures { result ≡ is_over n }
 {
-    match n {
-        Next::Over => true,
-        Next::Moved => false,
-        Next::Wait(_, _, _) => false,
-        Next::Refused(_, _) => true,
-    }
+    matches!(n, Next::Over | Next::Refused(_, _))
 }

@@ -1,4 +1,5 @@
 -- With 60,000 bytes and 120,020 words lent the list always has room, and a log that passes comes back as it was. Assumes nothing.
+use Rattle.std.specs.Prelude.{Result, Ok, Err}
 use mathlib.Core.Path.{◌≡◌, refl, ap, sym}
 use mathlib.Core.List.{List}
 use mathlib.Core.Bool.{Bool, true, false}
@@ -21,15 +22,16 @@ use Rattle.log_salvage.proofs.AnswerLaws.{passing_answer}
 use Rattle.text_lines.proofs.Pieces.{puts, front}
 use Rattle.perch_reasons.specs.Reasons.{reason_text}
 use Rattle.perch_reasons.proofs.Sizes.{reason_size}
-use Rattle.perch_salvage.specs.declared.Outcome.{Outcome}
-use Rattle.perch_salvage.specs.declared.Outcome.TheVariants.{Refused, Done}
-use Rattle.perch_salvage.specs.Verb.{outcome_from, outcome_of, OutcomeIs, keyed_text}
+use Rattle.refusal.specs.declared.Refusal.{Refusal}
+use Rattle.refusal.specs.Refusal.{refusal}
+use Rattle.perch_salvage.specs.declared.Lengths.{Lengths}
+use Rattle.perch_salvage.specs.Verb.{lengths, outcome_from, outcome_of, OutcomeIs, keyed_text}
 
-pub finished : (a : Salvaged) → a.number ≡ 0 → outcome_from a ≡ Done a.length a.entries
+pub finished : (a : Salvaged) → a.number ≡ 0 → outcome_from a ≡ Ok (lengths a.length a.entries)
 unfolding outcome_from
 finished a h = rw (eq-eqb a.number 0 h)
 
-pub refuses : (a : Salvaged) → (a.number ≡ 0 → ⊥) → outcome_from a ≡ Refused a.number a.place
+pub refuses : (a : Salvaged) → (a.number ≡ 0 → ⊥) → outcome_from a ≡ Err (refusal a.number a.place)
 unfolding outcome_from
 refuses a h = rw (ne_eqb a.number 0 h)
 
@@ -39,10 +41,10 @@ unfolding outcome_from
 outcome_is a =
     pick_each (OutcomeIs a) (eqb a.number 0) (λ e. rw e (sym (eqb-true a.number 0 e), refl, refl)) (λ e. rw e (refl, refl, refl))
 
-pub outcome_numbers : (a : Salvaged) (r : Outcome) → r ≡ outcome_from a → OutcomeIs a r
+pub outcome_numbers : (a : Salvaged) (r : Result Lengths Refusal) → r ≡ outcome_from a → OutcomeIs a r
 outcome_numbers a r e = rw e (outcome_is a)
 
-pub passing_stays : (log : List ℕ) (b w : ℕ) → (check_of log).number ≡ 0 → 60000 ≤ b → outcome_of log b w ≡ Done (length log) 0
+pub passing_stays : (log : List ℕ) (b w : ℕ) → (check_of log).number ≡ 0 → 60000 ≤ b → outcome_of log b w ≡ Ok (lengths (length log) 0)
 unfolding outcome_from
 passing_stays log b w h room = ap outcome_from (passing_answer log b w h (omega (arith, (clear log h).short)))
 

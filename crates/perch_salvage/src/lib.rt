@@ -9,26 +9,33 @@ ghost use Rattle.text_place.specs.Place.{line_number};
 ghost use Rattle.perch_reasons.specs.Reasons.{reason_text};
 ghost use Rattle.perch_salvage.specs.Verb.{outcome_of, OutcomeIs, keyed_text, entry_text};
 
-// What became of a log: a refusal, its number and its place; or the length of the repaired log in bytes and of the list in entries.
+use refusal::Refusal;
+
+// What was written: the length of the repaired log in bytes and of the list in entries.
 #[derive(Clone, Copy)]
-pub enum Outcome {
-    Refused(u8, usize),
-    Done(usize, usize),
+pub struct Lengths {
+    pub bytes: usize,
+    pub entries: usize,
 }
 
 // Repairs a damaged log over the front of lent bytes, with the list over the front of lent words; 120,020 words always hold it. Refused, both stay.
-pub fn salvage(log: &[u8], out: &mut [u8], list: &mut [u32]) -> Outcome
+pub fn salvage(log: &[u8], out: &mut [u8], list: &mut [u32]) -> Result<Lengths, Refusal>
     ensures value { result ≡ outcome_of log.now (length out.old) (length list.old) }
     ensures outcome_is { OutcomeIs (salvage_of log.now (length out.old) (length list.old)) result }
     ensures out_after { out.new ≡ salvage_text log.now out.old (length list.old) }
     ensures list_after { list.new ≡ salvage_list log.now (length out.old) list.old }
 {
     let a = log_salvage::salvage(log, out, list);
-    let number = a.number;
-    if number == 0 {
-        return Outcome::Done(a.length, a.entries);
+    if a.number == 0 {
+        return Ok(Lengths {
+            bytes: a.length,
+            entries: a.entries,
+        });
     }
-    Outcome::Refused(number, a.place)
+    Err(Refusal {
+        number: a.number,
+        place: a.place,
+    })
 }
 
 // A key, the two words of an entry, its line's number and what there is to say of it, where there is room for them.
@@ -44,9 +51,9 @@ fn keyed_line(
     ensures { Put out.old 0 (keyed_text key.now first second line words.now) out.new result }
 {
     let a = text_print::fixed(out, 0, key);
-    let b = text_print::decimal(out, a, first as u64);
+    let b = text_print::decimal(out, a, u64::from(first));
     let c = text_print::fixed(out, b, b":");
-    let d = text_print::decimal(out, c, second as u64);
+    let d = text_print::decimal(out, c, u64::from(second));
     let e = text_print::fixed(out, d, b" line ");
     let f = text_print::decimal(out, e, line as u64);
     let g = text_print::fixed(out, f, b": ");
@@ -59,15 +66,11 @@ fn keyed(key: &[u8], first: u32, second: u8, line: usize, words: &[u8], out: &mu
     ensures value { result ≡ placed out.old 0 (keyed_text key.now first second line words.now) }
     ensures out_after { out.new ≡ printed out.old 0 (keyed_text key.now first second line words.now) }
 {
-    let u = text_print::width(first as u64);
-    let v = text_print::width(second as u64);
+    let u = text_print::width(u64::from(first));
+    let v = text_print::width(u64::from(second));
     let w = text_print::width(line as u64);
     let n = key.len() + u + v + w + 10;
-    let size = out.len();
-    if size < n {
-        return 0;
-    }
-    if size - n < words.len() {
+    if out.len() < n || out.len() - n < words.len() {
         return 0;
     }
     keyed_line(key, first, second, line, words, out)

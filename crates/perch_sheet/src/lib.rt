@@ -15,7 +15,7 @@ fn level_line(out: &mut [u8], at: usize, address: u16, level: u8) -> usize
 {
     let a = text_print::hex_four(out, at, address);
     let b = text_print::fixed(out, a, b":");
-    let c = text_print::decimal(out, b, level as u64);
+    let c = text_print::decimal(out, b, u64::from(level));
     text_print::fixed(out, c, b"\n")
 }
 
@@ -25,11 +25,9 @@ fn level_lines(out: &mut [u8], at: usize, address: u16, levels: &[u8]) -> usize
 {
     let mut place = at;
     let mut a = address;
-    let mut i = 0;
-    while i < levels.len() {
-        place = level_line(out, place, a, levels[i]);
+    for &level in levels {
+        place = level_line(out, place, a, level);
         a = chip_dmc_reader::address_after(a);
-        i += 1;
     }
     place
 }
@@ -45,7 +43,7 @@ fn whole(out: &mut [u8], memory: &[u8], level: u64, address: u64, size: u64) -> 
         let n = w.length as usize;
         return level_lines(out, a, address as u16, &levels[..n]);
     }
-    text_lines::keyed_line(out, a, b"refused=", w.number as u64)
+    text_lines::keyed_line(out, a, b"refused=", u64::from(w.number))
 }
 
 // The text about a sheet over the front of lent bytes, and its length: 40,000 bytes always hold it.

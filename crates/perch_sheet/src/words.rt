@@ -2,37 +2,30 @@
 ghost use Rattle.std.specs.Prelude.{◌≡◌};
 ghost use Rattle.perch_sheet.specs.Words.{args_of, decimal_word};
 
-use text::Number;
-
-// Level, address and length; or words that aren't of their shape.
+// What a sheet is asked for by: the level, the address and the length.
 #[derive(Clone, Copy)]
-pub enum Args {
-    Right(u32, u32, u32),
-    Wrong,
+pub struct Args {
+    pub level: u32,
+    pub address: u32,
+    pub size: u32,
 }
 
 // A decimal of at most 32 bits.
-fn decimal_word(s: &[u8]) -> Number
+#[tactic(auto, unfolding(crate::specs::Words::decimal_word))]
+fn decimal_word(s: &[u8]) -> Option<u32>
     ensures { result ≡ decimal_word s.now }
 {
     text::decimal_in(s, 0, 4294967295)
 }
 
-// What the three words ask for.
-pub fn args_of(level: &[u8], address: &[u8], size: &[u8]) -> Args
+// What the three words ask for, if each is of its shape.
+#[tactic(auto, unfolding(crate::specs::Words::args_of, crate::specs::Words::args_by))]
+pub fn args_of(level: &[u8], address: &[u8], size: &[u8]) -> Option<Args>
     ensures { result ≡ args_of level.now address.now size.now }
 {
-    let d = decimal_word(level);
-    let Number::Is(l) = d else {
-        return Args::Wrong;
-    };
-    let h = text::hex4(address);
-    let Number::Is(a) = h else {
-        return Args::Wrong;
-    };
-    let e = decimal_word(size);
-    let Number::Is(n) = e else {
-        return Args::Wrong;
-    };
-    Args::Right(l, a, n)
+    Some(Args {
+        level: decimal_word(level)?,
+        address: text::hex4(address)?,
+        size: decimal_word(size)?,
+    })
 }

@@ -10,6 +10,7 @@ use play_rules::Player;
 use play_step::Taken;
 
 // The answer of `play_on`: the player behind the lines, their bytes, and whether all is over.
+// Flat, with the number first, as document 01 has it: "a refusal returns its number and place, the state as given, 0 or no for the rest" (`answer_of`).
 #[derive(Clone, Copy)]
 pub struct Played {
     pub number: u8,
@@ -24,8 +25,8 @@ fn refuse(p: Player, number: u8, place: usize) -> Played
     ensures { result ≡ record { number = number; place = place; player = p; length = 0; over = false } }
 {
     Played {
-        number: number,
-        place: place,
+        number,
+        place,
         player: p,
         length: 0,
         over: false,

@@ -13,6 +13,7 @@ use chip::State;
 use play_walk::{Met, Moment};
 
 // The answer: the clock that was reached, and the state there; refused, a number and its place, clock 0 and the state at power-on (NTSC's).
+// Flat, with the number first, as document 01 has it: "a refusal returns its number and place, the state as given, 0 or no for the rest" (`refused_at`).
 #[derive(Clone, Copy)]
 pub struct At {
     pub number: u8,
@@ -31,10 +32,7 @@ pub struct Stand {
 fn stand_of(over: bool, m: Moment) -> Stand
     ensures { result ≡ stand_of over m }
 {
-    Stand {
-        over: over,
-        moment: m,
-    }
+    Stand { over, moment: m }
 }
 
 fn at_of(time: u64, s: State) -> At
@@ -51,12 +49,11 @@ fn at_of(time: u64, s: State) -> At
 fn refused_at(number: u8, place: usize) -> At
     ensures { result ≡ refused_at number place }
 {
-    let s = chip::power_on(false);
     At {
-        number: number,
-        place: place,
+        number,
+        place,
         clock: 0,
-        state: s,
+        state: chip::power_on(false),
     }
 }
 
@@ -69,7 +66,7 @@ fn wait_to(m: Moment, memory: &[u8], clock: u64, n: u32) -> Stand
     let s = m.state;
     let c = m.cursor;
     let left = clock - m.time;
-    let wait = arith::wide_u32(n);
+    let wait = u64::from(n);
     if left < wait {
         let cut = play_walk::clocks_on(s, memory, left);
         return stand_of(true, play_walk::moment_of(c, cut, clock));
@@ -79,17 +76,16 @@ fn wait_to(m: Moment, memory: &[u8], clock: u64, n: u32) -> Stand
 }
 
 // What a step of the walk met, and the moment behind it.
+#[tactic(auto, unfolding(crate::specs::Walking::met_to))]
 fn met_to(x: Met, m: Moment, memory: &[u8], clock: u64) -> Stand
     requires { (length memory.now ≡ 32768) × Fine clock m }
     ensures value { result ≡ met_to memory.now clock x m }
     ensures fine { Fine clock result.moment }
 {
     match x {
-        Met::Moved => stand_of(false, m),
-        Met::Access(_, _, _) => stand_of(false, m),
+        Met::Moved | Met::Access(_, _, _) => stand_of(false, m),
         Met::Wait(n) => wait_to(m, memory, clock, n),
-        Met::End => stand_of(true, m),
-        Met::Refused(_, _) => stand_of(true, m),
+        Met::End | Met::Refused(_, _) => stand_of(true, m),
     }
 }
 
@@ -100,21 +96,15 @@ fn walk(log: &[u8], memory: &[u8], clock: u64) -> At
     ensures state_value { in_range result.state ≡ true }
 {
     let mut m = play_walk::start(log);
-    let mut left: u32 = 2000002;
-    while 0 < left {
+    for _ in 0..2000002u32 {
         let w = play_walk::step(log, m);
-        let met = w.met;
-        let here = w.moment;
-        let t = met_to(met, here, memory, clock);
+        let t = met_to(w.met, w.moment, memory, clock);
         m = t.moment;
         if t.over {
-            let s = m.state;
-            return at_of(m.time, s);
+            return at_of(m.time, m.state);
         }
-        left -= 1;
     }
-    let s = m.state;
-    at_of(m.time, s)
+    at_of(m.time, m.state)
 }
 
 // The state at a clock of a log, all accesses stamped up to that clock done; at the log's end where that comes before. Refused: 1 at 0, and

@@ -9,6 +9,7 @@ ghost use Rattle.play_begin.specs.Whole.{begun_of};
 use play_rules::Player;
 
 // The answer of `begin`.
+// Flat, with the number first, as document 01 has it: "a refusal returns its number and place, the state as given, 0 or no for the rest" (`begun_of`).
 #[derive(Clone, Copy)]
 pub struct Begun {
     pub number: u8,

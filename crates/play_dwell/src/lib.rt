@@ -12,6 +12,7 @@ use chip::State;
 use play_walk::Met;
 
 // The answer: the log's clocks, and the 128 counts that they come to; refused, a number and its place, and nothing counted.
+// Flat, with the number first, as document 01 has it: "a refusal returns its number and place, the state as given, 0 or no for the rest" (`refused_answer`).
 #[derive(Clone, Copy)]
 pub struct Answer {
     pub number: u8,
@@ -32,21 +33,20 @@ fn dwelt_of(over: bool, s: State, counts: [u32; 128]) -> Dwelt
     ensures { result ≡ dwelt_of over s counts }
 {
     Dwelt {
-        over: over,
+        over,
         state: s,
-        counts: counts,
+        counts,
     }
 }
 
 fn refused(number: u8, place: usize) -> Answer
     ensures { result ≡ refused_answer number place }
 {
-    let none = [0u32; 128];
     Answer {
-        number: number,
-        place: place,
+        number,
+        place,
         clocks: 0,
-        counts: none,
+        counts: [0u32; 128],
     }
 }
 
@@ -63,9 +63,9 @@ fn clocks_on(s: State, counts: [u32; 128], memory: &[u8], n: u64, words: &mut [u
     let mut table = counts;
     let mut left = n;
     while 0 < left {
-        let r = run::run(state, memory, table, arith::least_u64(left, 1000000), words);
+        let r = run::run(state, memory, table, left.min(1000000), words);
         let ran = r.ran;
-        left -= arith::wide_u32(ran.done);
+        left -= u64::from(ran.done);
         state = ran.state;
         table = r.counts;
     }
@@ -73,6 +73,7 @@ fn clocks_on(s: State, counts: [u32; 128], memory: &[u8], n: u64, words: &mut [u
 }
 
 // What a step of the walk met; s is the state behind it.
+#[tactic(auto, unfolding(crate::specs::Walking::met_on))]
 fn met_on(x: Met, s: State, counts: [u32; 128], memory: &[u8], words: &mut [u32]) -> Dwelt
     requires memory_len { (length memory.now ≡ 32768) × (in_range s ≡ true) }
     requires counts_len { (length counts ≡ 128) × (sum counts + met_clocks x ≤ 2000000000) }
@@ -81,11 +82,9 @@ fn met_on(x: Met, s: State, counts: [u32; 128], memory: &[u8], words: &mut [u32]
     ensures state_value { in_range result.state ≡ true }
 {
     match x {
-        Met::Moved => dwelt_of(false, s, counts),
-        Met::Access(_, _, _) => dwelt_of(false, s, counts),
-        Met::Wait(n) => clocks_on(s, counts, memory, arith::wide_u32(n), words),
-        Met::End => dwelt_of(true, s, counts),
-        Met::Refused(_, _) => dwelt_of(true, s, counts),
+        Met::Moved | Met::Access(_, _, _) => dwelt_of(false, s, counts),
+        Met::Wait(n) => clocks_on(s, counts, memory, u64::from(n), words),
+        Met::End | Met::Refused(_, _) => dwelt_of(true, s, counts),
     }
 }
 
@@ -97,21 +96,15 @@ fn walk(log: &[u8], memory: &[u8], words: &mut [u32]) -> [u32; 128]
 {
     let mut m = play_walk::start(log);
     let mut table = [0u32; 128];
-    let mut left: u32 = 2000002;
-    while 0 < left {
+    for _ in 0..2000002u32 {
         let w = play_walk::step(log, m);
-        let met = w.met;
         let here = w.moment;
-        let s = here.state;
-        let d = met_on(met, s, table, memory, words);
+        let d = met_on(w.met, here.state, table, memory, words);
         table = d.counts;
         if d.over {
             return table;
         }
-        let c = here.cursor;
-        let next = d.state;
-        m = play_walk::moment_of(c, next, here.time);
-        left -= 1;
+        m = play_walk::moment_of(here.cursor, d.state, here.time);
     }
     table
 }
@@ -133,6 +126,6 @@ pub fn whole(log: &[u8], memory: &[u8]) -> Answer
         number: 0,
         place: 0,
         clocks: k.clocks,
-        counts: counts,
+        counts,
     }
 }

@@ -38,6 +38,7 @@ pub struct Place {
 }
 
 // What a step brings: the end, at its clock; nothing; a change; or a refusal's number and place.
+// One flat answer and no Result: a step gives its place back in every case, so that `?` has nothing to hand on.
 #[derive(Clone, Copy)]
 pub enum Next {
     Over(u64),
@@ -61,7 +62,7 @@ pub fn flags_of(s: State) -> Flags
     Flags {
         frame: s.frame.interrupt,
         dmc: s.dmc.reader.interrupt,
-        line: line,
+        line,
     }
 }
 
@@ -69,25 +70,20 @@ pub fn flags_of(s: State) -> Flags
 pub fn same_flag(a: bool, b: bool) -> bool
     ensures { result ≡ same a b }
 {
-    arith::pick_bool(a, b, arith::pick_bool(b, false, true))
+    a == b
 }
 
+#[tactic(auto, unfolding(crate::specs::Changes::same_flags))]
 fn same_flags(a: Flags, b: Flags) -> bool
     ensures { result ≡ same_flags a b }
 {
-    let frame = same_flag(a.frame, b.frame);
-    let dmc = same_flag(a.dmc, b.dmc);
-    let line = same_flag(a.line, b.line);
-    arith::both_of(frame, arith::both_of(dmc, line))
+    same_flag(a.frame, b.frame) && same_flag(a.dmc, b.dmc) && same_flag(a.line, b.line)
 }
 
 fn place_of(m: Moment, left: u32) -> Place
     ensures { result ≡ place_of m left }
 {
-    Place {
-        moment: m,
-        left: left,
-    }
+    Place { moment: m, left }
 }
 
 fn passed_of(n: Next, p: Place) -> Passed
@@ -114,20 +110,20 @@ fn change_next(time: u64, s: State, next: State) -> Next
         return Next::Moved;
     }
     Next::Changed(Change {
-        time: time,
-        before: before,
-        after: after,
+        time,
+        before,
+        after,
     })
 }
 
 // The clocks of an answer; all of them where it holds now, which no clock changes, or where it isn't within them.
+#[tactic(auto, unfolding(crate::specs::Closed::rise_or))]
 fn rise_or(r: Rise, left: u32) -> u32
     ensures { result ≡ rise_or r left }
 {
     match r {
         Rise::At(k) => { if k == 0 { left } else { k } }
-        Rise::Never => left,
-        Rise::Refused(_) => left,
+        Rise::Never | Rise::Refused(_) => left,
     }
 }
 
@@ -135,7 +131,7 @@ fn rise_or(r: Rise, left: u32) -> u32
 fn until(s: State, memory: &[u8], left: u32) -> u32
     ensures { result ≡ least_rise memory.now left s }
 {
-    let n = arith::wide_u32(left);
+    let n = u64::from(left);
     let frame = rise_or(
         run_interrupt::next_interrupt(s, memory, n, Asked::Frame),
         left,
@@ -148,7 +144,7 @@ fn until(s: State, memory: &[u8], left: u32) -> u32
         run_interrupt::next_interrupt(s, memory, n, Asked::Line),
         left,
     );
-    arith::least_u32(arith::least_u32(frame, dmc), line)
+    frame.min(dmc).min(line)
 }
 
 // The rest of a wait up to the next change, or to its end.
@@ -160,12 +156,12 @@ fn clocks_step(p: Place, memory: &[u8]) -> Passed
     let c = m.cursor;
     let s = m.state;
     let k = until(s, memory, p.left);
-    let clocks = arith::wide_u32(k);
+    let clocks = u64::from(k);
     let far = play_walk::clocks_on(s, memory, clocks);
     let time = m.time + clocks;
     let n = change_next(time, s, far);
     let here = play_walk::moment_of(c, far, time);
-    let q = place_of(here, arith::minus_u32(p.left, k));
+    let q = place_of(here, p.left.saturating_sub(k));
     passed_of(n, q)
 }
 

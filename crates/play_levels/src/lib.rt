@@ -102,8 +102,8 @@ fn high_of(time: u64) -> High
     let word = digits_word(high, size);
     High {
         base: high * 10000,
-        word: word,
-        size: size,
+        word,
+        size,
     }
 }
 
@@ -125,7 +125,7 @@ fn high_at(h: High, time: u64) -> High
 fn short(n: u32, bound: u32) -> u32
     ensures { (result ≡ pick (ltb n bound) 1 0) × (result ≤ 1) }
 {
-    if n < bound { 1 } else { 0 }
+    u32::from(n < bound)
 }
 
 // How many digits of five a number doesn't have.
@@ -142,7 +142,7 @@ fn level_word(level: u32, four: u64, dropped: u32) -> u64
     requires level_value { (decimal_text level ≡ digits_in (5 - dropped) level) × (dropped ≤ 4) }
     ensures { result ≡ word_of (58 ∷ (decimal_text level ++ (10 ∷ []))) }
 {
-    let first = (level / 10000) as u64;
+    let first = u64::from(level / 10000);
     let five = 48 + first + 256 * four + FEED;
     (five >> 8 * dropped) * 256 + COLON
 }
@@ -153,7 +153,7 @@ fn line_ahead(out: &mut [u8], at: usize, h: High, time: u64, level: u32) -> usiz
     requires h_value { (h ≡ high_of time) × (10000 ≤ time) × (time ≤ 9999999999) × (level ≤ 65535) }
     ensures { Ahead 8 out.old at (entry_text (Level time level)) out.new result }
 {
-    let both = eight_digits(time - h.base, (level % 10000) as u64);
+    let both = eight_digits(time - h.base, u64::from(level % 10000));
     let dropped = missing(level);
     let colon = at + 6 + h.size + 4;
     put_word(out, at, KEY);
@@ -169,10 +169,8 @@ fn one_line(out: &mut [u8], at: usize, h: High, time: u64, level: u32, more: boo
     requires h_value { (h ≡ high_of time) × (time ≤ 9999999999) × (level ≤ 65535) }
     ensures { Ahead (pick more 8 0) out.old at (entry_text (Level time level)) out.new result }
 {
-    if more {
-        if 0 < h.base {
-            return line_ahead(out, at, h, time, level);
-        }
+    if more && 0 < h.base {
+        return line_ahead(out, at, h, time, level);
     }
     play_text::level_line(out, at, time, level as u16)
 }
@@ -185,16 +183,14 @@ fn records(out: &mut [u8], at: usize, time: u32, words: &[u32], n: usize) -> usi
     ensures out_after { out.new ≡ sets out.old at (entries_text (level_entries time n words.now)) }
 {
     let mut place = at;
-    let mut i = 0;
     let mut high = high_of(0);
-    while i < n {
+    for i in 0..n {
         let k = 2 * i;
         let j = k + 1;
-        let t = arith::wide_u32(time) + arith::wide_u32(words[k]);
+        let t = u64::from(time) + u64::from(words[k]);
         let level = words[j] % 65536;
         high = high_at(high, t);
-        i += 1;
-        place = one_line(out, place, high, t, level, i < n);
+        place = one_line(out, place, high, t, level, i + 1 < n);
     }
     place
 }
@@ -205,7 +201,7 @@ pub fn level_lines(out: &mut [u8], at: usize, time: u32, words: &[u32], n: usize
     ensures out_after { out.new ≡ lines_in out.old at n (entries_text (level_entries time n words.now)) }
 {
     if play_text::left(out.len(), at, n) {
-        return records(out, at, time, words, arith::least_usize(n, words.len() / 2));
+        return records(out, at, time, words, n.min(words.len() / 2));
     }
     at
 }

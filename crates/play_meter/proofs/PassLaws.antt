@@ -13,7 +13,7 @@ use Rattle.play_rules.specs.Sound.{waited}
 use Rattle.play_walk.specs.declared.Moment.{Moment}
 use Rattle.play_walk.specs.declared.Met.{Met}
 use Rattle.play_walk.specs.Walk.{moment_of, walk_step}
-use Rattle.meter.specs.declared.Measured.{Measured}
+use Rattle.meter.specs.declared.Metering.{Metering}
 use Rattle.meter.specs.Spans.{span_at, told_of}
 use Rattle.meter.proofs.Answers.{told_is}
 use Rattle.play_meter.specs.declared.Heard.{Heard}
@@ -29,7 +29,7 @@ unfolding levels_of
 wait_levels memory n t s = levels_waited memory n t s (λ t last s. []) ∙ append-nil (changed memory n s)
 
 -- a wait worked with the level at its beginning
-pub wait_passed : (memory : List ℕ) (n : ℕ) (m : Moment) (h : Heard) (after : Moment) (meter : Measured) → h ≡ clocks_on memory n m.state (span_at (state_level m.state))
+pub wait_passed : (memory : List ℕ) (n : ℕ) (m : Moment) (h : Heard) (after : Moment) (meter : Metering ℕ) → h ≡ clocks_on memory n m.state (span_at (state_level m.state))
     → meter ≡ told_of h.span.low h.span.high → after ≡ moment_of m.cursor h.state (m.time + n)
     → passed_of (Next.Wait m.time n meter) after ≡ passed (met_pass memory (Met.Wait n) m)
 unfolding met_pass wait_meter clocks_on

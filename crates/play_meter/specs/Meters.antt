@@ -16,8 +16,8 @@ use Rattle.chip_api.specs.Answer.{is_memory}
 use Rattle.play_text.specs.declared.Entry.{Entry}
 use Rattle.play_text.specs.declared.Entry.TheVariants.{Play, Level, Read, Stop}
 use Rattle.play_rules.specs.Sound.{waited, entries_of}
-use Rattle.meter.specs.declared.Measured.{Measured}
-use Rattle.meter.specs.declared.Measured.TheVariants.{NoLevels}
+use Rattle.meter.specs.declared.Metering.{Metering}
+use Rattle.meter.specs.declared.Metering.TheVariants.{NoLevels}
 use Rattle.meter.specs.Measure.{measure_of}
 use Rattle.play_meter.specs.declared.Answer.{Answer}
 
@@ -30,7 +30,7 @@ levels_of (Read t v ∷ l) = levels_of l
 levels_of (Stop t ∷ l) = levels_of l
 
 -- the meter of all that the player's lines for the acts say, on the machine (true is PAL)
-unfoldable pub acts_meter : Bool → List ℕ → List Act → Measured
+unfoldable pub acts_meter : Bool → List ℕ → List Act → Metering ℕ
 acts_meter pal memory l = measure_of (levels_of (entries_of pal memory l))
 
 -- refused: no levels
@@ -49,7 +49,7 @@ log_meter log memory =
 pub record WaitMeter : Type 0 where
   pub time : ℕ
   pub clocks : ℕ
-  pub meter : Measured
+  pub meter : Metering ℕ
 
 -- n clocks from the state s at time t on: the level there, and those of the player's lines for them
 unfoldable pub wait_meter : List ℕ → ℕ → ℕ → State → WaitMeter

@@ -16,6 +16,7 @@ use play_walk::Met;
 pub mod waits;
 
 // The answer: the meter; refused, a number and its place, and no levels.
+// Flat, with the number first, as document 01 has it: "a refusal returns its number and place, the state as given, 0 or no for the rest" (`refused_answer`).
 #[derive(Clone, Copy)]
 pub struct Answer {
     pub number: u8,
@@ -35,9 +36,9 @@ fn heard_of(over: bool, s: State, span: Span) -> Heard
     ensures { result ≡ heard_of over s span }
 {
     Heard {
-        over: over,
+        over,
         state: s,
-        span: span,
+        span,
     }
 }
 
@@ -45,8 +46,8 @@ fn refused(number: u8, place: usize) -> Answer
     ensures { result ≡ refused_answer number place }
 {
     Answer {
-        number: number,
-        place: place,
+        number,
+        place,
         meter: Measured::NoLevels,
     }
 }
@@ -62,26 +63,28 @@ fn clocks_on(s: State, span: Span, memory: &[u8], n: u64, words: &mut [u32]) -> 
     let mut heard = span;
     let mut left = n;
     while 0 < left {
-        let r = run::uncounted(state, memory, arith::least_u64(left, 1000000), words);
+        let r = run::uncounted(state, memory, left.min(1000000), words);
         heard = meter::records::with_records(heard, words, 0, r.records as usize);
-        left -= arith::wide_u32(r.done);
+        left -= u64::from(r.done);
         state = r.state;
     }
     heard_of(false, state, heard)
 }
 
 // With the level after an access, where it differs from that before.
+#[tactic(auto, unfolding(crate::specs::Walking::heard_by))]
 fn heard_by(span: Span, before: u16, after: u16) -> Span
     ensures { result ≡ heard_by span before after }
 {
     if after == before {
         span
     } else {
-        meter::with_level(span, after as u32)
+        meter::with_level(span, u32::from(after))
     }
 }
 
 // What a step of the walk met; s is the state behind it.
+#[tactic(auto, unfolding(crate::specs::Walking::met_on))]
 fn met_on(x: Met, s: State, span: Span, memory: &[u8], words: &mut [u32]) -> Heard
     requires memory_len { (length memory.now ≡ 32768) × (in_range s ≡ true) }
     requires in_bounds { 2 ≤ length words.old }
@@ -91,9 +94,8 @@ fn met_on(x: Met, s: State, span: Span, memory: &[u8], words: &mut [u32]) -> Hea
     match x {
         Met::Moved => heard_of(false, s, span),
         Met::Access(_, before, after) => heard_of(false, s, heard_by(span, before, after)),
-        Met::Wait(n) => clocks_on(s, span, memory, arith::wide_u32(n), words),
-        Met::End => heard_of(true, s, span),
-        Met::Refused(_, _) => heard_of(true, s, span),
+        Met::Wait(n) => clocks_on(s, span, memory, u64::from(n), words),
+        Met::End | Met::Refused(_, _) => heard_of(true, s, span),
     }
 }
 
@@ -104,23 +106,16 @@ fn walk(log: &[u8], memory: &[u8], words: &mut [u32]) -> Measured
     ensures { result ≡ acts_meter (machine_of log.now) memory.now (acts (tree_of log.now)) }
 {
     let mut m = play_walk::start(log);
-    let first = m.state;
-    let mut span = meter::at_level(first.level() as u32);
-    let mut left: u32 = 2000002;
-    while 0 < left {
+    let mut span = meter::at_level(u32::from(m.state.level()));
+    for _ in 0..2000002u32 {
         let w = play_walk::step(log, m);
-        let met = w.met;
         let here = w.moment;
-        let s = here.state;
-        let h = met_on(met, s, span, memory, words);
+        let h = met_on(w.met, here.state, span, memory, words);
         span = h.span;
         if h.over {
             return meter::told(span);
         }
-        let c = here.cursor;
-        let next = h.state;
-        m = play_walk::moment_of(c, next, here.time);
-        left -= 1;
+        m = play_walk::moment_of(here.cursor, h.state, here.time);
     }
     meter::told(span)
 }
@@ -137,10 +132,9 @@ pub fn whole(log: &[u8], memory: &[u8]) -> Answer
         return refused(k.number, k.place);
     }
     let mut words = [0u32; 2048];
-    let m = walk(log, memory, &mut words);
     Answer {
         number: 0,
         place: 0,
-        meter: m,
+        meter: walk(log, memory, &mut words),
     }
 }

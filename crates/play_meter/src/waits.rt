@@ -8,6 +8,7 @@ use meter::Measured;
 use play_walk::{Met, Moment};
 
 // What a step brings: the end; nothing; a wait, the clock at which it begins, its clocks and its meter; or a refusal's number and place.
+// One flat answer and no Result: a step gives its place back in every case, so that `?` has nothing to hand on.
 #[derive(Clone, Copy)]
 pub enum Next {
     Over,
@@ -42,28 +43,24 @@ fn pass_wait(m: Moment, memory: &[u8], n: u32, words: &mut [u32]) -> Passed
     requires in_bounds { 2 ≤ length words.old }
     ensures { result ≡ passed (met_pass memory.now (Met.Wait n) m) }
 {
-    let s = m.state;
-    let c = m.cursor;
-    let wait = arith::wide_u32(n);
-    let h = super::clocks_on(s, meter::at_level(s.level() as u32), memory, wait, words);
-    let far = h.state;
-    let span = h.span;
-    let told = meter::told(span);
+    let wait = u64::from(n);
+    let first = meter::at_level(u32::from(m.state.level()));
+    let h = super::clocks_on(m.state, first, memory, wait, words);
     passed_of(
-        Next::Wait(m.time, n, told),
-        play_walk::moment_of(c, far, m.time + wait),
+        Next::Wait(m.time, n, meter::told(h.span)),
+        play_walk::moment_of(m.cursor, h.state, m.time + wait),
     )
 }
 
 // What a step of the walk met, and the moment behind it.
+#[tactic(auto, unfolding(crate::specs::Passing::met_pass))]
 fn pass_met(x: Met, m: Moment, memory: &[u8], words: &mut [u32]) -> Passed
     requires memory_len { (length memory.now ≡ 32768) × (in_range m.state ≡ true) × (m.time ≤ 2000000000) }
     requires in_bounds { 2 ≤ length words.old }
     ensures { result ≡ passed (met_pass memory.now x m) }
 {
     match x {
-        Met::Moved => passed_of(Next::Moved, m),
-        Met::Access(_, _, _) => passed_of(Next::Moved, m),
+        Met::Moved | Met::Access(_, _, _) => passed_of(Next::Moved, m),
         Met::Wait(n) => pass_wait(m, memory, n, words),
         Met::End => passed_of(Next::Over, m),
         Met::Refused(k, p) => passed_of(Next::Refused(k, p), m),
@@ -75,19 +72,16 @@ pub fn pass(m: Moment, log: &[u8], memory: &[u8]) -> Passed
     ensures value { result ≡ passed (pass_of log.now memory.now m) }
     ensures next_is { NextIs (pass_of log.now memory.now m).said result.next }
 {
-    let s = m.state;
     if memory.len() != 32768 {
         return passed_of(Next::Refused(1, 0), m);
     }
-    if !s.in_range() {
+    if !m.state.in_range() {
         return passed_of(Next::Refused(2, 0), m);
     }
     if 2000000000 < m.time {
         return passed_of(Next::Refused(9, 0), m);
     }
     let w = play_walk::step(log, m);
-    let met = w.met;
-    let here = w.moment;
     let mut words = [0u32; 512];
-    pass_met(met, here, memory, &mut words)
+    pass_met(w.met, w.moment, memory, &mut words)
 }

@@ -5,6 +5,7 @@ use chip::State;
 use recording_cursor::Cursor;
 
 // The phases of a player: `play=1` is due; the first level is; the log's acts go on; from `OVER` on all is over.
+// A byte and no enum: C lends a player as bytes and gets each of the 256 phases back as it lent it (`c_player`, `player_in`).
 pub const OPENING: u8 = 0;
 
 pub const FIRST: u8 = 1;

@@ -33,6 +33,7 @@ pub struct Place {
 }
 
 // What a step brings: the end; nothing; so many samples; or a refusal's number and place.
+// One flat answer and no Result: a step gives its place back in every case, so that `?` has nothing to hand on.
 #[derive(Clone, Copy)]
 pub enum Next {
     Over,
@@ -91,9 +92,9 @@ fn place_of(m: Moment, left: u32, sample: u64, sum: u64) -> Place
 {
     Place {
         moment: m,
-        left: left,
-        sample: sample,
-        sum: sum,
+        left,
+        sample,
+        sum,
     }
 }
 
@@ -153,9 +154,9 @@ fn clocks_in(p: Place, rate: u32, room: usize) -> u32
 {
     let m = p.moment;
     let s = m.state;
-    let few = arith::least_usize(room, 2000000) as u64;
-    let end = clocks_before(s.pal, arith::wide_u32(rate), p.sample + few);
-    arith::least_u64(arith::wide_u32(p.left), reach(end, m.time)) as u32
+    let few = room.min(2000000) as u64;
+    let end = clocks_before(s.pal, u64::from(rate), p.sample + few);
+    u64::from(p.left).min(reach(end, m.time)) as u32
 }
 
 // How samples follow each other on a machine at a rate.
@@ -165,8 +166,8 @@ fn pace_of(pal: bool, rate: u32) -> Pace
 {
     let f = clock_rate::clock_rate(pal) as u32;
     Pace {
-        pal: pal,
-        rate: rate,
+        pal,
+        rate,
         quotient: f / rate,
         remainder: f % rate,
         lack: rate - f % rate,
@@ -186,7 +187,7 @@ fn pen_of(a: Sampler, pal: bool, rate: u32, at: usize) -> Pen
     requires { (rate_right rate ≡ true) × (in_order pal rate a ≡ true) }
     ensures { (result.place ≡ at) × PenAt (pace_of pal rate) a result }
 {
-    let w = arith::wide_u32(rate);
+    let w = u64::from(rate);
     let begin = clocks_before(pal, w, a.sample);
     let end = clocks_before(pal, w, a.sample + 1);
     let part = over_before(pal, w, a.sample + 1);
@@ -204,11 +205,11 @@ fn fresh(place: usize, whole: u32, part: u32) -> Pen
     ensures { result ≡ pen_fresh place whole part }
 {
     Pen {
-        place: place,
+        place,
         left: whole,
-        whole: whole,
+        whole,
         sum: 0,
-        part: part,
+        part,
     }
 }
 
@@ -313,9 +314,9 @@ fn written_by(a: Sampler, at: usize, p: Pen, done: u32) -> Written
 {
     let more = (p.place - at) / 2;
     let s = Sampler {
-        clock: a.clock + arith::wide_u32(done),
+        clock: a.clock + u64::from(done),
         sample: a.sample + more as u64,
-        sum: arith::wide_u32(p.sum),
+        sum: u64::from(p.sum),
     };
     Written {
         place: p.place,
@@ -344,15 +345,13 @@ fn records_on(
     let mut pen = pen_of(a, pal, rate, at);
     let mut v = level;
     let mut from: u32 = 0;
-    let mut i = 0;
-    while i < n {
+    for i in 0..n {
         let k = 2 * i;
         let j = k + 1;
         let clock = words[k] - 1;
         pen = held_on(out, pen, c, v, clock - from);
         v = words[j] as u16;
         from = clock;
-        i += 1;
     }
     let last = held_on(out, pen, c, v, done - from);
     written_by(a, at, last, done)
@@ -378,12 +377,7 @@ fn run_on(
     ensures writes { Writes pal rate out.old at a (clocks_levels memory.now result.done s) out.new result.place result.sampler }
 {
     let v = s.level();
-    let r = run::uncounted(
-        s,
-        memory,
-        arith::least_u64(arith::wide_u32(left), 1000000),
-        words,
-    );
+    let r = run::uncounted(s, memory, u64::from(left).min(1000000), words);
     let w = records_on(out, at, a, pal, rate, v, words, r.records as usize, r.done);
     let far = r.state;
     let behind = w.sampler;
@@ -425,9 +419,9 @@ fn runs_on(
     }
     Worked {
         done: k,
-        state: state,
-        place: place,
-        sampler: sampler,
+        state,
+        place,
+        sampler,
     }
 }
 
@@ -440,8 +434,8 @@ fn clocks_past(p: Place, k: u32, w: Worked) -> Place
     let c = m.cursor;
     let s = w.state;
     let a = w.sampler;
-    let here = play_walk::moment_of(c, s, m.time + arith::wide_u32(k));
-    place_of(here, arith::minus_u32(p.left, k), a.sample, a.sum)
+    let here = play_walk::moment_of(c, s, m.time + u64::from(k));
+    place_of(here, p.left.saturating_sub(k), a.sample, a.sum)
 }
 
 // Clocks of a wait, as many as there is room for.
@@ -462,12 +456,12 @@ fn clocks_step(p: Place, memory: &[u8], rate: u32, out: &mut [u8]) -> Passed
 }
 
 // What a step of the walk met, and the moment behind it.
+#[tactic(auto, unfolding(crate::specs::Stepping::met_step))]
 fn met_step(p: Place, x: Met, m: Moment) -> Passed
     ensures { result ≡ passed (met_step p x m) }
 {
     match x {
-        Met::Moved => passed_at(Next::Moved, p, m, 0),
-        Met::Access(_, _, _) => passed_at(Next::Moved, p, m, 0),
+        Met::Moved | Met::Access(_, _, _) => passed_at(Next::Moved, p, m, 0),
         Met::Wait(n) => passed_at(Next::Moved, p, m, n),
         Met::End => passed_at(Next::Over, p, m, 0),
         Met::Refused(k, q) => passed_at(Next::Refused(k, q), p, m, 0),
@@ -492,7 +486,7 @@ fn early(time: u64, left: u32) -> bool
     if 2000000000 < time {
         return false;
     }
-    time + arith::wide_u32(left) <= 2000000000
+    time + u64::from(left) <= 2000000000
 }
 
 // What refuses a rate or the sample under way.

@@ -19,17 +19,15 @@ fn pour(rt: &HostRuntime, p: Player, log: &[u8], memory: &[u8], out: &mut [u8]) 
     ensures { Writes (play_text log.now memory.now) result }
 {
     let mut q = p;
-    let mut n: u64 = 0;
-    while n < 1000000000000 {
+    for _ in 0..1000000000000u64 {
         let r = play::play_on(q, log, memory, out);
         if !program_io::write_front(&mut rt.stdout(), out, r.length) {
             return false;
         }
-        if arith::either_of(r.over, r.number != 0) {
+        if r.over || r.number != 0 {
             return r.number == 0;
         }
         q = r.player;
-        n += 1;
     }
     false
 }

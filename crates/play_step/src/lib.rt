@@ -1,7 +1,8 @@
 // A step of the player over lent bytes: a turn's line, or a portion of a wait as lines.
 #![tactic(auto)]
 
-ghost use Rattle.std.specs.Prelude.{◌≡◌, true, ◌+◌, ◌-◌, ◌*◌, ◌/◌, ◌≤◌, ◌<◌, length, get_or};
+ghost use Rattle.std.specs.Prelude.{◌≡◌, true, ◌+◌, ◌-◌, ◌*◌, ◌/◌, ◌≤◌, ◌<◌, eqb, length, get_or};
+ghost use Rattle.arith.specs.Pick.{pick};
 ghost use Rattle.std.proofs.lemmas.List.Edits.{sets};
 ghost use Rattle.chip.specs.Range.{in_range};
 ghost use Rattle.play_rules.specs.Turns.{player_of};
@@ -33,11 +34,11 @@ pub fn outcome(kind: u8, number: u8, place: usize, p: Player, at: usize) -> Take
     ensures { result ≡ record { kind = kind; number = number; place = place; player = p; at = at } }
 {
     Taken {
-        kind: kind,
-        number: number,
-        place: place,
+        kind,
+        number,
+        place,
         player: p,
-        at: at,
+        at,
     }
 }
 
@@ -96,6 +97,13 @@ fn room(size: usize, at: usize) -> usize
     if n < 256 { n } else { 256 }
 }
 
+// What a run's number makes of its step.
+fn kind_of(number: u8) -> u8
+    ensures { result ≡ pick (eqb number 0) 0 2 }
+{
+    if number == 0 { ON } else { REFUSED }
+}
+
 // A portion of a wait, as many records as surely fit, or the refusal of its run, which leaves the player as it was.
 fn waited(p: Player, memory: &[u8], out: &mut [u8], at: usize, words: &mut [u32]) -> Taken
     requires { (p.time + p.wait ≤ 2000000000) × (length words.old ≡ 512) }
@@ -104,12 +112,12 @@ fn waited(p: Player, memory: &[u8], out: &mut [u8], at: usize, words: &mut [u32]
 {
     let end = 2 * room(out.len(), at);
     let s = p.state;
-    let ran = run::uncounted(s, memory, arith::wide_u32(p.wait), &mut words[..end]);
+    let ran = run::uncounted(s, memory, u64::from(p.wait), &mut words[..end]);
     let n = ran.records as usize;
     let next = play_levels::level_lines(out, at, p.time, words, n);
     let last = last_level(p.last, words, n);
     let after = ran.state;
-    let kind = arith::pick_u8(ran.number == 0, ON, REFUSED);
+    let kind = kind_of(ran.number);
     outcome(kind, ran.number, 0, behind(p, ran.done, last, after), next)
 }
 
@@ -119,8 +127,8 @@ fn late_number(p: Player, memory: &[u8]) -> u8
     ensures { result ≡ wait_number memory.now p }
 {
     let s = p.state;
-    let number = run_answer::number_of(s, memory, arith::wide_u32(p.wait));
-    arith::pick_u8(number == 0, 9, number)
+    let number = run_answer::number_of(s, memory, u64::from(p.wait));
+    if number == 0 { 9 } else { number }
 }
 
 // A wait. Refused: as its run; 9: over 2,000,000,000 clocks in all.
@@ -128,7 +136,7 @@ fn wait_step(p: Player, memory: &[u8], out: &mut [u8], at: usize) -> Taken
     ensures value { result ≡ wait_taken memory.now (room_for (length out.old) at) p at }
     ensures out_after { out.new ≡ sets out.old at (wait_text memory.now (room_for (length out.old) at) p) }
 {
-    if 2000000000 < arith::wide_u32(p.time) + arith::wide_u32(p.wait) {
+    if 2000000000 < u64::from(p.time) + u64::from(p.wait) {
         return outcome(REFUSED, late_number(p, memory), 0, p, at);
     }
     let mut words = [0u32; 512];

@@ -63,7 +63,7 @@ fn level_entry(out: &mut [u8], at: usize, time: u32, level: u16) -> usize
     requires { at + 23 ≤ length out.old }
     ensures { Lined out.old at (Entry.Level time level) out.new result }
 {
-    level_text(out, at, arith::wide_u32(time), level as u64)
+    level_text(out, at, u64::from(time), u64::from(level))
 }
 
 // Any line: 23 bytes hold the longest.
@@ -74,8 +74,8 @@ fn line(out: &mut [u8], at: usize, n: Entry) -> usize
     match n {
         Entry::Play => play_line(out, at),
         Entry::Level(t, l) => level_entry(out, at, t, l),
-        Entry::Read(t, v) => read_line(out, at, arith::wide_u32(t), v),
-        Entry::Stop(t) => stop_line(out, at, arith::wide_u32(t)),
+        Entry::Read(t, v) => read_line(out, at, u64::from(t), v),
+        Entry::Stop(t) => stop_line(out, at, u64::from(t)),
     }
 }
 
@@ -83,11 +83,7 @@ fn line(out: &mut [u8], at: usize, n: Entry) -> usize
 pub fn left(size: usize, at: usize, n: usize) -> bool
     ensures { result ≡ leb (at + 23 * n) size }
 {
-    if size < at {
-        false
-    } else {
-        n <= (size - at) / 23
-    }
+    at <= size && n <= (size - at) / 23
 }
 
 // A line where 23 bytes are left, else nothing; and the place behind it.
@@ -107,7 +103,7 @@ pub fn level_line(out: &mut [u8], at: usize, time: u64, level: u16) -> usize
     ensures out_after { out.new ≡ lines_in out.old at 1 (entry_text (Entry.Level time level)) }
 {
     if left(out.len(), at, 1) {
-        return level_text(out, at, time, level as u64);
+        return level_text(out, at, time, u64::from(level));
     }
     at
 }
@@ -120,7 +116,7 @@ fn refusal_lines(out: &mut [u8], number: u8, place: usize) -> usize
 {
     let a = text_print::fixed(out, 0, b"play=1\n");
     let b = text_print::fixed(out, a, b"refused=");
-    let c = text_print::decimal(out, b, number as u64);
+    let c = text_print::decimal(out, b, u64::from(number));
     let d = text_print::fixed(out, c, b":");
     let e = text_print::decimal(out, d, place as u64);
     text_print::fixed(out, e, b"\n")

@@ -51,6 +51,7 @@ pub struct Place {
 }
 
 // What a step brings: the end, at its nanoseconds; nothing; an event; or a refusal's number and place.
+// One flat answer and no Result: a step gives its place back in every case, so that `?` has nothing to hand on.
 #[derive(Clone, Copy)]
 pub enum Next {
     Over(u64),
@@ -76,11 +77,7 @@ struct Span {
 fn point_of(time: u64, clock: u64, seen: Seen) -> Point
     ensures { result ≡ point_of time clock seen }
 {
-    Point {
-        time: time,
-        clock: clock,
-        seen: seen,
-    }
+    Point { time, clock, seen }
 }
 
 fn place_of(m: Moment, left: u32, done: u16, begun: bool) -> Place
@@ -88,9 +85,9 @@ fn place_of(m: Moment, left: u32, done: u16, begun: bool) -> Place
 {
     Place {
         moment: m,
-        left: left,
-        done: done,
-        begun: begun,
+        left,
+        done,
+        begun,
     }
 }
 
@@ -121,7 +118,7 @@ fn shown_time(s: State, clock: u64, k: u64) -> u64
     requires { clock ≤ 4000000000 }
     ensures { result ≡ (shown_at s clock k).time }
 {
-    clock_rate::clock_time(s.pal, clock as u32) + arith::least_u64(k, 500)
+    clock_rate::clock_time(s.pal, clock as u32) + k.min(500)
 }
 
 // A clock as it is shown behind k accesses.
@@ -140,8 +137,8 @@ fn bus_of(x: Access, s: State) -> Bus
 {
     match x {
         Access::Write(register, value) => Bus {
-            register: register,
-            value: value,
+            register,
+            value,
             read: 0,
         },
         Access::Read => {
@@ -173,18 +170,18 @@ fn clocks_past(p: Place, k: u32, s: State) -> Place
 {
     let m = p.moment;
     let c = m.cursor;
-    let here = play_walk::moment_of(c, s, m.time + arith::wide_u32(k));
-    place_of(here, arith::minus_u32(p.left, k), 0, p.begun)
+    let here = play_walk::moment_of(c, s, m.time + u64::from(k));
+    place_of(here, p.left.saturating_sub(k), 0, p.begun)
 }
 
 // What a step of the walk met on the way to the window, and the moment behind it.
+#[tactic(auto, unfolding(crate::specs::Stepping::approach))]
 fn approach(p: Place, x: Met, m: Moment) -> Passed
     requires { p.moment.time ≤ 4000000000 }
     ensures { result ≡ passed (approach p x m) }
 {
     match x {
-        Met::Moved => passed_at(Next::Moved, m, 0, 0, false),
-        Met::Access(_, _, _) => passed_at(Next::Moved, m, 0, 0, false),
+        Met::Moved | Met::Access(_, _, _) => passed_at(Next::Moved, m, 0, 0, false),
         Met::Wait(n) => passed_at(Next::Moved, m, n, 0, false),
         Met::End => begins_at(p),
         Met::Refused(k, q) => passed_at(Next::Refused(k, q), m, 0, 0, false),
@@ -210,7 +207,7 @@ fn leap_step(p: Place, memory: &[u8], from: u64) -> Passed
 {
     let m = p.moment;
     let s = m.state;
-    let k = arith::least_u64(arith::wide_u32(p.left), from - m.time);
+    let k = u64::from(p.left).min(from - m.time);
     let far = play_walk::clocks_on(s, memory, k);
     passed_of(Next::Moved, clocks_past(p, k as u32, far))
 }
@@ -237,22 +234,17 @@ fn until_seen(s: State, memory: &[u8], n: u32) -> Span
 {
     let seen = chip_seen::seen_of(s);
     let mut state = s;
-    let mut k: u32 = 0;
-    while k < n {
+    for k in 0..n {
         state = state.clocked(memory);
-        k += 1;
         let now = chip_seen::seen_of(state);
         if !chip_seen::same_seen(seen, now) {
             return Span {
-                clocks: k,
-                state: state,
+                clocks: k + 1,
+                state,
             };
         }
     }
-    Span {
-        clocks: k,
-        state: state,
-    }
+    Span { clocks: n, state }
 }
 
 // What there is to say of a clock that led from one state to another.
@@ -276,10 +268,10 @@ fn clocks_step(p: Place, memory: &[u8], until: u64) -> Passed
 {
     let m = p.moment;
     let s = m.state;
-    let n = arith::least_u64(arith::wide_u32(p.left), until - m.time);
+    let n = u64::from(p.left).min(until - m.time);
     let span = until_seen(s, memory, n as u32);
     let far = span.state;
-    let next = clock_next(m.time + arith::wide_u32(span.clocks), s, far);
+    let next = clock_next(m.time + u64::from(span.clocks), s, far);
     passed_of(next, clocks_past(p, span.clocks, far))
 }
 
@@ -295,7 +287,7 @@ fn access_met(p: Place, x: Access, m: Moment) -> Passed
     let k = p.done as u64 + 1;
     let point = shown_at(after, before.time, k);
     let bus = bus_of(x, s);
-    let done = arith::least_u64(k, 500) as u16;
+    let done = k.min(500) as u16;
     passed_at(
         Next::Shown(Event::Accessed(seen, point, bus)),
         m,

@@ -16,6 +16,7 @@ use play_text::Entry;
 use recording_cursor::Cursor;
 
 // What a turn says: that all is over; nothing; a line; or a refusal's number and place.
+// One flat answer and no Result: a step gives its place back in every case, so that `?` has nothing to hand on.
 #[derive(Clone, Copy)]
 pub enum Told {
     Over,

@@ -25,6 +25,7 @@ pub struct Moment {
 
 // What a step meets: nothing, the place moved; an access, with the level before it and after it; a wait, its clocks; the log's end; or a refusal's
 // number and place.
+// One flat answer and no Result: a step gives its place back in every case, so that `?` has nothing to hand on.
 #[derive(Clone, Copy)]
 pub enum Met {
     Moved,
@@ -48,7 +49,7 @@ pub fn moment_of(c: Cursor, s: State, time: u64) -> Moment
     Moment {
         cursor: c,
         state: s,
-        time: time,
+        time,
     }
 }
 
@@ -128,8 +129,8 @@ fn runs_on(s: State, memory: &[u8], n: u64, words: &mut [u32]) -> State
     let mut state = s;
     let mut left = n;
     while 0 < left {
-        let r = run::uncounted(state, memory, arith::least_u64(left, 1000000), words);
-        left -= arith::wide_u32(r.done);
+        let r = run::uncounted(state, memory, left.min(1000000), words);
+        left -= u64::from(r.done);
         state = r.state;
     }
     state
@@ -140,9 +141,9 @@ pub fn clocks_on(s: State, memory: &[u8], n: u64) -> State
     ensures value { result ≡ clocks_on memory.now n s }
     ensures result_value { in_range s ≡ true → in_range result ≡ true }
 {
-    if arith::both_of(memory.len() == 32768, s.in_range()) {
-        let mut words = [0u32; 2048];
-        return runs_on(s, memory, n, &mut words);
+    if memory.len() != 32768 || !s.in_range() {
+        return s;
     }
-    s
+    let mut words = [0u32; 2048];
+    runs_on(s, memory, n, &mut words)
 }

@@ -13,6 +13,7 @@ use play_samples::{Next, Place};
 use wav_rules::Wav;
 
 // The answer of `begin`: the bytes of the whole file, and the file at its beginning.
+// Flat, with the number first, as document 01 has it: "a refusal returns its number and place, the state as given, 0 or no for the rest".
 #[derive(Clone, Copy)]
 pub struct Begun {
     pub number: u8,
@@ -22,6 +23,7 @@ pub struct Begun {
 }
 
 // The answer of `wav_on`: the file behind the bytes written, how many they are, and whether all is over.
+// Flat for the same reason.
 #[derive(Clone, Copy)]
 pub struct Sounded {
     pub number: u8,
@@ -43,9 +45,9 @@ fn wav_of(rate: u32, count: u32, begun: bool, p: Place) -> Wav
     ensures { result ≡ wav_of rate count begun p }
 {
     Wav {
-        rate: rate,
-        count: count,
-        begun: begun,
+        rate,
+        count,
+        begun,
         place: p,
     }
 }
@@ -54,11 +56,11 @@ fn sounded_of(number: u8, place: usize, w: Wav, length: usize, over: bool) -> So
     ensures { result ≡ sounded_of number place w length over }
 {
     Sounded {
-        number: number,
-        place: place,
+        number,
+        place,
         wav: w,
-        length: length,
-        over: over,
+        length,
+        over,
     }
 }
 
@@ -68,7 +70,7 @@ fn taken_of(n: Next, p: Place, length: usize) -> Taken
     Taken {
         next: n,
         place: p,
-        length: length,
+        length,
     }
 }
 
@@ -103,12 +105,7 @@ fn step_on(t: Taken, log: &[u8], memory: &[u8], rate: u32, out: &mut [u8]) -> Ta
 fn is_on(n: Next) -> bool
     ensures { result ≡ is_on n }
 {
-    match n {
-        Next::Over => false,
-        Next::Moved => true,
-        Next::Heard(_) => true,
-        Next::Refused(_, _) => false,
-    }
+    matches!(n, Next::Moved | Next::Heard(_))
 }
 
 // Whether two bytes are left.
@@ -122,13 +119,11 @@ fn has_room(at: usize, size: usize) -> bool
 }
 
 // Whether the loop goes on: neither over nor refused, two bytes left, and fewer than 4,000,010 steps.
+#[tactic(auto, unfolding(crate::specs::Loop::goes_on))]
 fn goes_on(t: Taken, size: usize, count: u32) -> bool
     ensures { result ≡ goes_on t size count }
 {
-    let n = t.next;
-    let on = is_on(n);
-    let more = arith::both_of(has_room(t.length, size), count < 4000010);
-    arith::both_of(on, more)
+    is_on(t.next) && has_room(t.length, size) && count < 4000010
 }
 
 // The samples written.
@@ -151,14 +146,14 @@ fn refused_by(w: Wav, t: Taken, number: u8, place: usize) -> Sounded
 }
 
 // What the loop came to.
+#[tactic(auto, unfolding(crate::specs::Loop::answer_by))]
 fn answer(w: Wav, t: Taken) -> Sounded
     ensures { result ≡ answer_by w t t.next }
 {
     let n = t.next;
     match n {
         Next::Over => piece_of(w, t, true),
-        Next::Moved => piece_of(w, t, false),
-        Next::Heard(_) => piece_of(w, t, false),
+        Next::Moved | Next::Heard(_) => piece_of(w, t, false),
         Next::Refused(k, r) => refused_by(w, t, k, r),
     }
 }
@@ -212,8 +207,8 @@ fn refuse(number: u8, place: usize, log: &[u8]) -> Begun
     let p = play_samples::start(log);
     let w = wav_of(0, 0, false, p);
     Begun {
-        number: number,
-        place: place,
+        number,
+        place,
         size: 0,
         wav: w,
     }

@@ -28,30 +28,21 @@ pub struct Input {
 fn taken(count: usize, failed: bool) -> Input
     ensures { (result.count ≡ count) × (result.failed ≡ failed) }
 {
-    Input {
-        count: count,
-        failed: failed,
-    }
+    Input { count, failed }
 }
 
 // How many bytes a read's answer stands for.
 fn got(answer: io::Result<usize>) -> usize
     ensures { result ≡ Reads·got (answer_of answer) }
 {
-    match answer {
-        Ok(n) => n,
-        Err(_) => 0,
-    }
+    answer.unwrap_or(0)
 }
 
 // Whether a read's answer says that it failed.
 fn is_failure(answer: io::Result<usize>) -> bool
     ensures { result ≡ is_failure (answer_of answer) }
 {
-    match answer {
-        Ok(_) => false,
-        Err(_) => true,
-    }
+    answer.is_err()
 }
 
 // The first n bytes of a chunk, put into a buffer from a place on.
@@ -60,11 +51,7 @@ fn copy(chunk: &[u8], buffer: &mut [u8], at: usize, n: usize)
     requires n_in_bounds_2 { at + n ≤ length buffer.old }
     ensures { buffer.new ≡ paste buffer.old at chunk.now n }
 {
-    let mut i = 0;
-    while i < n {
-        buffer[at + i] = chunk[i];
-        i += 1;
-    }
+    buffer[at..at + n].copy_from_slice(&chunk[..n]);
 }
 
 // One read into a buffer from a place on, and the system's answer. It goes by way of a chunk, since a read may change bytes behind those it brings.
@@ -79,7 +66,7 @@ fn read_to<R: Read>(
     ensures result_in_bounds_2 { Reads·got (answer_of result) ≤ length chunk.new }
     ensures buffer_after { buffer.new ≡ paste buffer.old at chunk.new (Reads·got (answer_of result)) }
 {
-    let n = arith::least_usize(buffer.len() - at, chunk.len());
+    let n = chunk.len().min(buffer.len() - at);
     let answer = file.read(&mut chunk[..n]);
     copy(chunk, buffer, at, got(answer));
     answer
@@ -114,17 +101,14 @@ pub fn read_all<R: Read>(file: &mut R, buffer: &mut [u8]) -> Input
 fn is_missing(error: i32) -> bool
     ensures { result ≡ is_missing error }
 {
-    if error == MISSING { true } else { false }
+    error == MISSING
 }
 
 // The number that the system gave an error; 0 where it is none of the system's.
 fn number_of(error: io::Error) -> i32
     ensures { result ≡ error_number (raw_os_error error) }
 {
-    match error.raw_os_error() {
-        Some(number) => number,
-        None => 0,
-    }
+    error.raw_os_error().unwrap_or(0)
 }
 
 // A file that wasn't opened, by the error's number.

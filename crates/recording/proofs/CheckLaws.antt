@@ -10,9 +10,9 @@ use Rattle.log_rules.specs.declared.Checked.{Checked}
 use Rattle.vgm_measure.specs.declared.Tally.{Tally}
 use Rattle.vgm_blocks.specs.Blocks.{front_blocks, judged}
 use Rattle.vgm_blocks.specs.declared.Filled.{Filled}
+use Rattle.std.specs.Prelude.{Result, Ok}
 use Rattle.vgm_file.specs.Header.{commands_at}
-use Rattle.vgm_file.specs.declared.Part.{Part}
-use Rattle.vgm_file.specs.declared.Part.TheVariants as part
+use Rattle.vgm_file.specs.declared.NoPart.{NoPart}
 use Rattle.recording.specs.Counted.{check_from}
 use Rattle.recording.specs.Whole.{stream_in, commands_check, part_check, file_check}
 
@@ -33,11 +33,11 @@ module _ (pal : Bool) (at : ℕ) (t : Tally) where
 
 -- a part, by the blocks in front of it
 module _ (b : List ℕ) (p : ℕ) (f : Filled) (e : f ≡ judged (front_blocks (drop p b)) 0) where
-  pub part_right : f.number ≡ 0 → commands_check b (stream_in b) ≡ part_check (part.From p) b
+  pub part_right : f.number ≡ 0 → commands_check b (stream_in b) ≡ part_check (Ok p) b
   unfolding part_check
   part_right h = rw (← e, eq-eqb f.number 0 h)
 
-  pub part_fault : (f.number ≡ 0 → ⊥) → check_refusal f.number (p + f.place) ≡ part_check (part.From p) b
+  pub part_fault : (f.number ≡ 0 → ⊥) → check_refusal f.number (p + f.place) ≡ part_check (Ok p) b
   unfolding part_check
   part_fault h = rw (← e, ne_eqb f.number 0 h)
 
@@ -47,6 +47,6 @@ module _ (b : List ℕ) where
   unfolding file_check
   file_long h = rw (lt-ltb 524288 (length b) h)
 
-  pub file_part : (p : Part) → length b ≤ 524288 → p ≡ commands_at b → part_check p b ≡ file_check b
+  pub file_part : (p : Result ℕ NoPart) → length b ≤ 524288 → p ≡ commands_at b → part_check p b ≡ file_check b
   unfolding file_check
   file_part p h e = rw (e, le-ltb 524288 (length b) h)

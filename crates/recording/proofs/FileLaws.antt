@@ -24,9 +24,9 @@ use Rattle.vgm_measure.proofs.FaultLaws.{Refused, refused_place}
 use Rattle.vgm_import.proofs.ImportLaws.{tree_clocks}
 use Rattle.vgm_blocks.specs.Blocks.{front_end}
 use Rattle.vgm_blocks.proofs.LimitLaws.{end_within}
+use Rattle.std.specs.Prelude.{Result, Ok, Err}
 use Rattle.vgm_file.specs.Header.{commands_at, is_pal_file}
-use Rattle.vgm_file.specs.declared.Part.{Part}
-use Rattle.vgm_file.specs.declared.Part.TheVariants as part
+use Rattle.vgm_file.specs.declared.NoPart.{NoPart}
 use Rattle.vgm_file.proofs.HeaderLaws.{from_inside}
 use Rattle.recording.specs.Counted.{check_from}
 use Rattle.recording.specs.Whole.{start_in, start_of, stream_in, commands_check}
@@ -38,21 +38,18 @@ pub blocks_within : (f : List ℕ) (p : ℕ) → p ≤ length f → p + front_en
 blocks_within f p h = omega (arith, end_within (drop p f), length-drop p f)
 
 module _ (f : List ℕ) where
-  pub start_is : (p : Part) → commands_at f ≡ p → start_in p f ≡ start_of f
+  pub start_is : (p : Result ℕ NoPart) → commands_at f ≡ p → start_in p f ≡ start_of f
   unfolding start_of
   start_is p e = rw e
 
-  pub start_from : (p : ℕ) → commands_at f ≡ part.From p → start_of f ≡ p + front_end (drop p f)
+  pub start_from : (p : ℕ) → commands_at f ≡ Ok p → start_of f ≡ p + front_end (drop p f)
   unfolding start_in
-  start_from p e = sym (start_is (part.From p) e)
+  start_from p e = sym (start_is (Ok p) e)
 
-  start_in_lem : (p : Part) → commands_at f ≡ p → start_in p f ≤ length f
+  start_in_lem : (p : Result ℕ NoPart) → commands_at f ≡ p → start_in p f ≤ length f
   unfolding start_in
-  start_in_lem (part.From p) e = blocks_within f p (from_inside f p e)
-  start_in_lem part.NoVgm e = omega arith
-  start_in_lem part.Cut e = omega arith
-  start_in_lem part.Outside e = omega arith
-  start_in_lem part.Dual e = omega arith
+  start_in_lem (Ok p) e = blocks_within f p (from_inside f p e)
+  start_in_lem (Err x) e = omega arith
 
   pub start_within : start_of f ≤ length f
   unfolding start_of

@@ -9,7 +9,7 @@ use native.Mathlib.Nat.{add-zero}
 use borrow.Author.Tests.{eqb-true}
 use lib.Dec.{eqb}
 use lib.ListN.{length, take, drop}
-use Rattle.log_rules.specs.Tree.{Tree, clocks, turns, log_text}
+use Rattle.log_rules.specs.Tree.{Tree, clocks, log_text}
 use Rattle.log_rules.specs.Whole.{passed_check}
 use Rattle.log_rules.specs.declared.Checked.{Checked}
 use Rattle.log_passing.proofs.Passing.{printed}
@@ -22,8 +22,8 @@ use Rattle.vgm_import.proofs.ImportLaws as import
 use Rattle.vgm_blocks.specs.Blocks.{is_block, front_blocks, front_end, judged}
 use Rattle.vgm_blocks.proofs.FuelLaws.{rest_front, end_front, end_over}
 use Rattle.vgm_blocks.proofs.JudgeLaws.{judge_end}
+use Rattle.std.specs.Prelude.{Ok}
 use Rattle.vgm_file.specs.Header.{commands_at, is_pal_file}
-use Rattle.vgm_file.specs.declared.Part.TheVariants as part
 use Rattle.recording.specs.Whole.{is_file, start_of, stream_in, file_tree, machine_of, tree_of, check_of}
 use Rattle.recording.proofs.ByteLaws.{bytes_of, bytes_drop}
 use Rattle.recording.proofs.FileLaws.{start_from}
@@ -80,7 +80,7 @@ pub record Same (b text : List ℕ) : Type 0 where
   pub passes : (check_of text).number ≡ 0
   pub check : length b ≤ 524288 → check_of text ≡ check_of b
 
-module _ (b : List ℕ) (p room : ℕ) (f : is_file b ≡ true) (e : commands_at b ≡ part.From p) (i : Imports (is_pal_file b) room (stream_of (drop p b))) where
+module _ (b : List ℕ) (p room : ℕ) (f : is_file b ≡ true) (e : commands_at b ≡ Ok p) (i : Imports (is_pal_file b) room (stream_of (drop p b))) where
   begins : start_of b ≡ p
   begins = start_from b p e ∙ (ap (λ (n : ℕ). p + n) (front_none (drop p b) i.said i.is) ∙ add-zero p)
 
@@ -117,12 +117,12 @@ module _ (b : List ℕ) (p room : ℕ) (f : is_file b ≡ true) (e : commands_at
         check = λ short. g.check ∙ (ap (passed_check (is_pal_file b)) (sym stands_for) ∙ (sym (file_answer b (file_right short)) ∙ sym (file_check_lem b f)));
       }
 
-pub imported_same : (b : List ℕ) (p room : ℕ) → is_file b ≡ true → commands_at b ≡ part.From p → (import_for (machine_of b) (drop p b) room).number ≡ 0
+pub imported_same : (b : List ℕ) (p room : ℕ) → is_file b ≡ true → commands_at b ≡ Ok p → (import_for (machine_of b) (drop p b) room).number ≡ 0
     → Same b (text_of (machine_of b) (stream_of (drop p b)))
 imported_same b p room f e done =
     rw (file_machine b f) (same b p room f e (imports (is_pal_file b) (drop p b) room (rw (file_machine b f) at done)))
 
 -- the log as the import leaves it in a buffer
-pub imported_buffer : (b out : List ℕ) (p : ℕ) → is_file b ≡ true → commands_at b ≡ part.From p → (done : (import_for (machine_of b) (drop p b) (length out)).number ≡ 0)
+pub imported_buffer : (b out : List ℕ) (p : ℕ) → is_file b ≡ true → commands_at b ≡ Ok p → (done : (import_for (machine_of b) (drop p b) (length out)).number ≡ 0)
     → Same b (take (import_for (machine_of b) (drop p b) (length out)).length (buffer_for (machine_of b) (drop p b) out))
 imported_buffer b out p f e done = rw (front_is (machine_of b) (drop p b) out done) (imported_same b p (length out) f e done)

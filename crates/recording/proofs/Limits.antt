@@ -17,9 +17,10 @@ use Rattle.vgm_measure.specs.Import.{tree_for}
 use Rattle.vgm_measure.proofs.FaultLaws.{Refused, refused_place, numbered}
 use Rattle.vgm_blocks.specs.Blocks.{front_blocks, judged}
 use Rattle.vgm_blocks.proofs.LimitLaws.{judged_within}
+use Rattle.std.specs.Prelude.{Result, Ok, Err}
 use Rattle.vgm_file.specs.Header.{commands_at, is_pal_file}
-use Rattle.vgm_file.specs.declared.Part.{Part}
-use Rattle.vgm_file.specs.declared.Part.TheVariants as part
+use Rattle.vgm_file.specs.declared.NoPart.{NoPart}
+use Rattle.vgm_file.specs.declared.NoPart.TheVariants as no
 use Rattle.vgm_file.proofs.HeaderLaws.{from_inside}
 use Rattle.recording.specs.Whole.{is_file, start_of, stream_in, commands_check, part_check, file_check, check_of}
 use Rattle.recording.proofs.FileLaws.{start_within}
@@ -54,17 +55,17 @@ module _ (b : List ℕ) (short : length b ≤ 524288) where
       let s = drop (start_of b) b in
       commands_in (length s) (omega (arith, start_within b, length-drop (start_of b) b)) (stream_of s) (refused_place s)
 
-  part_in : (p : Part) → commands_at b ≡ p → Limited (part_check p b)
+  part_in : (p : Result ℕ NoPart) → commands_at b ≡ p → Limited (part_check p b)
   unfolding part_check
-  part_in (part.From p) e =
+  part_in (Ok p) e =
       let f = judged (front_blocks (drop p b)) 0 in
       let w = judged_within (drop p b) 0 in
       pick_both Limited (eqb f.number 0) stream_in_lem
       (refusal_in f.number (p + f.place) (omega (arith, w.number)) (omega (arith, w.place, from_inside b p e, length-drop p b)))
-  part_in part.NoVgm e = refusal_in 35 0 (omega arith) (omega arith)
-  part_in part.Cut e = refusal_in 35 0 (omega arith) (omega arith)
-  part_in part.Outside e = refusal_in 35 0 (omega arith) (omega arith)
-  part_in part.Dual e = refusal_in 36 0x84 (omega arith) (omega arith)
+  part_in (Err no.NoVgm) e = refusal_in 35 0 (omega arith) (omega arith)
+  part_in (Err no.Cut) e = refusal_in 35 0 (omega arith) (omega arith)
+  part_in (Err no.Outside) e = refusal_in 35 0 (omega arith) (omega arith)
+  part_in (Err no.Dual) e = refusal_in 36 0x84 (omega arith) (omega arith)
 
 file_in : (b : List ℕ) → Limited (file_check b)
 unfolding file_check

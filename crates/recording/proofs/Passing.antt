@@ -19,9 +19,10 @@ use Rattle.vgm_measure.proofs.FaultLaws.{Refused, refused_place, numbered}
 use Rattle.vgm_import.proofs.ImportLaws as import
 use Rattle.vgm_blocks.specs.Blocks.{front_blocks, front_end, judged}
 use Rattle.vgm_blocks.specs.declared.Filled.{Filled}
+use Rattle.std.specs.Prelude.{Result, Ok, Err}
 use Rattle.vgm_file.specs.Header.{commands_at, is_pal_file}
-use Rattle.vgm_file.specs.declared.Part.{Part}
-use Rattle.vgm_file.specs.declared.Part.TheVariants as part
+use Rattle.vgm_file.specs.declared.NoPart.{NoPart}
+use Rattle.vgm_file.specs.declared.NoPart.TheVariants as no
 use Rattle.recording.specs.Whole.{is_file, start_of, stream_in, said_in, file_tree, commands_check, part_check, file_check, machine_of, tree_of, check_of}
 use Rattle.recording.proofs.ByteLaws.{bytes_of, bytes_drop}
 use Rattle.recording.proofs.FileLaws.{start_from, tree_items}
@@ -33,7 +34,7 @@ pub record FilePasses (b : List ℕ) : Type 0 where
   pub short : length b ≤ 524288
   -- its part, whose blocks in front are right; its commands begin behind them
   pub from : ℕ
-  pub commands : commands_at b ≡ part.From from
+  pub commands : commands_at b ≡ Ok from
   pub blocks : (judged (front_blocks (drop from b)) 0).number ≡ 0
   pub start : start_of b ≡ from + front_end (drop from b)
   -- what its commands say, and its totals
@@ -67,7 +68,7 @@ unfolding file_tree said_in
 tree_of_lem b l e = rw e
 
 -- its blocks
-blocks_pass : (b : List ℕ) → length b ≤ 524288 → (p : ℕ) → commands_at b ≡ part.From p → (f : Filled) → judged (front_blocks (drop p b)) 0 ≡ f
+blocks_pass : (b : List ℕ) → length b ≤ 524288 → (p : ℕ) → commands_at b ≡ Ok p → (f : Filled) → judged (front_blocks (drop p b)) 0 ≡ f
     → (pick (eqb f.number 0) (commands_check b (stream_in b)) (check_refusal f.number (p + f.place))).number ≡ 0 → FilePasses b
 blocks_pass b short p e f j h = by (eqb f.number 0) refl h
   where
@@ -91,13 +92,13 @@ blocks_pass b short p e f j h = by (eqb f.number 0) refl h
     by false d h = absurd (eqb-false f.number 0 d h)
 
 -- its part
-part_pass : (b : List ℕ) → length b ≤ 524288 → (p : Part) → commands_at b ≡ p → (part_check p b).number ≡ 0 → FilePasses b
+part_pass : (b : List ℕ) → length b ≤ 524288 → (p : Result ℕ NoPart) → commands_at b ≡ p → (part_check p b).number ≡ 0 → FilePasses b
 unfolding part_check
-part_pass b short part.NoVgm e h = absurd (omega arith)
-part_pass b short part.Cut e h = absurd (omega arith)
-part_pass b short part.Outside e h = absurd (omega arith)
-part_pass b short part.Dual e h = absurd (omega arith)
-part_pass b short (part.From p) e h = blocks_pass b short p e (judged (front_blocks (drop p b)) 0) refl h
+part_pass b short (Err no.NoVgm) e h = absurd (omega arith)
+part_pass b short (Err no.Cut) e h = absurd (omega arith)
+part_pass b short (Err no.Outside) e h = absurd (omega arith)
+part_pass b short (Err no.Dual) e h = absurd (omega arith)
+part_pass b short (Ok p) e h = blocks_pass b short p e (judged (front_blocks (drop p b)) 0) refl h
 
 passes_of : (b : List ℕ) → (file_check b).number ≡ 0 → FilePasses b
 unfolding file_check

@@ -1,5 +1,5 @@
 -- A recording: the bytes of a log, or of a VGM file, which begin with "Vgm ". What they stand for: a machine, a tree of acts, and the check.
-use Rattle.std.specs.Prelude.{ℕ, ◌+◌, Bool, true, List, [], ◌∷◌, eqb, ltb, leb, length, drop}
+use Rattle.std.specs.Prelude.{ℕ, ◌+◌, Bool, true, List, [], ◌∷◌, eqb, ltb, leb, length, drop, Result, Ok, Err}
 use Rattle.arith.specs.Pick.{pick, both}
 use Rattle.text.specs.Ascii.{bytes}
 use Rattle.text.specs.Key.{starts_with}
@@ -13,8 +13,8 @@ use Rattle.vgm_stream.specs.Stream.{Stream, ended, refused, stream_of}
 use Rattle.vgm_measure.specs.Import.{tree_for}
 use Rattle.vgm_blocks.specs.Blocks.{front_blocks, front_end, judged}
 use Rattle.vgm_file.specs.Header.{commands_at, is_pal_file}
-use Rattle.vgm_file.specs.declared.Part.{Part}
-use Rattle.vgm_file.specs.declared.Part.TheVariants as part
+use Rattle.vgm_file.specs.declared.NoPart.{NoPart}
+use Rattle.vgm_file.specs.declared.NoPart.TheVariants as no
 
 -- numbers that are bytes, as all that is lent
 unfoldable pub are_bytes : List ℕ → Bool
@@ -28,12 +28,9 @@ is_file b = both (starts_with (bytes "Vgm ") b) (are_bytes b)
 -- A FILE
 
 -- where its commands begin, behind the blocks in front of them; 0 where its header says no place
-unfoldable pub start_in : Part → List ℕ → ℕ
-start_in (part.From p) file = p + front_end (drop p file)
-start_in part.NoVgm file = 0
-start_in part.Cut file = 0
-start_in part.Outside file = 0
-start_in part.Dual file = 0
+unfoldable pub start_in : Result ℕ NoPart → List ℕ → ℕ
+start_in (Ok p) file = p + front_end (drop p file)
+start_in (Err e) file = 0
 
 unfoldable pub start_of : List ℕ → ℕ
 start_of file = start_in (commands_at file) file
@@ -58,14 +55,14 @@ commands_check file (ended l) =
     let t = tree_for (is_pal_file file) l in
     pick (heavy t) (check_refusal 9 0) (passed_check (is_pal_file file) t)
 
-unfoldable pub part_check : Part → List ℕ → Checked
-part_check (part.From p) file =
+unfoldable pub part_check : Result ℕ NoPart → List ℕ → Checked
+part_check (Ok p) file =
     let f = judged (front_blocks (drop p file)) 0 in
     pick (eqb f.number 0) (commands_check file (stream_in file)) (check_refusal f.number (p + f.place))
-part_check part.NoVgm file = check_refusal 35 0
-part_check part.Cut file = check_refusal 35 0
-part_check part.Outside file = check_refusal 35 0
-part_check part.Dual file = check_refusal 36 0x84
+part_check (Err no.NoVgm) file = check_refusal 35 0
+part_check (Err no.Cut) file = check_refusal 35 0
+part_check (Err no.Outside) file = check_refusal 35 0
+part_check (Err no.Dual) file = check_refusal 36 0x84
 
 unfoldable pub file_check : List ℕ → Checked
 file_check file = pick (ltb 524288 (length file)) (check_refusal 5 0) (part_check (commands_at file) file)

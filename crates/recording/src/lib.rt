@@ -1,14 +1,14 @@
 // A recording: what a player is lent, a log or a VGM file.
 #![tactic(auto)]
 
-ghost use Rattle.std.specs.Prelude.{◌≡◌, ◌+◌, ◌≤◌, ◌<◌, length, drop};
+ghost use Rattle.std.specs.Prelude.{◌≡◌, ◌+◌, ◌≤◌, ◌<◌, length, drop, Ok};
 ghost use Rattle.log_rules.specs.Whole.{check_refusal};
 ghost use Rattle.vgm_blocks.specs.Blocks.{front_end};
 ghost use Rattle.recording.specs.Counted.{check_from};
 ghost use Rattle.recording.specs.Whole.{is_file, start_of, stream_in, commands_check, part_check, file_check, machine_of, check_of};
 
 use log_rules::Checked;
-use vgm_file::Part;
+use vgm_file::NoPart;
 use vgm_measure::Tally;
 
 // Whether it is a VGM file.
@@ -33,21 +33,16 @@ fn behind_blocks(b: &[u8], p: usize) -> usize
     requires { p ≤ length b.now }
     ensures { result ≡ p + front_end (drop p b.now) }
 {
-    let end = vgm_blocks::front_end(&b[p..]);
-    p + end
+    p + vgm_blocks::front_end(&b[p..])
 }
 
 // Where the commands of a file begin, behind the blocks in front of them; 0 where its header says no place.
 pub fn start(b: &[u8]) -> usize
     ensures { result ≡ start_of b.now }
 {
-    let s = vgm_file::start(b);
-    match s {
-        Part::From(p) => behind_blocks(b, p),
-        Part::NoVgm => 0,
-        Part::Cut => 0,
-        Part::Outside => 0,
-        Part::Dual => 0,
+    match vgm_file::start(b) {
+        Ok(p) => behind_blocks(b, p),
+        Err(_) => 0,
     }
 }
 
@@ -56,8 +51,8 @@ fn refused(number: u8, place: usize) -> Checked
     ensures { result ≡ check_refusal number place }
 {
     Checked {
-        number: number,
-        place: place,
+        number,
+        place,
         pal: false,
         clocks: 0,
         turns: 0,
@@ -75,7 +70,7 @@ fn check_totals(pal: bool, at: usize, t: Tally) -> Checked
         return Checked {
             number: 0,
             place: 0,
-            pal: pal,
+            pal,
             clocks: t.clocks,
             turns: t.turns,
             items: t.turns,
@@ -100,7 +95,7 @@ fn check_commands(b: &[u8]) -> Checked
 // The part of a file from p on, checked: the blocks in front, then the commands.
 fn check_part(b: &[u8], p: usize) -> Checked
     requires { p ≤ length b.now }
-    ensures { result ≡ part_check (Part.From p) b.now }
+    ensures { result ≡ part_check (Ok p) b.now }
 {
     let f = vgm_blocks::judge(&b[p..]);
     let number = f.number;
@@ -111,19 +106,17 @@ fn check_part(b: &[u8], p: usize) -> Checked
 }
 
 // A file, checked.
+#[tactic(auto, unfolding(crate::specs::Whole::file_check, crate::specs::Whole::part_check))]
 fn check_file(b: &[u8]) -> Checked
     ensures { result ≡ file_check b.now }
 {
     if 524288 < b.len() {
         return refused(5, 0);
     }
-    let s = vgm_file::start(b);
-    match s {
-        Part::From(p) => check_part(b, p),
-        Part::NoVgm => refused(35, 0),
-        Part::Cut => refused(35, 0),
-        Part::Outside => refused(35, 0),
-        Part::Dual => refused(36, 0x84),
+    match vgm_file::start(b) {
+        Ok(p) => check_part(b, p),
+        Err(NoPart::NoVgm | NoPart::Cut | NoPart::Outside) => refused(35, 0),
+        Err(NoPart::Dual) => refused(36, 0x84),
     }
 }
 

@@ -1,4 +1,5 @@
 -- AN ACT THAT A CURSOR SAYS IS WITHIN THE LIMITS, whatever the recording and whatever the cursor. Assumes nothing.
+use Rattle.std.specs.Prelude.{Result, Ok, Err, None, Some}
 use Prim.Native.Nat.{ℕ, ◌+◌, ◌-◌, ◌≤◌, min}
 use mathlib.Core.Path.{◌≡◌}
 use mathlib.Core.Bool.{Bool, true, false}
@@ -7,6 +8,7 @@ use native.Mathlib.Omega.{arith}
 use borrow.Author.Tests.{leb-true, eqb-false}
 use lib.Dec.{eqb, leb, ltb}
 use lib.ListN.{get_or, drop}
+use Rattle.refusal.specs.declared.Refusal.{Refusal}
 use Rattle.arith.specs.Pick.{both}
 use Rattle.arith.proofs.PickLaws.{pick_both, pick_each, both_left, both_right}
 use Rattle.bus.specs.Register.{is_register}
@@ -17,8 +19,6 @@ use Rattle.log_line.specs.declared.Line.{Line}
 use Rattle.log_line.specs.declared.Line.TheVariants.{Header, Machine, One, Loop, Done, Stop, NoForm, NoRegister}
 use Rattle.log_line.specs.Printed.{Allowed, Printable}
 use Rattle.log_fault.specs.declared.Stand.{Stand}
-use Rattle.log_rules.specs.declared.Reading.{Reading}
-use Rattle.log_rules.specs.declared.Reading.TheVariants.{Item, Refused}
 use Rattle.log_rules.specs.Reading.{standing, read_in}
 use Rattle.log_rules.proofs.PlaceLaws.{HadIn, had_in, had_text}
 use Rattle.log_cursor.specs.declared.Cursor as log
@@ -31,11 +31,9 @@ use Rattle.vgm_stream.specs.declared.Said.TheVariants.{Wait, Write}
 use Rattle.vgm_stream.specs.declared.Step.{Step}
 use Rattle.vgm_stream.specs.declared.Step.TheVariants.{End, Fault, Next, Says}
 use Rattle.vgm_stream.specs.Stream.{command_of, register_of, byte_step}
-use Rattle.vgm_cursor.specs.declared.Read.{Read}
-use Rattle.vgm_cursor.specs.declared.Read.TheVariants as read
 use Rattle.vgm_cursor.specs.declared.Spot.{Spot}
 use Rattle.vgm_cursor.specs.Walking as walking
-use Rattle.vgm_cursor.specs.Walking.{command_by, command_from, command_at, gap_at, wait_on, move_on, command_step}
+use Rattle.vgm_cursor.specs.Walking.{Read, command_by, command_from, command_at, gap_at, wait_on, move_on, command_step}
 use Rattle.recording.specs.Whole.{are_bytes, is_file, start_of, machine_of}
 use Rattle.recording.proofs.ByteLaws.{bytes_drop}
 use Rattle.recording.proofs.KindLaws.{file_bytes_lem}
@@ -72,10 +70,10 @@ module _ (c : log.Cursor) where
   followed_allowed d p NoForm h = tt
   followed_allowed d p NoRegister h = tt
 
-  read_allowed : (st : Stand) (b : List ℕ) (r : Reading) → HadIn st b c.at r → LineAllowed (read_step c r)
+  read_allowed : (st : Stand) (b : List ℕ) (r : Result (Line × ℕ) Refusal) → HadIn st b c.at r → LineAllowed (read_step c r)
   unfolding read_step
-  read_allowed st b (Item l p) h = followed_allowed (loops_open c) p l (had_text h).1
-  read_allowed st b (Refused k p) h = tt
+  read_allowed st b (Ok (l, p)) h = followed_allowed (loops_open c) p l (had_text h).1
+  read_allowed st b (Err e) h = tt
 
 line_allowed : (b : List ℕ) (c : log.Cursor) → LineAllowed (stepping.step_of b c)
 unfolding stepping.step_of
@@ -103,9 +101,9 @@ StepOk (Next w) = AwaitOk w
 StepOk (Says s) = SaidOk s
 
 abbrev ReadOk : Read → Type 0
-ReadOk read.End = Unit {0}
-ReadOk (read.Fault k p) = Unit {0}
-ReadOk (read.Says s p) = SaidOk s
+ReadOk (Ok None) = Unit {0}
+ReadOk (Err e) = Unit {0}
+ReadOk (Ok (Some (s, p))) = SaidOk s
 
 byte_ok : (w : Await) → AwaitOk w → (b : ℕ) → b ≤ 255 → StepOk (byte_step w b)
 unfolding byte_step command_of register_of
@@ -152,11 +150,11 @@ module _ (pal : Bool) (c : Spot) where
 
   command_allowed : (r : Read) → ReadOk r → SpotAllowed (command_step pal c r)
   unfolding command_step move_on
-  command_allowed read.End h = pick_each SpotAllowed (eqb (gap_at pal c) 0) (λ e. tt) wait_allowed
-  command_allowed (read.Fault k p) h = tt
-  command_allowed (read.Says (Wait n) p) h =
+  command_allowed (Ok None) h = pick_each SpotAllowed (eqb (gap_at pal c) 0) (λ e. tt) wait_allowed
+  command_allowed (Err e) h = tt
+  command_allowed (Ok (Some (Wait n, p))) h =
       pick_both SpotAllowed (leb (c.samples + n) 100000000) {a = walking.go on (walking.spot_of p (c.samples + n) c.clock)} {b = walking.go (refused 9 0) c} tt tt
-  command_allowed (read.Says (Write r v) p) h = pick_each SpotAllowed (eqb (gap_at pal c) 0) (λ e. h) wait_allowed
+  command_allowed (Ok (Some (Write r v, p))) h = pick_each SpotAllowed (eqb (gap_at pal c) 0) (λ e. h) wait_allowed
 
 spot_allowed : (pal : Bool) (b : List ℕ) → are_bytes b ≡ true → (c : Spot) → SpotAllowed (walking.step_of pal b c)
 unfolding walking.step_of command_at

@@ -17,9 +17,9 @@ use Rattle.log_rules.specs.Tree.{acts}
 use Rattle.log_cursor.specs.declared.Cursor as log
 use Rattle.log_cursor.specs.Stepping as stepping
 use Rattle.log_cursor.proofs.Whole as whole
+use Rattle.std.specs.Prelude.{Result, Ok, Err}
 use Rattle.vgm_file.specs.Header.{word, data_start, is_dual, is_pal_file, commands_at}
-use Rattle.vgm_file.specs.declared.Part.{Part}
-use Rattle.vgm_file.specs.declared.Part.TheVariants as part
+use Rattle.vgm_file.specs.declared.NoPart.{NoPart}
 use Rattle.vgm_cursor.specs.declared.Spot.{Spot}
 use Rattle.vgm_cursor.specs.Walking as walking
 use Rattle.vgm_cursor.proofs.WalkLaws.{stream_gives, step_onward}
@@ -37,12 +37,9 @@ log_gives b n g = gives_along (stepping.step_of b) (step_of b) (λ c. cursor_of 
 -- A FILE
 
 -- its commands begin behind its header
-abbrev Behind : Part → Type 0
-Behind (part.From p) = 0x38 ≤ p
-Behind part.NoVgm = Unit {0}
-Behind part.Cut = Unit {0}
-Behind part.Outside = Unit {0}
-Behind part.Dual = Unit {0}
+abbrev Behind : Result ℕ NoPart → Type 0
+Behind (Ok p) = 0x38 ≤ p
+Behind (Err e) = Unit {0}
 
 commands_behind : (b : List ℕ) → Behind (commands_at b)
 unfolding commands_at

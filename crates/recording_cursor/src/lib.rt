@@ -27,9 +27,8 @@ pub struct Stepped {
 pub fn start() -> Cursor
     ensures { result ≡ beginning }
 {
-    let c = log_cursor::start();
     Cursor {
-        log: c,
+        log: log_cursor::start(),
         samples: 0,
         clock: 0,
     }
@@ -39,18 +38,10 @@ pub fn start() -> Cursor
 fn line_step(b: &[u8], c: Cursor) -> Stepped
     ensures { result ≡ stepped_of (line_step b.now c) }
 {
-    let here = c.log;
-    let t = log_cursor::step(b, here);
-    let found = t.found;
-    let there = t.cursor;
-    let next = Cursor {
-        log: there,
-        samples: c.samples,
-        clock: c.clock,
-    };
+    let t = log_cursor::step(b, c.log);
     Stepped {
-        found: found,
-        cursor: next,
+        found: t.found,
+        cursor: Cursor { log: t.cursor, ..c },
     }
 }
 
@@ -96,23 +87,19 @@ fn head_step(b: &[u8], c: Cursor) -> Stepped
 fn file_step(b: &[u8], c: Cursor) -> Stepped
     ensures { result ≡ stepped_of (file_step b.now c) }
 {
-    let here = c.log;
-    if here.at == 0 {
+    if c.log.at == 0 {
         return head_step(b, c);
     }
     let pal = recording::is_pal(b);
     let spot = Spot {
-        at: here.at,
+        at: c.log.at,
         samples: c.samples,
         clock: c.clock,
     };
     let t = vgm_cursor::step(pal, b, spot);
-    let found = t.found;
-    let there = t.spot;
-    let next = moved(c, there);
     Stepped {
-        found: found,
-        cursor: next,
+        found: t.found,
+        cursor: moved(c, t.spot),
     }
 }
 

@@ -52,7 +52,7 @@ fn mark(words: &mut [u32], n: u32, clock: u32, level: u16, was: u16) -> u32
     if level == was {
         return n;
     }
-    run_answer::put(words, n as usize, clock, level as u32);
+    run_answer::put(words, n as usize, clock, u32::from(level));
     n + 1
 }
 
@@ -133,7 +133,7 @@ fn brink(end: u32, next: u64) -> u32
     ensures upper_bound { (result ≤ end) × (result < next) }
     ensures by_index { (k : ℕ) → k ≤ end → k < next → k ≤ result }
 {
-    if next <= end as u64 {
+    if next <= u64::from(end) {
         return (next - 1) as u32;
     }
     end
@@ -174,7 +174,7 @@ fn stretch_on(
     let mut n = mark(words, records, base, l.level, was);
     let room = words.len() / 2;
     let mut settled: u32 = 0;
-    while run_loops::goes(l.next, end as u64 + 1, n, room) {
+    while run_loops::goes(l.next, u64::from(end) + 1, n, room) {
         let e = l.next as u32;
         settle(table, l.dmc.out, e - 1 - settled);
         settled = e - 1;
@@ -214,7 +214,7 @@ fn next_stretch(
     ensures stretched { Stretched memory.now s (stretch_end left s) base (marked_records records (state_level s) was) (marked_words words.old records base (state_level s) was) words.new result }
     ensures table_after { table.new ≡ tallied (dwell_places memory.now s) result.clocks table.old }
 {
-    let end = arith::least_u32(left - 1, leap_law::before_step(s));
+    let end = (left - 1).min(leap_law::before_step(s));
     stretch_on(s, memory, was, end, base, words, records, table)
 }
 
@@ -269,8 +269,8 @@ fn run_on(s: State, memory: &[u8], count: u32, words: &mut [u32], table: &mut [u
     let written = mark(words, n, done, after, level);
     Ran {
         number: 0,
-        state: state,
-        done: done,
+        state,
+        done,
         records: written,
     }
 }
@@ -305,7 +305,7 @@ fn walk(s: State, memory: &[u8], counts: [u32; 128], count: u32) -> u32
         let last = run_walk::last_at(at, leap_dmc::still_for(d, period), count);
         let left = last - walked;
         let dwelt = table[place];
-        let g = arith::least_u32(left, 4000000000 - dwelt);
+        let g = left.min(4000000000 - dwelt);
         table[place] = dwelt + g;
         walked += g;
         if g < left {
@@ -349,10 +349,7 @@ fn run_counted(
     let most = open_clocks(s, memory, counts, count);
     let mut table = counts;
     let ran = run_on(s, memory, most, words, &mut table);
-    Counted {
-        ran: ran,
-        counts: table,
-    }
+    Counted { ran, counts: table }
 }
 
 // A run with its dwell table, leaping wherever nothing can change.

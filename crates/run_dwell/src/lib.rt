@@ -19,17 +19,11 @@ pub struct Counted {
 pub fn within(counts: [u32; 128], limit: u32) -> bool
     ensures { result ≡ counts_within limit counts }
 {
-    let mut i: usize = 0;
-    while i < 128 {
-        if limit < counts[i] {
-            return false;
-        }
-        i += 1;
-    }
-    true
+    counts.iter().all(|n| *n <= limit)
 }
 
 // The number of a run's answer.
+#[tactic(auto, using(crate::proofs::DwellLaws::number_first, crate::proofs::DwellLaws::number_none, crate::proofs::DwellLaws::number_thirteen))]
 pub fn number_of(s: State, memory: &[u8], counts: [u32; 128], count: u64) -> u8
     ensures { result ≡ dwell_number memory.now s counts count }
 {
@@ -37,19 +31,15 @@ pub fn number_of(s: State, memory: &[u8], counts: [u32; 128], count: u64) -> u8
     if number != 0 {
         return number;
     }
-    if within(counts, 4000000000) {
-        return 0;
-    }
-    13
+    if within(counts, 4000000000) { 0 } else { 13 }
 }
 
 // A refusal: state and table as they came, nothing done.
 pub fn refuse(number: u8, s: State, counts: [u32; 128]) -> Counted
     ensures { result ≡ dwell_refusal number s counts }
 {
-    let ran = run_answer::refuse(number, s);
     Counted {
-        ran: ran,
-        counts: counts,
+        ran: run_answer::refuse(number, s),
+        counts,
     }
 }

@@ -4,7 +4,7 @@
 
 ghost use Rattle.std.specs.Prelude.{◌≡◌, ◌≤◌};
 ghost use Rattle.run_interrupt.specs.Closed.{until_of, rise_in};
-ghost use Rattle.run_answer.specs.Run.{number as runNumber};
+ghost use Rattle.run_answer.specs.Run.{number as run_number};
 ghost use Rattle.run_interrupt.specs.Next.{holds, next_interrupt, rise_number, rise_clocks, clocks_to};
 
 use chip::State;
@@ -18,6 +18,7 @@ pub enum Asked {
 }
 
 // The answer: after so many clocks, 0 where it holds now; not within the count; or a refusal's number.
+// No Result: the three cases are what is asked, by `next_interrupt`, and an Option in a Result would say less.
 #[derive(Clone, Copy)]
 pub enum Rise {
     At(u32),
@@ -26,6 +27,7 @@ pub enum Rise {
 }
 
 // Whether it holds now.
+#[tactic(auto, unfolding(crate::specs::Next::holds))]
 fn is_set(s: State, a: Asked) -> bool
     ensures { result ≡ holds a s }
 {
@@ -37,6 +39,7 @@ fn is_set(s: State, a: Asked) -> bool
 }
 
 // The clocks up to the one that sets it, 0 being never.
+#[tactic(auto, unfolding(crate::specs::Closed::until_of))]
 fn until(s: State, a: Asked) -> u64
     ensures { result ≡ until_of a s }
 {
@@ -48,12 +51,12 @@ fn until(s: State, a: Asked) -> u64
 }
 
 // Where it doesn't hold now: after u clocks, if that is within the count.
+#[tactic(auto, unfolding(crate::specs::Closed::rise_in, leap_line::specs::Until::within), using(arith::proofs::PickLaws::both_right))]
 fn rise_in(u: u64, count: u64) -> Rise
     requires { count ≤ 1000000 }
     ensures { result ≡ rise_in u count }
 {
-    let within = arith::both_of(0 < u, u <= count);
-    if within {
+    if 0 < u && u <= count {
         return Rise::At(u as u32);
     }
     Rise::Never
@@ -64,8 +67,7 @@ pub fn number(r: Rise) -> u8
     ensures { result ≡ rise_number r }
 {
     match r {
-        Rise::At(_) => 0,
-        Rise::Never => 0,
+        Rise::At(_) | Rise::Never => 0,
         Rise::Refused(n) => n,
     }
 }
@@ -76,15 +78,14 @@ pub fn clocks(r: Rise) -> u32
 {
     match r {
         Rise::At(k) => k,
-        Rise::Never => 0,
-        Rise::Refused(_) => 0,
+        Rise::Never | Rise::Refused(_) => 0,
     }
 }
 
 // The least k from 0 to the count such that it holds after k clocks, or that there is none. Refused: 1, 2, 3.
 pub fn next_interrupt(s: State, memory: &[u8], count: u64, a: Asked) -> Rise
     ensures value { result ≡ next_interrupt a memory.now s count }
-    ensures result_value { rise_number result ≡ runNumber memory.now s count }
+    ensures result_value { rise_number result ≡ run_number memory.now s count }
     ensures result_value_2 { rise_clocks result ≡ clocks_to a memory.now s count }
 {
     let number = run_answer::number_of(s, memory, count);

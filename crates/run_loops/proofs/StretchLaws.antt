@@ -5,7 +5,7 @@
 -- Main statements: `worked_start`, the loops' facts hold where a stretch begins; `worked_event`, they still hold behind the next event, with its record
 -- where the level is another; `voices_worked`, the same for an event of squares and triangle alone; `worked_on`, two parts one after the other are one;
 -- `worked_stop`, a stop before the next event makes a stretch; `untouched_passed`, from a quiet state the stretch goes to its end by the law of the leap.
-use Prim.Native.Nat.{ℕ, ◌+◌, ◌-◌, ◌/◌, ◌≤◌, ◌<◌, min}
+use Prim.Native.Nat.{ℕ, ◌+◌, ◌-◌, ◌/◌, ◌≤◌, ◌<◌}
 use mathlib.Core.Path.{◌≡◌, refl, sym, ap, ◌∙◌}
 use mathlib.Core.Bool.{Bool, true, false}
 use mathlib.Core.List.{List}
@@ -47,15 +47,6 @@ pub goes_on_lem : (r : Bool) (next until n room : ℕ) → r ≡ both (ltb next 
 goes_on_lem r next until n room e h =
     let b = sym e ∙ h in
     (ltb-true next until (both_left (ltb next until) (ltb n room) b), ltb-true n room (both_right (ltb next until) (ltb n room) b))
-
-pub voices_most : (r noise dmc end : ℕ) → r ≡ min (min noise dmc) end → (r ≤ noise) × (r ≤ dmc) × (r ≤ end)
-voices_most r noise dmc end e =
-    let a = sooner_most noise dmc in
-    let b = sooner_most (min noise dmc) end in
-    (omega (arith, a, b), omega (arith, a, b), omega (arith, b))
-
-pub sounds_most : (r dmc end : ℕ) → r ≡ min dmc end → (r ≤ dmc) × (r ≤ end)
-sounds_most r dmc end e = let a = sooner_most dmc end in (omega (arith, a), omega (arith, a))
 
 -- a stretch ends before the last clock left, and before the next frame step
 pub stretch_most : (left : ℕ) (s : State) → (stretch_end left s ≤ left - 1) × (stretch_end left s ≤ before_step s)

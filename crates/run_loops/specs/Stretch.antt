@@ -1,6 +1,6 @@
 -- Helper: nobody has to believe this; what the run's loops hold between two events. What a quiet stretch owes stands in specs/Leap.
 -- What working a stretch of clocks that bring no frame step promises.
-use Rattle.std.specs.Prelude.{ℕ, ◌+◌, ◌-◌, ◌/◌, ◌≤◌, ◌≡◌, true, List, length}
+use Rattle.std.specs.Prelude.{ℕ, ◌+◌, ◌/◌, ◌≤◌, ◌≡◌, true, List, length}
 use Rattle.arith.specs.Iterate.{iterate}
 use Rattle.leap_law.specs.Frame.{before_step}
 use Rattle.chip.specs.Clock.{chip_clock}

@@ -21,8 +21,7 @@ pub fn voices_until(l: Lags, end: u32) -> u64
     ensures value { result ≡ min (min l.noise.next l.dmc.next) (end + 1) }
     ensures upper_bound { (result ≤ l.noise.next) × (result ≤ l.dmc.next) × (result ≤ end + 1) }
 {
-    let slow = arith::least_u64(l.noise.next, l.dmc.next);
-    arith::least_u64(slow, end as u64 + 1)
+    l.noise.next.min(l.dmc.next).min(u64::from(end) + 1)
 }
 
 // Up to where the DMC is not due.
@@ -30,7 +29,7 @@ pub fn sounds_until(l: Lags, end: u32) -> u64
     ensures value { result ≡ min l.dmc.next (end + 1) }
     ensures upper_bound { (result ≤ l.dmc.next) × (result ≤ end + 1) }
 {
-    arith::least_u64(l.dmc.next, end as u64 + 1)
+    l.dmc.next.min(u64::from(end) + 1)
 }
 
 // Whether the next event is before `until` and there is room for its record.
@@ -38,5 +37,5 @@ pub fn goes(next: u64, until: u64, n: u32, room: usize) -> bool
     ensures value { result ≡ both (ltb next until) (ltb n room) }
     ensures next_lt_until { result ≡ true → (next < until) × (n < room) }
 {
-    arith::both_of(next < until, (n as usize) < room)
+    next < until && (n as usize) < room
 }

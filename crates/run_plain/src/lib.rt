@@ -10,7 +10,7 @@ ghost use Rattle.chip.specs.Range.{in_range};
 ghost use Rattle.run_answer.specs.Run.{flat, stored};
 ghost use Rattle.run_dwell.specs.Dwell.{dwell_limit, dwell_place, counts_within, dwell_by, run_answered, run_answer, run_lent};
 ghost use Rattle.run_plain.specs.Calm.{is_calm, calm_clock};
-ghost use Rattle.run_plain.specs.Heard.{given_of, mixed_of, same_given, heard_of, silence};
+ghost use Rattle.run_plain.specs.Heard.{given_of, mixed_of, heard_of, silence};
 ghost use Rattle.run_plain.specs.Going.{Begun, Spare, Stretched, Ended};
 
 use chip::State;
@@ -18,7 +18,7 @@ use run_answer::Ran;
 use run_dwell::Counted;
 
 // What the five channels give.
-#[derive(Clone, Copy)]
+#[derive(Clone, Copy, PartialEq, Eq)]
 pub struct Given {
     pub square1: u8,
     pub square2: u8,
@@ -43,44 +43,31 @@ pub struct Stand {
     pub level: u16,
 }
 
+#[tactic(auto, unfolding(crate::specs::Heard::given_of))]
 fn given_of(s: State) -> Given
     ensures { result ≡ given_of s }
 {
-    let a = s.square1.output(false);
-    let b = s.square2.output(true);
-    let t = s.triangle.output();
-    let n = s.noise.output();
-    let d = s.dmc.output_of();
     Given {
-        square1: a,
-        square2: b,
-        triangle: t,
-        noise: n,
-        dmc: d,
+        square1: s.square1.output(false),
+        square2: s.square2.output(true),
+        triangle: s.triangle.output(),
+        noise: s.noise.output(),
+        dmc: s.dmc.output_of(),
     }
 }
 
 // The level that it is mixed to.
+#[tactic(auto, unfolding(crate::specs::Heard::mixed_of))]
 fn mixed_of(g: Given) -> u16
     ensures { result ≡ mixed_of g }
 {
     chip_mixer::mix(
-        g.square1 as u32,
-        g.square2 as u32,
-        g.triangle as u32,
-        g.noise as u32,
-        g.dmc as u32,
+        u32::from(g.square1),
+        u32::from(g.square2),
+        u32::from(g.triangle),
+        u32::from(g.noise),
+        u32::from(g.dmc),
     )
-}
-
-// Whether all five give the same.
-fn is_same(g: Given, h: Given) -> bool
-    ensures { result ≡ same_given g h }
-{
-    let squares = arith::both_of(g.square1 == h.square1, g.square2 == h.square2);
-    let others = arith::both_of(g.triangle == h.triangle, g.noise == h.noise);
-    let rest = arith::both_of(others, g.dmc == h.dmc);
-    arith::both_of(squares, rest)
 }
 
 // Nothing given.
@@ -101,29 +88,28 @@ fn silent() -> Heard
 }
 
 // What a state gives and its level, mixed anew only where something else is given.
+#[tactic(auto, unfolding(crate::specs::Heard::heard_of), using(crate::proofs::HeardLaws::level_given, crate::proofs::HeardLaws::heard_same))]
 fn heard_of(h: Heard, s: State) -> Heard
     requires { h.level ≡ mixed_of h.given }
     ensures { result ≡ heard_of s }
 {
     let given = given_of(s);
-    let before = h.given;
-    if is_same(given, before) {
+    if given == h.given {
         return h;
     }
-    let level = mixed_of(given);
     Heard {
-        given: given,
-        level: level,
+        given,
+        level: mixed_of(given),
     }
 }
 
 // Whether the next clock brings no frame step.
+#[tactic(auto, unfolding(crate::specs::Calm::is_calm))]
 fn is_calm(s: State) -> bool
     ensures { result ≡ is_calm s }
 {
     let times = chip_tables::frame_times(s.pal);
-    let step = s.frame.next_step(times);
-    step == 0
+    s.frame.next_step(times) == 0
 }
 
 // A clock that brings no frame step, by itself: in a loop of such clocks all that only a step changes stands still.
@@ -150,7 +136,7 @@ fn calm_clocked(s: State, memory: &[u8]) -> State
 fn goes(done: u32, until: u32, n: u32, room: usize) -> bool
     ensures { result ≡ both (ltb done until) (ltb n room) }
 {
-    arith::both_of(done < until, (n as usize) < room)
+    done < until && (n as usize) < room
 }
 
 // Up to which clock no count can pass its limit: all clocks, or none.
@@ -187,7 +173,7 @@ fn note(
     if level == was {
         return n;
     }
-    run_answer::put(words, n as usize, clock, level as u32);
+    run_answer::put(words, n as usize, clock, u32::from(level));
     n + 1
 }
 
@@ -204,7 +190,7 @@ fn stretch(first: Stand, memory: &[u8], until: u32, table: &mut [u32], words: &m
     let mut level = first.level;
     let mut done = first.done;
     let mut n = first.records;
-    while arith::both_of(goes(done, until, n, room), is_calm(state)) {
+    while goes(done, until, n, room) && is_calm(state) {
         let next = calm_clocked(state, memory);
         let after = heard_of(heard, next);
         n = note(next, done + 1, after.level, level, n, table, words);
@@ -214,10 +200,10 @@ fn stretch(first: Stand, memory: &[u8], until: u32, table: &mut [u32], words: &m
         heard = after;
     }
     Stand {
-        state: state,
-        done: done,
+        state,
+        done,
         records: n,
-        level: level,
+        level,
     }
 }
 
@@ -248,8 +234,8 @@ fn rest(
         if 4000000000 <= dwelt {
             let full = Ran {
                 number: 0,
-                state: state,
-                done: done,
+                state,
+                done,
                 records: n,
             };
             return Counted {
@@ -267,8 +253,8 @@ fn rest(
             if room <= at {
                 let early = Ran {
                     number: 0,
-                    state: state,
-                    done: done,
+                    state,
+                    done,
                     records: n,
                 };
                 return Counted {
@@ -276,7 +262,7 @@ fn rest(
                     counts: table,
                 };
             }
-            run_answer::put(words, at, done + 1, after as u32);
+            run_answer::put(words, at, done + 1, u32::from(after));
             table[place] = dwelt + 1;
             state = next;
             level = after;
@@ -286,8 +272,8 @@ fn rest(
     }
     let last = Ran {
         number: 0,
-        state: state,
-        done: done,
+        state,
+        done,
         records: n,
     };
     Counted {

@@ -50,10 +50,9 @@ fn item(rt: &HostRuntime, log: &[u8], k: u64) {
     text(rt, b"item=");
     number(rt, k);
     text(rt, b" ");
-    let f = log_item::item(log, k);
-    match f {
-        log_item::Picked::Is(a) => act(rt, a),
-        log_item::Picked::Refused(n, at) => place(rt, b"refused=", n, at),
+    match log_item::item(log, k) {
+        Ok(a) => act(rt, a),
+        Err(e) => place(rt, b"refused=", e.number, e.place),
     }
     text(rt, b"\n");
 }

@@ -82,7 +82,7 @@ pub(crate) fn copy_of_words(words: &[u32]) -> [u32; 1024]
 pub(crate) fn alike(a: &[u32], b: &[u32]) -> bool {
     let mut same = a.len() == b.len();
     for i in 0..least(a.len(), b.len()) {
-        same = arith::both_of(same, a[i] == b[i]);
+        same = same && a[i] == b[i];
     }
     same
 }

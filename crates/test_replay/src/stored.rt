@@ -6,7 +6,6 @@ ghost use Rattle.c_state.specs.Bytes.{state_size};
 use super::lent;
 use std::fs::File;
 use std::os::unix::fs::FileExt;
-use text::Number;
 
 // The longest line is the first of a case: 26 bytes, a blank, the digits of the state, and the line feed.
 const LONGEST: usize = 28 + 2 * lent::STATE;
@@ -24,14 +23,14 @@ pub(crate) fn byte(line: &[u8], at: usize) -> u8 {
 }
 
 // What the two bytes at a place say in hex.
-fn pair(line: &[u8], at: usize) -> Number
+fn pair(line: &[u8], at: usize) -> Option<u32>
     requires { at ≤ 1000 }
 {
     let e = at + 2;
     if e <= line.len() {
         text::hex2(&line[at..e])
     } else {
-        Number::None
+        None
     }
 }
 
@@ -40,8 +39,8 @@ pub(crate) fn value(line: &[u8], at: usize) -> u8
     requires { at ≤ 1000 }
 {
     match pair(line, at) {
-        Number::Is(b) => (b % 256) as u8,
-        Number::None => 0,
+        Some(b) => (b % 256) as u8,
+        None => 0,
     }
 }
 
@@ -89,7 +88,7 @@ fn field(line: &[u8], at: usize, n: usize) -> bool
     }
     let mut i = 0;
     while i < n {
-        let Number::Is(_) = pair(line, at + 1 + 2 * i) else {
+        let Some(_) = pair(line, at + 1 + 2 * i) else {
             return false;
         };
         i += 1;

@@ -3,6 +3,7 @@
 -- Main definitions: none; decimals are defined in specs/Decimal (`decimal`, `decimal_text`).
 -- Main statements: `decimal_complete`, every number below 10 ^ 10 is read back from its text; `decimal_sound`, what is read as n is n's text; `cap_digits`,
 -- a number cut off at 2 ^ 32 on the way is the one cut off at the end.
+use Rattle.std.specs.Prelude.{Option, Some, None}
 use mathlib.Core.Path.{◌≡◌, refl, ap, ap₂, sym, ◌∙◌}
 use mathlib.Core.List.{List, [], ◌∷◌, ◌++◌, append_assoc, append-nil}
 use mathlib.Core.Bool.{Bool, true, false, not}
@@ -16,8 +17,6 @@ use lib.Seq.{drop-cons}
 use lib.Dec.{leb, ltb, eqb}
 use Rattle.arith.specs.Pick.{pick}
 use Rattle.arith.proofs.PickLaws.{both_left, both_right}
-use Rattle.text.specs.declared.Number.{Number}
-use Rattle.text.specs.declared.Number.TheVariants.{Is, None}
 use Rattle.text.specs.Numbers.{capped}
 use Rattle.text.specs.Decimal.{digit, digits, formed, decimal, digits_of, decimal_text}
 
@@ -33,25 +32,6 @@ pub digit_high : (c : ℕ) → digit c ≡ true → c ≤ 57
 unfolding digit
 digit_high c e = leb-true _ _ (both_right (leb 48 c) (leb c 57) e)
 
--- WHAT MAY LEAD, by the length
-
-pub formed_none : (s : List ℕ) → length s ≡ 0 → formed s ≡ false
-unfolding formed
-formed_none [] h = refl
-formed_none (c ∷ s) h = absurd (omega arith)
-
-pub formed_one : (s : List ℕ) → length s ≡ 1 → formed s ≡ true
-unfolding formed
-formed_one [] h = absurd (omega arith)
-formed_one (c ∷ []) h = refl
-formed_one (c ∷ d ∷ s) h = absurd (omega arith)
-
-pub formed_more : (s : List ℕ) → (length s ≡ 0 → ⊥) → (length s ≡ 1 → ⊥) → formed s ≡ not (eqb (get_or s 0 0) 48)
-unfolding formed
-formed_more [] a b = absurd (a refl)
-formed_more (c ∷ []) a b = absurd (b refl)
-formed_more (c ∷ d ∷ s) a b = refl
-
 -- THE DIGITS FROM A PLACE ON
 
 module _ (s : List ℕ) (i : ℕ) (h : i < length s) where
@@ -63,17 +43,17 @@ module _ (s : List ℕ) (i : ℕ) (h : i < length s) where
   unfolding digits
   digits_other n e = rw (drop-cons s i 0, e)
 
-pub digits_end : (s : List ℕ) (i n : ℕ) → length s ≤ i → digits n (drop i s) ≡ Is n
+pub digits_end : (s : List ℕ) (i n : ℕ) → length s ≤ i → digits n (drop i s) ≡ Some n
 unfolding digits
 digits_end s i n h = rw (drop_of_length-le s h)
 
 -- CUTTING OFF IS THE SAME whether it is done on the way or at the end
 
-cap_pick : (b : Bool) (x y : Number) → capped x ≡ capped y → capped (pick b x None) ≡ capped (pick b y None)
+cap_pick : (b : Bool) (x y : Option ℕ) → capped x ≡ capped y → capped (pick b x None) ≡ capped (pick b y None)
 cap_pick true x y e = e
 cap_pick false x y e = refl
 
-cap_is : (m : ℕ) → capped (Is (min 4294967296 m)) ≡ capped (Is m)
+cap_is : (m : ℕ) → capped (Some (min 4294967296 m)) ≡ capped (Some m)
 unfolding capped
 cap_is m = omega arith
 
@@ -84,6 +64,16 @@ cap_digits (c ∷ s) m =
     cap_pick (digit c) _ _
     (sym (cap_digits s (min 4294967296 m * 10 + (c - 48)))
     ∙ (ap (λ (z : ℕ). capped (digits z s)) (omega arith) ∙ cap_digits s (m * 10 + (c - 48))))
+
+module _ (s : List ℕ) (i : ℕ) (h : i < length s) where
+  pub digits_cut : (n : ℕ) → digit (get_or s i 0) ≡ true
+      → capped (digits n (drop i s)) ≡ capped (digits (min (n * 10 + (get_or s i 0 - 48)) 4294967296) (drop (i + 1) s))
+  digits_cut n e =
+      ap capped (digits_one s i h n e)
+      ∙ (sym (cap_digits (drop (i + 1) s) _) ∙ ap (λ (z : ℕ). capped (digits z (drop (i + 1) s))) (omega arith))
+
+-- what reading decimals byte by byte needs
+pub ruleset digit_steps = (digit_low, digits_cut, digits_other, digits_end)
 
 -- EITHER WAY ROUND
 
@@ -111,34 +101,34 @@ low_pow k n h = (div-lt_iff_lt-mul {k = 10} {x = n} {y = 10 ^ k} (omega arith)).
 
 -- WRITTEN, THEN READ
 
-digits_snoc : (s : List ℕ) (m n d : ℕ) → d < 10 → digits m s ≡ Is n → digits m (s ++ ((48 + d) ∷ [])) ≡ Is (n * 10 + d)
+digits_snoc : (s : List ℕ) (m n d : ℕ) → d < 10 → digits m s ≡ Some n → digits m (s ++ ((48 + d) ∷ [])) ≡ Some (n * 10 + d)
 unfolding digits
 digits_snoc [] m n d h e =
     let q : m ≡ n = cc in
-    rw (is_digit (48 + d) (omega arith) (omega arith)) (ap Is (omega arith))
+    rw (is_digit (48 + d) (omega arith) (omega arith)) (ap Some (omega arith))
 digits_snoc (c ∷ s) m n d h e = go (digit c) e (digits_snoc s (m * 10 + (c - 48)) n d h)
   where
-    go : (b : Bool) → pick b (digits (m * 10 + (c - 48)) s) None ≡ Is n
-        → (digits (m * 10 + (c - 48)) s ≡ Is n → digits (m * 10 + (c - 48)) (s ++ ((48 + d) ∷ [])) ≡ Is (n * 10 + d))
-        → pick b (digits (m * 10 + (c - 48)) (s ++ ((48 + d) ∷ []))) None ≡ Is (n * 10 + d)
+    go : (b : Bool) → pick b (digits (m * 10 + (c - 48)) s) None ≡ Some n
+        → (digits (m * 10 + (c - 48)) s ≡ Some n → digits (m * 10 + (c - 48)) (s ++ ((48 + d) ∷ [])) ≡ Some (n * 10 + d))
+        → pick b (digits (m * 10 + (c - 48)) (s ++ ((48 + d) ∷ []))) None ≡ Some (n * 10 + d)
     go true e r = r e
     go false e r = absurd (let z : ◌≡◌ {A = ℕ} 0 1 = cc in omega arith)
 
-back_small : (k n : ℕ) → n < 10 → digits 0 (digits_of (suc k) n) ≡ Is n
+back_small : (k n : ℕ) → n < 10 → digits 0 (digits_of (suc k) n) ≡ Some n
 unfolding digits
-back_small k n h = rw (digits_of_small k n h, is_digit (48 + n) (omega arith) (omega arith)) (ap Is (omega arith))
+back_small k n h = rw (digits_of_small k n h, is_digit (48 + n) (omega arith) (omega arith)) (ap Some (omega arith))
 
-back : (k n : ℕ) → n < 10 ^ suc k → digits 0 (digits_of (suc k) n) ≡ Is n
+back : (k n : ℕ) → n < 10 ^ suc k → digits 0 (digits_of (suc k) n) ≡ Some n
 back zero n h = back_small zero n (low h)
   where
     low : n < 10 ^ 1 → n < 10
     low h = h
 back (suc k) n h = go (side n) (back k (n / 10) (low_pow (suc k) n h))
   where
-    go : Side n → digits 0 (digits_of (suc k) (n / 10)) ≡ Is (n / 10) → digits 0 (digits_of (suc (suc k)) n) ≡ Is n
+    go : Side n → digits 0 (digits_of (suc k) (n / 10)) ≡ Some (n / 10) → digits 0 (digits_of (suc (suc k)) n) ≡ Some n
     go (small s) r = back_small (suc k) n s
     go (big b) r =
-        rw (digits_of_big (suc k) n b) (digits_snoc (digits_of (suc k) (n / 10)) 0 (n / 10) (n % 10) (omega arith) r ∙ ap Is (omega arith))
+        rw (digits_of_big (suc k) n b) (digits_snoc (digits_of (suc k) (n / 10)) 0 (n / 10) (n % 10) (omega arith) r ∙ ap Some (omega arith))
 
 -- the first digit of a number above 0 is no zero
 
@@ -178,7 +168,7 @@ formed_of zero h = refl
 formed_of (suc n) h = leads_formed _ (leads_of 9 (suc n) (omega arith) h)
 
 -- every number below 10 ^ 10 is read as itself
-pub decimal_complete : (n : ℕ) → n < 10 ^ 10 → decimal (decimal_text n) ≡ Is n
+pub decimal_complete : (n : ℕ) → n < 10 ^ 10 → decimal (decimal_text n) ≡ Some n
 unfolding decimal decimal_text
 decimal_complete n h = rw (formed_of n h) (back 9 n h)
 
@@ -192,15 +182,15 @@ digits_push k m c p e =
     ∙ ap₂ (λ (x y : ℕ). digits_of k x ++ (y ∷ [])) (omega arith) (omega arith)
 
 -- the number that m's digits and those of s say, in digits
-again : (s : List ℕ) (m n k : ℕ) → 0 < m → digits m s ≡ Is n → digits_of (k + length s) n ≡ digits_of k m ++ s
+again : (s : List ℕ) (m n k : ℕ) → 0 < m → digits m s ≡ Some n → digits_of (k + length s) n ≡ digits_of k m ++ s
 unfolding digits
 again [] m n k p e =
     let q : m ≡ n = cc in
     rw (add-zero, append-nil, q)
 again (c ∷ s) m n k p e = go (digit c) refl e (λ h. again s (m * 10 + (c - 48)) n (suc k) (omega arith))
   where
-    go : (b : Bool) → digit c ≡ b → pick b (digits (m * 10 + (c - 48)) s) None ≡ Is n
-        → (48 ≤ c → digits (m * 10 + (c - 48)) s ≡ Is n → digits_of (suc k + length s) n ≡ digits_of (suc k) (m * 10 + (c - 48)) ++ s)
+    go : (b : Bool) → digit c ≡ b → pick b (digits (m * 10 + (c - 48)) s) None ≡ Some n
+        → (48 ≤ c → digits (m * 10 + (c - 48)) s ≡ Some n → digits_of (suc k + length s) n ≡ digits_of (suc k) (m * 10 + (c - 48)) ++ s)
         → digits_of (k + suc (length s)) n ≡ digits_of k m ++ (c ∷ s)
     go true q e r =
         ap (λ (f : ℕ). digits_of f n) (omega arith)
@@ -225,15 +215,15 @@ any_room (suc j) (suc k) n h l = go (side n) (any_room j k (n / 10) (low_pow (su
     go (big b) r = digits_of_big (suc j) n b ∙ (ap (λ (x : List ℕ). x ++ ((48 + n % 10) ∷ [])) r ∙ sym (digits_of_big (suc k) n b))
 
 -- a number that was read is below the power of ten of its digits
-digits_bound : (s : List ℕ) (m n a : ℕ) → m < 10 ^ a → digits m s ≡ Is n → n < 10 ^ (a + length s)
+digits_bound : (s : List ℕ) (m n a : ℕ) → m < 10 ^ a → digits m s ≡ Some n → n < 10 ^ (a + length s)
 unfolding digits
 digits_bound [] m n a h e =
     let q : m ≡ n = cc in
     rw (add-zero, ← q) h
 digits_bound (c ∷ s) m n a h e = go (digit c) refl e (λ l. digits_bound s (m * 10 + (c - 48)) n (suc a) (rw pow-suc l))
   where
-    go : (b : Bool) → digit c ≡ b → pick b (digits (m * 10 + (c - 48)) s) None ≡ Is n
-        → (m * 10 + (c - 48) < 10 ^ a * 10 → digits (m * 10 + (c - 48)) s ≡ Is n → n < 10 ^ (suc a + length s))
+    go : (b : Bool) → digit c ≡ b → pick b (digits (m * 10 + (c - 48)) s) None ≡ Some n
+        → (m * 10 + (c - 48) < 10 ^ a * 10 → digits (m * 10 + (c - 48)) s ≡ Some n → n < 10 ^ (suc a + length s))
         → n < 10 ^ (a + suc (length s))
     go true q e r =
         let l = digit_low c q in
@@ -241,11 +231,11 @@ digits_bound (c ∷ s) m n a h e = go (digit c) refl e (λ l. digits_bound s (m 
         rw (add-suc, ← suc-add) (r (omega arith) e)
     go false q e r = absurd (let z : ◌≡◌ {A = ℕ} 0 1 = cc in omega arith)
 
-sound_one : (c n : ℕ) → digits 0 (c ∷ []) ≡ Is n → c ∷ [] ≡ decimal_text n
+sound_one : (c n : ℕ) → digits 0 (c ∷ []) ≡ Some n → c ∷ [] ≡ decimal_text n
 unfolding digits decimal_text
 sound_one c n e = go (digit c) refl e
   where
-    go : (b : Bool) → digit c ≡ b → pick b (Is (0 * 10 + (c - 48))) None ≡ Is n → c ∷ [] ≡ digits_of 10 n
+    go : (b : Bool) → digit c ≡ b → pick b (Some (0 * 10 + (c - 48))) None ≡ Some n → c ∷ [] ≡ digits_of 10 n
     go true q e =
         let l = digit_low c q in
         let u = digit_high c q in
@@ -253,11 +243,11 @@ sound_one c n e = go (digit c) refl e
         ap (λ (x : ℕ). x ∷ []) (omega arith) ∙ sym (digits_of_small 9 n (omega arith))
     go false q e = absurd (let z : ◌≡◌ {A = ℕ} 0 1 = cc in omega arith)
 
-sound_more : (c : ℕ) (s : List ℕ) (n : ℕ) → (c ≡ 48 → ⊥) → digits 0 (c ∷ s) ≡ Is n → n < 10 ^ 10 → c ∷ s ≡ decimal_text n
+sound_more : (c : ℕ) (s : List ℕ) (n : ℕ) → (c ≡ 48 → ⊥) → digits 0 (c ∷ s) ≡ Some n → n < 10 ^ 10 → c ∷ s ≡ decimal_text n
 unfolding digits decimal_text
 sound_more c s n z e h = go (digit c) refl e
   where
-    go : (b : Bool) → digit c ≡ b → pick b (digits (0 * 10 + (c - 48)) s) None ≡ Is n → c ∷ s ≡ digits_of 10 n
+    go : (b : Bool) → digit c ≡ b → pick b (digits (0 * 10 + (c - 48)) s) None ≡ Some n → c ∷ s ≡ digits_of 10 n
     go true q e =
         let l = digit_low c q in
         let u = digit_high c q in
@@ -270,12 +260,12 @@ sound_more c s n z e h = go (digit c) refl e
     go false q e = absurd (let z : ◌≡◌ {A = ℕ} 0 1 = cc in omega arith)
 
 -- what is read as n is n's text
-pub decimal_sound : (s : List ℕ) (n : ℕ) → decimal s ≡ Is n → n < 10 ^ 10 → s ≡ decimal_text n
+pub decimal_sound : (s : List ℕ) (n : ℕ) → decimal s ≡ Some n → n < 10 ^ 10 → s ≡ decimal_text n
 unfolding decimal formed
 decimal_sound [] n e h = absurd (let z : ◌≡◌ {A = ℕ} 0 1 = cc in omega arith)
 decimal_sound (c ∷ []) n e h = sound_one c n e
 decimal_sound (c ∷ d ∷ s) n e h = go (eqb c 48) refl e
   where
-    go : (b : Bool) → eqb c 48 ≡ b → pick (not b) (digits 0 (c ∷ d ∷ s)) None ≡ Is n → c ∷ d ∷ s ≡ decimal_text n
+    go : (b : Bool) → eqb c 48 ≡ b → pick (not b) (digits 0 (c ∷ d ∷ s)) None ≡ Some n → c ∷ d ∷ s ≡ decimal_text n
     go true q e = absurd (let z : ◌≡◌ {A = ℕ} 0 1 = cc in omega arith)
     go false q e = sound_more c (d ∷ s) n (eqb-false _ _ q) e h

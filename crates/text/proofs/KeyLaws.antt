@@ -1,40 +1,44 @@
 -- Laws of `starts_with` and `exactly`. Assumes nothing.
-use mathlib.Core.Path.{◌≡◌, refl, ap, ◌∙◌}
+use mathlib.Core.Path.{◌≡◌, refl, ap, sym, ◌∙◌}
 use mathlib.Core.List.{List, [], ◌∷◌, ◌++◌}
 use mathlib.Core.Bool.{Bool, true, false, false≢true}
-use Prim.Native.Nat.{ℕ, ◌+◌, ◌-◌, ◌≤◌, ◌<◌}
-use native.Mathlib.Numerals.{add-one}
+use Prim.Native.Nat.{ℕ, ◌-◌, ◌≤◌}
 use native.Mathlib.Omega.{arith}
-use borrow.Author.Tests.{eq-eqb, ne_eqb, leb-true, eqb-true}
-use lib.ListN.{length, get_or, take, drop, length-drop, length-append, drop_of_length-le}
-use lib.Seq.{drop-cons, take_all}
+use borrow.Author.Tests.{lt-leb, eq-eqb, leb-true, eqb-true}
+use lib.ListN.{length, take, drop, length-drop, length-append}
+use lib.Seq.{take_all}
 use lib.Dec.{leb, eqb}
-use Rattle.arith.specs.Pick.{pick}
+use Rattle.std.specs.Prelude.{◌&&◌}
+use Rattle.std.specs.List.{starts_with as starts_of}
+use Rattle.std.specs.Cmp.Lexicographic.{pointwise}
+use Rattle.std.proofs.lemmas.Grind.{common_steps}
+use Rattle.std.proofs.lemmas.Bool.Decides.{nat_tests}
+use Rattle.arith.specs.Pick.{pick, both}
 use Rattle.arith.proofs.PickLaws.{both_left, both_right}
 use Rattle.text.specs.Key.{starts_with, exactly}
 
-pick_same : {A : Type 0} (b : Bool) (x : A) → pick b x x ≡ x
-pick_same true x = refl
-pick_same false x = refl
+eqb_comm : (a b : ℕ) → eqb a b ≡ eqb b a
+eqb_comm a b = grind (arith, nat_tests)
 
-pub starts_short : (k s : List ℕ) → length s < length k → starts_with k s ≡ false
+-- the library's `s.starts_with(key)` says the same
+pub starts_is : (k s : List ℕ) → starts_of eqb s k ≡ starts_with k s
 unfolding starts_with
-starts_short [] s h = absurd (omega arith)
-starts_short (a ∷ k) [] h = refl
-starts_short (a ∷ k) (c ∷ s) h = rw (starts_short k s (omega arith), pick_same)
+starts_is [] s = grind (arith, common_steps)
+starts_is (a ∷ k) [] = grind (arith, common_steps)
+starts_is (a ∷ k) (c ∷ s) = rw (← starts_is k s, eqb_comm c a) (grind (arith, common_steps))
 
-module _ (k s : List ℕ) (i : ℕ) (hk : i < length k) (hs : i < length s) where
-  pub starts_same : get_or s i 0 ≡ get_or k i 0 → starts_with (drop i k) (drop i s) ≡ starts_with (drop (i + 1) k) (drop (i + 1) s)
-  unfolding starts_with
-  starts_same e = rw (add-one, drop-cons k i 0, drop-cons s i 0, eq-eqb _ _ e)
-
-  pub starts_other : (get_or s i 0 ≡ get_or k i 0 → ⊥) → starts_with (drop i k) (drop i s) ≡ false
-  unfolding starts_with
-  starts_other e = rw (drop-cons k i 0, drop-cons s i 0, ne_eqb _ _ e)
-
-pub starts_none : (k s : List ℕ) (i : ℕ) → length k ≤ i → starts_with (drop i k) s ≡ true
-unfolding starts_with
-starts_none k s i h = rw (drop_of_length-le k h)
+-- and `s == text` what `exactly` says
+pub exactly_same : (t s : List ℕ) → pointwise eqb s t ≡ exactly t s
+unfolding exactly starts_with
+exactly_same [] [] = refl
+exactly_same [] (c ∷ s) = sym (lt-leb (length (c ∷ s)) 0 (omega arith))
+exactly_same (a ∷ t) [] = refl
+exactly_same (a ∷ t) (c ∷ s) = go (eqb c a) (exactly_same t s)
+  where
+    go : (b : Bool) → pointwise eqb s t ≡ exactly t s
+        → (b && pointwise eqb s t) ≡ both (pick b (starts_with t s) false) (leb (length (c ∷ s)) (length (a ∷ t)))
+    go true e = e ∙ grind (arith, nat_tests)
+    go false e = refl
 
 -- what starts with a key is the key and what stands behind it
 pub starts_split : (k s : List ℕ) → starts_with k s ≡ true → s ≡ k ++ drop (length k) s

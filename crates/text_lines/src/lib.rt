@@ -1,7 +1,7 @@
 // Lines that programs and people read, written into lent bytes: a key with a number, or with two, and a line feed.
 #![tactic(auto)]
 
-ghost use Rattle.std.specs.Prelude.{◌≡◌, ◌+◌, ◌≤◌, leb, length};
+ghost use Rattle.std.specs.Prelude.{◌≡◌, ◌+◌, ◌≤◌, length};
 ghost use Rattle.text_print.specs.Printed.{printed, placed, Put};
 ghost use Rattle.text_lines.specs.Lines.{keyed_line, pair_line, refused_line};
 
@@ -15,26 +15,13 @@ fn put_keyed(out: &mut [u8], at: usize, key: &[u8], n: u64) -> usize
     text_print::fixed(out, b, b"\n")
 }
 
-// Whether n bytes fit from a place on.
-fn fits(size: usize, at: usize, n: usize) -> bool
-    ensures { result ≡ leb (at + n) size }
-{
-    if size < at {
-        return false;
-    }
-    if size - at < n {
-        return false;
-    }
-    true
-}
-
 // `KEYN` where it fits, and the place behind it.
 pub fn keyed_line(out: &mut [u8], at: usize, key: &[u8], n: u64) -> usize
     ensures value { result ≡ placed out.old at (keyed_line key.now n) }
     ensures out_after { out.new ≡ printed out.old at (keyed_line key.now n) }
 {
     let w = text_print::width(n);
-    if fits(out.len(), at, key.len() + w + 1) {
+    if text_print::fits(out.len(), at, key.len() + w + 1) {
         return put_keyed(out, at, key, n);
     }
     at
@@ -59,7 +46,7 @@ pub fn pair_line(out: &mut [u8], at: usize, key: &[u8], a: u64, b: u64) -> usize
 {
     let v = text_print::width(a);
     let w = text_print::width(b);
-    if fits(out.len(), at, key.len() + v + w + 2) {
+    if text_print::fits(out.len(), at, key.len() + v + w + 2) {
         return put_pair(out, at, key, a, b);
     }
     at
@@ -70,5 +57,5 @@ pub fn refused_line(out: &mut [u8], at: usize, number: u8, place: usize) -> usiz
     ensures value { result ≡ placed out.old at (refused_line number place) }
     ensures out_after { out.new ≡ printed out.old at (refused_line number place) }
 {
-    pair_line(out, at, b"refused=", number as u64, place as u64)
+    pair_line(out, at, b"refused=", u64::from(number), place as u64)
 }

@@ -7,12 +7,10 @@ fn feeds(s: &[u8]) -> usize
     ensures { result ≡ feeds s.now }
 {
     let mut n = 0;
-    let mut i = 0;
-    while i < s.len() {
-        if s[i] == 10 {
+    for c in s {
+        if *c == 10 {
             n += 1;
         }
-        i += 1;
     }
     n
 }
@@ -22,14 +20,8 @@ fn front_length(s: &[u8]) -> usize
     ensures { result ≡ length (line_front s.now) }
 {
     let mut k = 0;
-    let mut i = 0;
-    while i < s.len() {
-        if s[i] == 10 {
-            k = 0;
-        } else {
-            k += 1;
-        }
-        i += 1;
+    for c in s {
+        k = if *c == 10 { 0 } else { k + 1 };
     }
     k
 }
@@ -38,14 +30,12 @@ fn front_length(s: &[u8]) -> usize
 fn rest_length(s: &[u8]) -> usize
     ensures { result ≡ length (line_rest s.now) }
 {
-    let mut i = 0;
-    while i < s.len() {
+    for i in 0..s.len() {
         if s[i] == 10 {
             return i;
         }
-        i += 1;
     }
-    i
+    s.len()
 }
 
 // The first k bytes of s.

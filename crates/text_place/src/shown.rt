@@ -7,10 +7,11 @@ ghost use Rattle.text_place.specs.Shown.{visible, shown_byte, shown, blank, show
 use crate::place::{first, front_at, line_at};
 
 // Whether a byte is written as itself.
+#[tactic(auto, unfolding(crate::specs::Shown::visible))]
 fn visible(c: u8) -> bool
     ensures { result ≡ visible c }
 {
-    arith::both_of(32 <= c, c <= 126)
+    32 <= c && c <= 126
 }
 
 // A byte as it is shown.
@@ -33,10 +34,8 @@ fn shown(out: &mut [u8], at: usize, s: &[u8]) -> usize
     ensures out_after { out.new ≡ sets out.old at (shown s.now) }
 {
     let mut place = at;
-    let mut i = 0;
-    while i < s.len() {
-        place = shown_byte(out, place, s[i]);
-        i += 1;
+    for c in s {
+        place = shown_byte(out, place, *c);
     }
     place
 }
@@ -60,10 +59,8 @@ fn blank(out: &mut [u8], at: usize, s: &[u8]) -> usize
     ensures out_after { out.new ≡ sets out.old at (blank s.now) }
 {
     let mut place = at;
-    let mut i = 0;
-    while i < s.len() {
-        place = blank_byte(out, place, s[i]);
-        i += 1;
+    for c in s {
+        place = blank_byte(out, place, *c);
     }
     place
 }

@@ -4,9 +4,13 @@ use mathlib.Core.Path.{◌≡◌, refl, sym, ap, ◌∙◌}
 use mathlib.Core.List.{List, [], ◌∷◌, ◌++◌}
 use native.Mathlib.Nat.{add-zero, mul-add-mod_self_right}
 use native.Mathlib.Omega.{arith}
-use borrow.Author.Tests.{le-leb, lt-leb}
-use lib.ListN.{length, set, get_or, drop, drop_of_length-le}
-use lib.Seq.{sets, set_comm, drop-cons}
+use borrow.Author.Tests.{le-leb, lt-leb, leb-true, leb-false}
+use lib.Dec.{leb}
+use mathlib.Core.Bool.{Bool, true, false}
+use lib.ListN.{length, set, take, drop}
+use lib.Seq.{sets, sets-eq, set_comm, take-length}
+use borrow.Rule.Slice.PartMut.{put_mid}
+use Rattle.std.proofs.lemmas.Slice.{put_mid-paste}
 use Rattle.text.specs.Hex.{hex_text}
 use Rattle.text_print.specs.Printed.{printed, placed, digits_in}
 use Rattle.text_print.proofs.DecimalLaws.{length_digits, digits_more}
@@ -47,16 +51,19 @@ module _ (out : List ℕ) (at : ℕ) (text : List ℕ) (k : ℕ) (long : length 
       let room : length out < at + length text = omega arith in
       rw (lt-leb _ _ room) (refl, refl)
 
--- a text byte by byte from its front
-pub copy_step : (out text : List ℕ) (at i : ℕ) → i < length text
-    → sets (set out (at + i) (get_or text i 0)) (at + (i + 1)) (drop (i + 1) text) ≡ sets out (at + i) (drop i text)
-copy_step out text at i h =
-    let e : at + (i + 1) ≡ suc (at + i) = omega arith in
-    let f : i + 1 ≡ suc i = omega arith in
-    rw (e, f) (sym (ap (λ (l : List ℕ). sets out (at + i) l) (drop-cons text i 0 h)))
+  -- the same, as the test says it
+  pub written_if : (t : Bool) → t ≡ leb (at + k) (length out) → t ≡ true → (after : List ℕ) → after ≡ sets out at text → (at + k ≡ placed out at text) × (after ≡ printed out at text)
+  written_if t e y after f = written (leb-true _ _ (sym e ∙ y)) after f
 
-pub copy_end : (out text : List ℕ) (at i : ℕ) → length text ≤ i → sets out (at + i) (drop i text) ≡ out
-copy_end out text at i h = rw (drop_of_length-le text h)
+  pub kept_if : (t : Bool) → t ≡ leb (at + k) (length out) → t ≡ false → (at ≡ placed out at text) × (out ≡ printed out at text)
+  kept_if t e y = kept (leb-false _ _ (sym e ∙ y))
+
+-- a text copied over a part of its length
+pub part_stored : (at k : ℕ) (old text part : List ℕ) → part ≡ text → k ≡ length text → at + length text ≤ length old → put_mid at k old part ≡ sets old at text
+part_stored at k old text part e l h =
+    put_mid-paste at k old part text (length text) e (sym l) refl
+    ∙ ap (λ (t : List ℕ). take at old ++ t ++ drop (at + length text) old) (take-length text)
+    ∙ sym (sets-eq text old at h)
 
 -- digits from their back
 fill_step : (out : List ℕ) (at i j n d : ℕ) → i ≡ suc j → d ≡ 48 + n % 10

@@ -1,23 +1,17 @@
 // Text in bytes, written over lent bytes: a fixed text, decimals, two or four hex digits.
 #![tactic(auto)]
 
-ghost use Rattle.std.specs.Prelude.{◌≡◌, ◌+◌, ◌/◌, ◌%◌, ◌≤◌, ◌<◌, length, set};
+ghost use Rattle.std.specs.Prelude.{◌≡◌, ◌+◌, ◌/◌, ◌%◌, ◌≤◌, ◌<◌, leb, length, set};
 ghost use Rattle.std.proofs.lemmas.List.Edits.{sets};
 ghost use Rattle.text.specs.Decimal.{decimal_text};
 ghost use Rattle.text.specs.Hex.{hex_byte, hex_text};
 ghost use Rattle.text_print.specs.Printed.{printed, placed, digits_in};
 
-// The bytes of text from a place on.
-fn copy(out: &mut [u8], at: usize, text: &[u8])
-    requires { at + length text.now ≤ length out.old }
-    ensures { out.new ≡ sets out.old at text.now }
+// Whether n bytes fit from a place on.
+pub fn fits(size: usize, at: usize, n: usize) -> bool
+    ensures { result ≡ leb (at + n) size }
 {
-    let n = text.len();
-    let mut i = 0;
-    while i < n {
-        out[at + i] = text[i];
-        i += 1;
-    }
+    at <= size && n <= size - at
 }
 
 // A fixed text where it fits, and the place behind it.
@@ -25,14 +19,10 @@ pub fn fixed(out: &mut [u8], at: usize, text: &[u8]) -> usize
     ensures value { result ≡ placed out.old at text.now }
     ensures out_after { out.new ≡ printed out.old at text.now }
 {
-    let size = out.len();
-    if size < at {
+    if !fits(out.len(), at, text.len()) {
         return at;
     }
-    if size - at < text.len() {
-        return at;
-    }
-    copy(out, at, text);
+    out[at..at + text.len()].copy_from_slice(text);
     at + text.len()
 }
 
@@ -125,7 +115,7 @@ fn digits(out: &mut [u8], at: usize, k: usize, n: u64)
     while 1 < i {
         i -= 2;
         pair(out, at + i, left % 100);
-        left = left / 100;
+        left /= 100;
     }
     single(out, at, i, left);
 }
@@ -136,11 +126,7 @@ pub fn decimal(out: &mut [u8], at: usize, n: u64) -> usize
     ensures out_after { out.new ≡ printed out.old at (decimal_text n) }
 {
     let k = width(n);
-    let size = out.len();
-    if size < at {
-        return at;
-    }
-    if size - at < k {
+    if !fits(out.len(), at, k) {
         return at;
     }
     digits(out, at, k, n);
@@ -169,11 +155,7 @@ pub fn hex(out: &mut [u8], at: usize, v: u8) -> usize
     ensures value { result ≡ placed out.old at (hex_text 2 v) }
     ensures out_after { out.new ≡ printed out.old at (hex_text 2 v) }
 {
-    let size = out.len();
-    if size < at {
-        return at;
-    }
-    if size - at < 2 {
+    if !fits(out.len(), at, 2) {
         return at;
     }
     two(out, at, v);
@@ -189,16 +171,12 @@ fn four(out: &mut [u8], at: usize, v: u16)
     two(out, at + 2, (v % 256) as u8);
 }
 
-// A number below 65,536 in four hex digits where they fit, and the place behind them.
+// A number below 65,536 in four hex digits where they fit, and the place behind them. (One function for two and four digits would need a loop: no plainer.)
 pub fn hex_four(out: &mut [u8], at: usize, v: u16) -> usize
     ensures value { result ≡ placed out.old at (hex_text 4 v) }
     ensures out_after { out.new ≡ printed out.old at (hex_text 4 v) }
 {
-    let size = out.len();
-    if size < at {
-        return at;
-    }
-    if size - at < 4 {
+    if !fits(out.len(), at, 4) {
         return at;
     }
     four(out, at, v);

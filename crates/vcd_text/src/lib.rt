@@ -50,12 +50,10 @@ fn bits(out: &mut [u8], at: usize, w: usize, n: u64)
     requires { at + w ≤ length out.old }
     ensures { out.new ≡ sets out.old at (binary_text w n) }
 {
-    let mut i = w;
     let mut left = n;
-    while 0 < i {
-        i -= 1;
+    for i in (0..w).rev() {
         out[at + i] = last_bit(left);
-        left = left / 2;
+        left /= 2;
     }
 }
 
@@ -65,11 +63,7 @@ fn put_bits(out: &mut [u8], at: usize, width: u8, n: u64) -> usize
     ensures out_after { out.new ≡ printed out.old at (binary_text width n) }
 {
     let w = width as usize;
-    let size = out.len();
-    if size < at {
-        return at;
-    }
-    if size - at < w {
+    if !text_print::fits(out.len(), at, w) {
         return at;
     }
     bits(out, at, w, n);

@@ -1,5 +1,5 @@
 -- Blocks judged one by one. Assumes nothing.
-use Prim.Native.Nat.{ℕ, ◌+◌, ◌≤◌}
+use Prim.Native.Nat.{ℕ, ◌+◌}
 use mathlib.Core.Bool.{Bool, true, false, not}
 use mathlib.Core.List.{List, ◌∷◌}
 use mathlib.Core.Path.{◌≡◌, refl, sym, ap, ◌∙◌}
@@ -50,6 +50,15 @@ module _ (stream : List ℕ) (at : ℕ) (e : is_block stream at ≡ true) where
       → judged (rest_of stream r) m ≡ judged (rest_of stream at) n
   judge_on n m r f p q = rw (p, q) (sym (first n ∙ judge_right (block_at stream at) (rest_of stream (behind_at stream at)) n f))
 
+  -- a sample block is counted, and no other
+  pub judge_sample : (n r : ℕ) → is_fault (block_at stream at) ≡ false → is_sample (block_at stream at) ≡ true → r ≡ behind_at stream at
+      → judged (rest_of stream r) (n + 1) ≡ judged (rest_of stream at) n
+  judge_sample n r f s q = judge_on n (n + 1) r f (rw s) q
+
+  pub judge_other : (n r : ℕ) → is_fault (block_at stream at) ≡ false → is_sample (block_at stream at) ≡ false → r ≡ behind_at stream at
+      → judged (rest_of stream r) n ≡ judged (rest_of stream at) n
+  judge_other n r f s q = judge_on n n r f (rw s) q
+
   pub right_here : (n : ℕ) → (judged (rest_of stream at) n).number ≡ 0 → is_fault (block_at stream at) ≡ false
   right_here n h =
       none_first (block_at stream at) (rest_of stream (behind_at stream at)) n (sym (ap (λ (r : Filled). r.number) (first n)) ∙ h)
@@ -57,8 +66,3 @@ module _ (stream : List ℕ) (at : ℕ) (e : is_block stream at ≡ true) where
 pub judge_end : (stream : List ℕ) (at n : ℕ) → is_block stream at ≡ false → judged (rest_of stream at) n ≡ filled_of 0 0 n
 unfolding judged
 judge_end stream at n e = rw (rest_over stream at e)
-
--- the count is at most the place
-pub counted_most : (s : Bool) (n at next : ℕ) → n ≤ at → at + 7 ≤ next → pick s (n + 1) n ≤ next
-counted_most true n at next h k = omega arith
-counted_most false n at next h k = omega arith

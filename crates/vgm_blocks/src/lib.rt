@@ -1,12 +1,12 @@
 // Data blocks in front of the commands of a VGM file: where they end, and the sample memory that they hold.
 #![tactic(auto)]
 
-ghost use Rattle.std.specs.Prelude.{◌≡◌, true, false, ◌+◌, ◌^◌, ◌≤◌, ◌<◌, length, replicate};
-ghost use Rattle.arith.specs.Pick.{pick};
-ghost use Rattle.vgm_blocks.specs.Blocks.{size_at, behind_at, is_block, block_at, front_blocks, front_end, is_sample, is_inside, judged, fill, fill_all, samples_answer, samples_left};
-ghost use Rattle.vgm_blocks.specs.Fault.{is_fault};
+ghost use Rattle.std.specs.Prelude.{◌≡◌, true, false, ◌+◌, ◌≤◌, length};
+ghost use Rattle.vgm_blocks.specs.Blocks.{size_at, is_block, block_at, front_blocks, front_end, is_sample, is_inside, judged, fill, fill_all, samples_answer, samples_left};
+ghost use Rattle.vgm_blocks.specs.Fault.{behind_if, is_fault};
 
 // The answer of `samples`: how many sample blocks there are, or a refusal's number and place.
+// Flat, with the number first, as document 01 has it: "a refusal returns its number and place, the state as given, 0 or no for the rest".
 #[derive(Clone, Copy)]
 pub struct Filled {
     pub number: u8,
@@ -14,7 +14,8 @@ pub struct Filled {
     pub blocks: usize,
 }
 
-// The size of the block at a place by its own word, where seven bytes are left.
+// The size of the block at a place by its own word.
+#[tactic(auto, unfolding(crate::specs::Blocks::size_at))]
 fn size_at(stream: &[u8], at: usize) -> usize
     requires { at + 7 ≤ length stream.now }
     ensures { result ≡ size_at stream.now at }
@@ -22,38 +23,20 @@ fn size_at(stream: &[u8], at: usize) -> usize
     c_bytes::number::u32_at(stream, at + 3) as usize
 }
 
-// Whether a whole block stands there. Its size is held to what is left, so that nothing wraps.
-fn is_whole(stream: &[u8], at: usize) -> bool
-    requires { at + 7 ≤ length stream.now }
-    ensures { result ≡ is_block stream.now at }
-{
-    let left = stream.len() - at - 7;
-    let first = c_bytes::field::byte_at(stream, at);
-    let second = c_bytes::field::byte_after(stream, at, 1);
-    let size = size_at(stream, at);
-    arith::both_of(first == 0x67, arith::both_of(second == 0x66, size <= left))
-}
-
-// Whether a whole block stands at a place.
-fn is_block(stream: &[u8], at: usize) -> bool
-    ensures { result ≡ is_block stream.now at }
+// The place behind the whole block at a place, where one stands. Its size is held to what is left, so that nothing wraps.
+fn behind(stream: &[u8], at: usize) -> Option<usize>
+    ensures { result ≡ behind_if stream.now at }
 {
     let n = stream.len();
-    if n < 7 {
-        return false;
+    if n < 7 || n - 7 < at {
+        return None;
     }
-    if n - 7 < at {
-        return false;
+    let size = size_at(stream, at);
+    if stream[at] == 0x67 && stream[at + 1] == 0x66 && size <= n - at - 7 {
+        Some(at + 7 + size)
+    } else {
+        None
     }
-    is_whole(stream, at)
-}
-
-// The place behind a block.
-fn behind(stream: &[u8], at: usize) -> usize
-    requires { is_block stream.now at ≡ true }
-    ensures { result ≡ behind_at stream.now at }
-{
-    at + 7 + size_at(stream, at)
 }
 
 // Where the commands of a stream begin, behind the blocks in front of it.
@@ -61,8 +44,8 @@ pub fn front_end(stream: &[u8]) -> usize
     ensures { result ≡ front_end stream.now }
 {
     let mut at = 0;
-    while is_block(stream, at) {
-        at = behind(stream, at);
+    while let Some(next) = behind(stream, at) {
+        at = next;
     }
     at
 }
@@ -72,12 +55,11 @@ fn held<'a>(stream: &'a [u8], at: usize) -> &'a [u8]
     requires { is_block stream.now at ≡ true }
     ensures { result.now ≡ (block_at stream.now at).held }
 {
-    let end = behind(stream, at);
-    let from = at + 7;
-    &stream[from..end]
+    &stream[at + 7..at + 7 + size_at(stream, at)]
 }
 
 // Whether the block at a place is a sample block.
+#[tactic(auto, unfolding(crate::specs::Blocks::is_sample, crate::specs::Blocks::block_at))]
 fn is_sample(stream: &[u8], at: usize) -> bool
     ensures { result ≡ is_sample (block_at stream.now at) }
 {
@@ -85,43 +67,33 @@ fn is_sample(stream: &[u8], at: usize) -> bool
 }
 
 // Whether it has an address, and all its bytes are for $8000 to $FFFF.
+#[tactic(auto, unfolding(crate::specs::Blocks::is_inside, crate::specs::Blocks::address_of))]
 fn is_inside(stream: &[u8], at: usize) -> bool
     requires { is_block stream.now at ≡ true }
     ensures { result ≡ is_inside (block_at stream.now at) }
 {
     let bytes = held(stream, at);
-    let n = bytes.len();
-    if n < 2 {
-        return false;
-    }
     let address = c_bytes::number::u16_at(bytes, 0) as usize;
-    arith::both_of(0x8000 <= address, address + (n - 2) <= 0x10000)
+    2 <= bytes.len() && 0x8000 <= address && address + (bytes.len() - 2) <= 0x10000
 }
 
 // Whether it is a sample block at fault.
+#[tactic(auto, unfolding(crate::specs::Fault::is_fault))]
 fn is_fault(stream: &[u8], at: usize) -> bool
     requires { is_block stream.now at ≡ true }
     ensures { result ≡ is_fault (block_at stream.now at) }
 {
-    let inside = is_inside(stream, at);
-    arith::both_of(is_sample(stream, at), !inside)
-}
-
-// The sample blocks so far, behind another block.
-fn counted(n: usize, sample: bool) -> usize
-    requires { n + 1 < 2 ^ 64 }
-    ensures { result ≡ pick sample (n + 1) n }
-{
-    if sample { n + 1 } else { n }
+    is_sample(stream, at) && !is_inside(stream, at)
 }
 
 // The blocks in front of a stream, judged: nothing is written.
+// Three walks, not one with a closure for the step: of what a closure changes the proof would know nothing.
 pub fn judge(stream: &[u8]) -> Filled
     ensures { result ≡ judged (front_blocks stream.now) 0 }
 {
     let mut at = 0;
     let mut n = 0;
-    while is_block(stream, at) {
+    while let Some(next) = behind(stream, at) {
         if is_fault(stream, at) {
             return Filled {
                 number: 34,
@@ -129,25 +101,15 @@ pub fn judge(stream: &[u8]) -> Filled
                 blocks: 0,
             };
         }
-        n = counted(n, is_sample(stream, at));
-        at = behind(stream, at);
+        if is_sample(stream, at) {
+            n += 1;
+        }
+        at = next;
     }
     Filled {
         number: 0,
         place: 0,
         blocks: n,
-    }
-}
-
-// Zeros over lent memory.
-fn clear(memory: &mut [u8])
-    ensures { memory.new ≡ replicate (length memory.old) 0 }
-{
-    let n = memory.len();
-    let mut i = 0;
-    while i < n {
-        memory[i] = 0;
-        i += 1;
     }
 }
 
@@ -161,7 +123,7 @@ fn put_held(stream: &[u8], at: usize, memory: &mut [u8])
 {
     let bytes = held(stream, at);
     let address = c_bytes::number::u16_at(bytes, 0);
-    let from = arith::minus_u16(address, 0x8000) as usize;
+    let from = address.saturating_sub(0x8000) as usize;
     text_print::fixed(memory, from, &bytes[2..]);
 }
 
@@ -184,9 +146,9 @@ fn put_all(stream: &[u8], memory: &mut [u8])
     ensures { memory.new ≡ fill_all (front_blocks stream.now) memory.old }
 {
     let mut at = 0;
-    while is_block(stream, at) {
+    while let Some(next) = behind(stream, at) {
         put_block(stream, at, memory);
-        at = behind(stream, at);
+        at = next;
     }
 }
 
@@ -205,7 +167,7 @@ pub fn samples(stream: &[u8], memory: &mut [u8]) -> Filled
     }
     let answer = judge(stream);
     if answer.number == 0 {
-        clear(memory);
+        memory.fill(0);
         put_all(stream, memory);
     }
     answer

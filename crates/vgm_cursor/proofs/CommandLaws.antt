@@ -12,17 +12,16 @@ use Rattle.vgm_stream.specs.declared.Said.{Said}
 use Rattle.vgm_stream.specs.declared.Step.{Step}
 use Rattle.vgm_stream.specs.declared.Step.TheVariants.{End, Fault, Next, Says}
 use Rattle.vgm_stream.specs.Stream.{Stream, ended, refused, more, after, stream_from, byte_step, stream_of}
-use Rattle.vgm_cursor.specs.declared.Read.{Read}
-use Rattle.vgm_cursor.specs.declared.Read.TheVariants as read
-use Rattle.vgm_cursor.specs.Walking.{command_by, command_from, command_at}
+use Rattle.std.specs.Prelude.{Ok, Err, None, Some}
+use Rattle.vgm_cursor.specs.Walking.{Read, command_by, command_from, command_at}
 
 -- THE FIRST COMMAND, AND THE STREAM BEHIND IT
 
 -- a stream by its first command
 unfoldable pub stream_by : List ℕ → Read → Stream
-stream_by file read.End = ended []
-stream_by file (read.Fault k p) = refused k p
-stream_by file (read.Says s p) = more s (stream_from Command p (drop p file))
+stream_by file (Ok None) = ended []
+stream_by file (Err x) = refused x.number x.place
+stream_by file (Ok (Some (s, p))) = more s (stream_from Command p (drop p file))
 
 by_byte : (file : List ℕ) (st : Step) (at : ℕ) (f : Await → Stream) (g : Await → Read) → ((v : Await) → f v ≡ stream_by file (g v))
     → f Command ≡ stream_from Command (at + 1) (drop (at + 1) file) → after st at f ≡ stream_by file (command_by st at g)
@@ -52,31 +51,31 @@ more_none s (ended l) e = let z : ◌≡◌ {A = ℕ} 0 1 = cc in omega arith
 more_none s (refused k p) e = let z : ◌≡◌ {A = ℕ} 0 1 = cc in omega arith
 
 -- at its end
-at_end : (file : List ℕ) (r : Read) → stream_by file r ≡ ended [] → r ≡ read.End
+at_end : (file : List ℕ) (r : Read) → stream_by file r ≡ ended [] → r ≡ (Ok None)
 unfolding stream_by
-at_end file read.End e = refl
-at_end file (read.Fault k p) e = let z : ◌≡◌ {A = ℕ} 0 1 = cc in absurd (omega arith)
-at_end file (read.Says s p) e = absurd (more_none s (stream_from Command p (drop p file)) e)
+at_end file (Ok None) e = refl
+at_end file (Err x) e = let z : ◌≡◌ {A = ℕ} 0 1 = cc in absurd (omega arith)
+at_end file (Ok (Some (s, p))) e = absurd (more_none s (stream_from Command p (drop p file)) e)
 
-pub command_ends : (file : List ℕ) (at : ℕ) → stream_from Command at (drop at file) ≡ ended [] → command_at file at ≡ read.End
+pub command_ends : (file : List ℕ) (at : ℕ) → stream_from Command at (drop at file) ≡ ended [] → command_at file at ≡ (Ok None)
 command_ends file at e = at_end file (command_at file at) (sym (command_first file at) ∙ e)
 
 -- at a command that says s, where l is behind it
 pub record Saying (file : List ℕ) (r : Read) (s : Said) (l : List Said) : Type 0 where
   pub place : ℕ
-  pub is : r ≡ read.Says s place
+  pub is : r ≡ Ok (Some (s, place))
   pub behind : stream_from Command place (drop place file) ≡ ended l
 
-more_said : (file : List ℕ) (t s : Said) (p : ℕ) (l : List Said) (x : Stream) → stream_from Command p (drop p file) ≡ x → more t x ≡ ended (s ∷ l) → Saying file (read.Says t p) s l
+more_said : (file : List ℕ) (t s : Said) (p : ℕ) (l : List Said) (x : Stream) → stream_from Command p (drop p file) ≡ x → more t x ≡ ended (s ∷ l) → Saying file (Ok (Some (t, p))) s l
 unfolding more
 more_said file t s p l (ended m) q e = record { place = p; is = cc; behind = cc }
 more_said file t s p l (refused k n) q e = let z : ◌≡◌ {A = ℕ} 0 1 = cc in absurd (omega arith)
 
 at_command : (file : List ℕ) (r : Read) (s : Said) (l : List Said) → stream_by file r ≡ ended (s ∷ l) → Saying file r s l
 unfolding stream_by
-at_command file read.End s l e = let z : ◌≡◌ {A = ℕ} 0 1 = cc in absurd (omega arith)
-at_command file (read.Fault k p) s l e = let z : ◌≡◌ {A = ℕ} 0 1 = cc in absurd (omega arith)
-at_command file (read.Says t p) s l e = more_said file t s p l (stream_from Command p (drop p file)) refl e
+at_command file (Ok None) s l e = let z : ◌≡◌ {A = ℕ} 0 1 = cc in absurd (omega arith)
+at_command file (Err x) s l e = let z : ◌≡◌ {A = ℕ} 0 1 = cc in absurd (omega arith)
+at_command file (Ok (Some (t, p))) s l e = more_said file t s p l (stream_from Command p (drop p file)) refl e
 
 pub command_says : (file : List ℕ) (at : ℕ) (s : Said) (l : List Said) → stream_from Command at (drop at file) ≡ ended (s ∷ l) → Saying file (command_at file at) s l
 command_says file at s l e = at_command file (command_at file at) s l (sym (command_first file at) ∙ e)
@@ -144,14 +143,14 @@ few_commands l at m e = let h : Few (length l) (ended m) = rw e at (few_from l C
 
 -- a command leads onward
 abbrev pub Onward : ℕ → Read → Type 0
-Onward at read.End = Unit {0}
-Onward at (read.Fault k p) = Unit {0}
-Onward at (read.Says s p) = at ≤ p
+Onward at (Ok None) = Unit {0}
+Onward at (Err x) = Unit {0}
+Onward at (Ok (Some (s, p))) = at ≤ p
 
 onward_wider : (at : ℕ) (r : Read) → Onward (at + 1) r → Onward at r
-onward_wider at read.End h = tt
-onward_wider at (read.Fault k p) h = tt
-onward_wider at (read.Says s p) h = omega arith
+onward_wider at (Ok None) h = tt
+onward_wider at (Err x) h = tt
+onward_wider at (Ok (Some (s, p))) h = omega arith
 
 onward_byte : (st : Step) (at : ℕ) (f : Await → Read) → ((v : Await) → Onward (at + 1) (f v)) → Onward at (command_by st at f)
 unfolding command_by

@@ -23,9 +23,8 @@ use Rattle.vgm_stream.specs.Stream.{ended, stream_from, stream_of}
 use Rattle.vgm_measure.specs.Import.{stood, rest, gap, acts_from, samples_in, tree_for, clocks_for}
 use Rattle.vgm_measure.proofs.BoundLaws.{stood_few, stood_more}
 use Rattle.vgm_cursor.specs.declared.Spot.{Spot}
-use Rattle.vgm_cursor.specs.declared.Read.{Read}
-use Rattle.vgm_cursor.specs.declared.Read.TheVariants as read
-use Rattle.vgm_cursor.specs.Walking.{command_at, spot_of, Go, go, gap_at, wait_on, move_on, command_step, step_of}
+use Rattle.std.specs.Prelude.{Ok, Err, None, Some}
+use Rattle.vgm_cursor.specs.Walking.{Read, command_at, spot_of, Go, go, gap_at, wait_on, move_on, command_step, step_of}
 use Rattle.vgm_cursor.proofs.CommandLaws.{command_ends, command_says, from_place, few_commands, Onward, command_onward}
 
 -- A GAP: its first wait, and the gap that is left
@@ -67,11 +66,11 @@ module _ (pal : Bool) (file : List ℕ) where
   abbrev Waits : Read → Type 0
   Waits r = (c : Spot) → (gap_at pal c ≡ 0 → ⊥) → command_step pal c r ≡ wait_on pal c
 
-  end_waits : Waits read.End
+  end_waits : Waits (Ok None)
   unfolding command_step
   end_waits c h = rw (ne_eqb (gap_at pal c) 0 h)
 
-  write_waits : (r v p : ℕ) → Waits (read.Says (Write r v) p)
+  write_waits : (r v p : ℕ) → Waits (Ok (Some (Write r v, p)))
   unfolding command_step
   write_waits r v p c h = rw (ne_eqb (gap_at pal c) 0 h)
 
@@ -82,16 +81,16 @@ module _ (pal : Bool) (file : List ℕ) where
     unfolding step_of wait_on gap_at
     wait_said w i j = w (spot_of at s h) (λ z. omega arith) ∙ rw (le-leb s 100000000 i)
 
-    move_said : (n p : ℕ) → command_at file at ≡ read.Says (Wait n) p → s + n ≤ 100000000 → step_of pal file (spot_of at s h) ≡ go on (spot_of p (s + n) h)
+    move_said : (n p : ℕ) → command_at file at ≡ Ok (Some (Wait n, p)) → s + n ≤ 100000000 → step_of pal file (spot_of at s h) ≡ go on (spot_of p (s + n) h)
     unfolding step_of command_step move_on
     move_said n p e i = rw (e, le-leb (s + n) 100000000 i)
 
-    write_said : (r v p : ℕ) → command_at file at ≡ read.Says (Write r v) p → stood pal s - h ≡ 0
+    write_said : (r v p : ℕ) → command_at file at ≡ Ok (Some (Write r v, p)) → stood pal s - h ≡ 0
         → step_of pal file (spot_of at s h) ≡ go (says (Access (Written r v))) (spot_of p s h)
     unfolding step_of command_step gap_at
     write_said r v p e z = rw (e, eq-eqb (stood pal s - h) 0 z)
 
-    end_said : command_at file at ≡ read.End → stood pal s - h ≡ 0 → step_of pal file (spot_of at s h) ≡ go over (spot_of at s h)
+    end_said : command_at file at ≡ (Ok None) → stood pal s - h ≡ 0 → step_of pal file (spot_of at s h) ≡ go over (spot_of at s h)
     unfolding step_of command_step gap_at
     end_said e z = rw (e, eq-eqb (stood pal s - h) 0 z)
 
@@ -169,10 +168,10 @@ module _ (pal : Bool) (c : Spot) where
 
   step_after : (r : Read) → Onward c.at r → After (command_step pal c r)
   unfolding command_step move_on
-  step_after read.End h = pick_both After (eqb (gap_at pal c) 0) (omega arith) wait_after
-  step_after (read.Fault k p) h = omega arith
-  step_after (read.Says (Wait n) p) h = pick_both After (leb (c.samples + n) 100000000) h (omega arith)
-  step_after (read.Says (Write r v) p) h = pick_both After (eqb (gap_at pal c) 0) h wait_after
+  step_after (Ok None) h = pick_both After (eqb (gap_at pal c) 0) (omega arith) wait_after
+  step_after (Err x) h = omega arith
+  step_after (Ok (Some (Wait n, p))) h = pick_both After (leb (c.samples + n) 100000000) h (omega arith)
+  step_after (Ok (Some (Write r v, p))) h = pick_both After (eqb (gap_at pal c) 0) h wait_after
 
   pub step_onward : (file : List ℕ) → c.at ≤ (step_of pal file c).state.at
   unfolding step_of

@@ -1,13 +1,16 @@
 -- The acts of a VGM file, command by command: a wait in samples moves on; a write is given where its clock has come, and before it the waits up to that clock.
-use Rattle.std.specs.Prelude.{ℕ, ◌+◌, ◌-◌, min, Bool, List, [], ◌∷◌, eqb, leb, drop}
+use Rattle.std.specs.Prelude.{ℕ, ◌+◌, ◌-◌, min, Bool, List, [], ◌∷◌, eqb, leb, drop, Result, Ok, Err, Option, None, Some}
 use Rattle.arith.specs.Pick.{pick}
 use Rattle.bus.specs.declared.Access.TheVariants.{Write as Written}
 use Rattle.log_line.specs.declared.Act.{Act}
 use Rattle.log_line.specs.declared.Act.TheVariants.{Wait as Waited, Access}
+use Rattle.refusal.specs.declared.Refusal.{Refusal}
+use Rattle.refusal.specs.Refusal.{refusal}
 use Rattle.reading.specs.Saying as saying
 use Rattle.reading.specs.Saying.{Turn, over, on, says, refused}
 use Rattle.vgm_stream.specs.declared.Await.{Await}
 use Rattle.vgm_stream.specs.declared.Await.TheVariants.{Command}
+use Rattle.vgm_stream.specs.declared.Said as vgm
 use Rattle.vgm_stream.specs.declared.Said.TheVariants.{Wait, Write}
 use Rattle.vgm_stream.specs.declared.Step.{Step}
 use Rattle.vgm_stream.specs.declared.Step.TheVariants.{End, Fault, Next, Says}
@@ -16,20 +19,21 @@ use Rattle.vgm_measure.specs.Import.{stood}
 use Rattle.vgm_cursor.specs.declared.Spot.{Spot}
 use Rattle.log_cursor.specs.Stepping.{told}
 use Rattle.vgm_cursor.specs.declared.Stepped.{Stepped}
-use Rattle.vgm_cursor.specs.declared.Read.{Read}
-use Rattle.vgm_cursor.specs.declared.Read.TheVariants as read
 
--- A COMMAND: what it says, and the place behind it; the end; or the number and place of the first byte at fault. It stands at `at`, where so much is awaited; f
+-- A COMMAND: what it says, and the place behind it; none at the end; or the number and place of the first byte at fault. It stands at `at`, where so much is awaited; f
 -- is what is read behind its next byte
+abbrev pub Read : Type 0
+Read = Result (Option (vgm.Said × ℕ)) Refusal
+
 unfoldable pub command_by : Step → ℕ → (Await → Read) → Read
-command_by End at f = read.End
-command_by (Fault k) at f = read.Fault k at
+command_by End at f = Ok None
+command_by (Fault k) at f = Err (refusal k at)
 command_by (Next w) at f = f w
-command_by (Says s) at f = read.Says s (at + 1)
+command_by (Says s) at f = Ok (Some (s, at + 1))
 
 -- "27 stream ends before $66 (at its length)"
 unfoldable pub command_from : Await → ℕ → List ℕ → Read
-command_from w at [] = read.Fault 27 at
+command_from w at [] = Err (refusal 27 at)
 command_from w at (b ∷ l) = command_by (byte_step w b) at (λ v. command_from v (at + 1) l)
 
 -- the command at a place of a file
@@ -61,10 +65,10 @@ move_on c n at = pick (leb (c.samples + n) 100000000) (go on (spot_of at (c.samp
 
 -- what a command comes to
 unfoldable pub command_step : Bool → Spot → Read → Go
-command_step pal c read.End = pick (eqb (gap_at pal c) 0) (go over c) (wait_on pal c)
-command_step pal c (read.Fault k p) = go (refused k p) c
-command_step pal c (read.Says (Wait n) p) = move_on c n p
-command_step pal c (read.Says (Write r v) p) =
+command_step pal c (Ok None) = pick (eqb (gap_at pal c) 0) (go over c) (wait_on pal c)
+command_step pal c (Err e) = go (refused e.number e.place) c
+command_step pal c (Ok (Some (Wait n, p))) = move_on c n p
+command_step pal c (Ok (Some (Write r v, p))) =
     pick (eqb (gap_at pal c) 0) (go (says (Access (Written r v))) (spot_of p c.samples c.clock)) (wait_on pal c)
 
 -- ONE STEP: one command, or a wait before it

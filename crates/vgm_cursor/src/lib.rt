@@ -1,22 +1,15 @@
 // The acts of a VGM file, command by command.
 #![tactic(auto)]
 
-ghost use Rattle.std.specs.Prelude.{◌≡◌, ◌^◌, ◌+◌, ◌<◌};
+ghost use Rattle.std.specs.Prelude.{◌≡◌, Ok, Some, None};
 ghost use Rattle.log_cursor.specs.Stepping.{FoundIs};
-ghost use Rattle.vgm_cursor.specs.Walking.{command_by, command_at, gap_at, wait_on, move_on, command_step, step_of, stepped_of};
+ghost use Rattle.vgm_cursor.specs.Walking.{command_at, gap_at, wait_on, move_on, command_step, step_of, stepped_of};
 
 use bus::Access;
 use log_cursor::Given;
 use log_line::Act;
+use refusal::Refusal;
 use vgm_stream::{Await, Said, Step};
-
-// A command: the end; a fault's number and place; or what it says, and the place behind it.
-#[derive(Clone, Copy)]
-pub enum Read {
-    End,
-    Fault(u8, usize),
-    Says(Said, usize),
-}
 
 // A place in a file, the samples before it, and the clocks that were given as waits.
 #[derive(Clone, Copy)]
@@ -33,43 +26,31 @@ pub struct Stepped {
     pub spot: Spot,
 }
 
-// A command whose last byte, at a place, brings s; none ends where a byte is awaited.
-fn last_byte(s: Step, at: usize) -> Read
-    requires { at + 1 < 2 ^ 64 }
-    ensures { result ≡ command_by s at (λ w. Read.End) }
-{
-    match s {
-        Step::End => Read::End,
-        Step::Fault(k) => Read::Fault(k, at),
-        Step::Next(_) => Read::End,
-        Step::Says(x) => Read::Says(x, at + 1),
-    }
-}
-
-// The command at a place of a file.
-fn command_at(file: &[u8], at: usize) -> Read
+// The command at a place of a file: what it says, and the place behind it; none at the end; or the first byte at fault.
+fn command_at(file: &[u8], at: usize) -> Result<Option<(Said, usize)>, Refusal>
     ensures { result ≡ command_at file.now at }
 {
-    let mut i = at;
     let mut w = Await::Command;
-    while i < file.len() {
-        let s = vgm_stream::step_of(w, file[i]);
-        let Step::Next(v) = s else {
-            return last_byte(s, i);
-        };
-        w = v;
-        i += 1;
+    for i in at..file.len() {
+        match vgm_stream::step_of(w, file[i]) {
+            Step::End => return Ok(None),
+            Step::Fault(number) => return Err(Refusal { number, place: i }),
+            Step::Next(v) => w = v,
+            Step::Says(s) => return Ok(Some((s, i + 1))),
+        }
     }
-    Read::Fault(27, i)
+    Err(Refusal {
+        number: 27,
+        place: at.max(file.len()),
+    })
 }
 
 // The clocks from those that were given to where the samples stand.
+#[tactic(auto, unfolding(crate::specs::Walking::gap_at))]
 fn gap_at(pal: bool, c: Spot) -> usize
     ensures { result ≡ gap_at pal c }
 {
-    let stands = vgm_measure::clocks_of(pal, c.samples);
-    let clock = c.clock as usize;
-    if stands < clock { 0 } else { stands - clock }
+    vgm_measure::clocks_of(pal, c.samples).saturating_sub(c.clock as usize)
 }
 
 // A wait of the gap, of 1,000,000 clocks at most.
@@ -77,13 +58,12 @@ fn wait_on(pal: bool, c: Spot) -> Stepped
     ensures { result ≡ stepped_of (wait_on pal c) }
 {
     if c.samples <= 100000000 {
-        let n = arith::least_usize(gap_at(pal, c), 1000000) as u32;
+        let n = gap_at(pal, c).min(1000000) as u32;
         return Stepped {
             found: Given::Act(Act::Wait(n)),
             spot: Spot {
-                at: c.at,
-                samples: c.samples,
                 clock: c.clock + n,
+                ..c
             },
         };
     }
@@ -102,7 +82,7 @@ fn move_on(c: Spot, n: u16, at: usize) -> Stepped
         return Stepped {
             found: Given::Moved,
             spot: Spot {
-                at: at,
+                at,
                 samples: samples as u32,
                 clock: c.clock,
             },
@@ -116,7 +96,7 @@ fn move_on(c: Spot, n: u16, at: usize) -> Stepped
 
 // The end, behind the waits up to it.
 fn end_step(pal: bool, c: Spot) -> Stepped
-    ensures { result ≡ stepped_of (command_step pal c Read.End) }
+    ensures { result ≡ stepped_of (command_step pal c (Ok None)) }
 {
     if gap_at(pal, c) == 0 {
         return Stepped {
@@ -129,23 +109,19 @@ fn end_step(pal: bool, c: Spot) -> Stepped
 
 // A write, behind the waits up to it.
 fn write_step(pal: bool, c: Spot, register: u16, value: u8, at: usize) -> Stepped
-    ensures { result ≡ stepped_of (command_step pal c (Read.Says (Said.Write register value) at)) }
+    ensures { result ≡ stepped_of (command_step pal c (Ok (Some (Said.Write register value, at)))) }
 {
     if gap_at(pal, c) == 0 {
         return Stepped {
             found: Given::Act(Act::Access(Access::Write(register, value))),
-            spot: Spot {
-                at: at,
-                samples: c.samples,
-                clock: c.clock,
-            },
+            spot: Spot { at, ..c },
         };
     }
     wait_on(pal, c)
 }
 
 fn said_step(pal: bool, c: Spot, s: Said, at: usize) -> Stepped
-    ensures { result ≡ stepped_of (command_step pal c (Read.Says s at)) }
+    ensures { result ≡ stepped_of (command_step pal c (Ok (Some (s, at)))) }
 {
     match s {
         Said::Wait(n) => move_on(c, n, at),
@@ -154,16 +130,16 @@ fn said_step(pal: bool, c: Spot, s: Said, at: usize) -> Stepped
 }
 
 // What a command comes to.
-fn command_step(pal: bool, c: Spot, r: Read) -> Stepped
+fn command_step(pal: bool, c: Spot, r: Result<Option<(Said, usize)>, Refusal>) -> Stepped
     ensures { result ≡ stepped_of (command_step pal c r) }
 {
     match r {
-        Read::End => end_step(pal, c),
-        Read::Fault(k, p) => Stepped {
-            found: Given::Refused(k, p),
+        Ok(None) => end_step(pal, c),
+        Ok(Some((s, next))) => said_step(pal, c, s, next),
+        Err(e) => Stepped {
+            found: Given::Refused(e.number, e.place),
             spot: c,
         },
-        Read::Says(s, p) => said_step(pal, c, s, p),
     }
 }
 
@@ -172,6 +148,5 @@ pub fn step(pal: bool, file: &[u8], c: Spot) -> Stepped
     ensures value { result ≡ stepped_of (step_of pal file.now c) }
     ensures found_is { FoundIs (step_of pal file.now c).said result.found }
 {
-    let r = command_at(file, c.at);
-    command_step(pal, c, r)
+    command_step(pal, c, command_at(file, c.at))
 }

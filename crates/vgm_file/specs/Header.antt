@@ -1,9 +1,9 @@
 -- The header of a VGM file: where its commands begin, and its machine.
-use Rattle.std.specs.Prelude.{ℕ, ◌+◌, ◌*◌, ◌/◌, ◌%◌, ◌^◌, List, Bool, not, eqb, ltb, leb, length, get_or}
+use Rattle.std.specs.Prelude.{ℕ, ◌+◌, ◌*◌, ◌/◌, ◌%◌, ◌^◌, List, Bool, not, eqb, ltb, leb, length, get_or, Result, Ok, Err}
 use Rattle.arith.specs.Pick.{pick, both, either}
 use Rattle.text.specs.Ascii.{bytes}
-use Rattle.vgm_file.specs.declared.Part.{Part}
-use Rattle.vgm_file.specs.declared.Part.TheVariants as part
+use Rattle.vgm_file.specs.declared.NoPart.{NoPart}
+use Rattle.vgm_file.specs.declared.NoPart.TheVariants as no
 
 -- the four bytes at a place, low first; a byte past the end is 0
 unfoldable pub word : List ℕ → ℕ → ℕ
@@ -35,10 +35,10 @@ unfoldable pub is_known : List ℕ → Bool
 is_known file = either (is_pal_file file) (either (eqb (clock_in file) 0) (either (eqb (clock_in file) 1789772) (eqb (clock_in file) 1789773)))
 
 -- a file begins with "Vgm "; its header is $40 bytes at least; the commands begin behind the offset and not behind the file's end; two chips are none of ours
-unfoldable pub commands_at : List ℕ → Part
+unfoldable pub commands_at : List ℕ → Result ℕ NoPart
 commands_at file =
-    pick (not (eqb (word file 0) (word (bytes "Vgm ") 0))) part.NoVgm
-    (pick (ltb (length file) 0x40) part.Cut
+    pick (not (eqb (word file 0) (word (bytes "Vgm ") 0))) (Err no.NoVgm)
+    (pick (ltb (length file) 0x40) (Err no.Cut)
     (pick (both (leb 0x38 (data_start file)) (leb (data_start file) (length file)))
-    (pick (is_dual file) part.Dual (part.From (data_start file)))
-    part.Outside))
+    (pick (is_dual file) (Err no.Dual) (Ok (data_start file)))
+    (Err no.Outside)))

@@ -10,7 +10,7 @@ use lib.ListN.{length}
 use Rattle.arith.specs.Pick.{both}
 use Rattle.arith.proofs.PickLaws.{pick_both, pick_each}
 use Rattle.bus.specs.Register.{is_register}
-use Rattle.log_rules.specs.Tree.{Tree, acts, clocks, turns, log_text, Within}
+use Rattle.log_rules.specs.Tree.{Tree, acts, clocks, log_text, Within}
 use Rattle.log_passing.proofs.Passing.{printed}
 use Rattle.vgm_stream.specs.declared.Await.{Await}
 use Rattle.vgm_stream.specs.declared.Await.TheVariants.{Command, Register, Value, Low, High}

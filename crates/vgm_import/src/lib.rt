@@ -31,10 +31,8 @@ fn put_millions(out: &mut [u8], at: usize, m: usize) -> usize
     ensures { Put out.old at (millions m) out.new result }
 {
     let mut place = at;
-    let mut i = 0;
-    while i < m {
+    for _ in 0..m {
         place = log_writer::put_line(out, place, Line::One(Act::Wait(1000000)));
-        i += 1;
     }
     place
 }
@@ -84,23 +82,21 @@ fn pen_said(pal: bool, out: &mut [u8], p: Pen, s: Said) -> Pen
 {
     match s {
         Said::Wait(n) => Pen {
-            samples: p.samples + (n as usize),
-            clock: p.clock,
-            place: p.place,
+            samples: p.samples + n as usize,
+            ..p
         },
         Said::Write(r, v) => pen_write(pal, out, p, r, v),
     }
 }
 
 // What a step writes.
+#[tactic(auto, unfolding(crate::specs::Write::step_text, crate::specs::Write::step_samples, crate::specs::Write::step_clock))]
 fn pen_step(pal: bool, out: &mut [u8], p: Pen, s: Step) -> Pen
     requires { Penning pal p s out.old }
     ensures { Penned pal out.old p s out.new result }
 {
     match s {
-        Step::End => p,
-        Step::Fault(_) => p,
-        Step::Next(_) => p,
+        Step::End | Step::Fault(_) | Step::Next(_) => p,
         Step::Says(x) => pen_said(pal, out, p, x),
     }
 }
@@ -120,23 +116,20 @@ fn write_rest(pal: bool, stream: &[u8], out: &mut [u8], first: usize)
     requires { Headed pal (stream_of stream.now) first out.old }
     ensures { out.new ≡ sets out.old first (tail_of pal (stream_of stream.now)) }
 {
-    let n = stream.len();
-    let mut i = 0;
     let mut w = Await::Command;
     let mut p = Pen {
         samples: 0,
         clock: 0,
         place: first,
     };
-    while i < n {
-        let s = vgm_stream::step_of(w, stream[i]);
+    for &b in stream {
+        let s = vgm_stream::step_of(w, b);
         if vgm_stream::stops(s) {
             pen_end(pal, out, p);
             return;
         }
         p = pen_step(pal, out, p, s);
         w = vgm_stream::awaits(s);
-        i += 1;
     }
 }
 
@@ -169,10 +162,8 @@ pub fn import_for(pal: bool, stream: &[u8], out: &mut [u8]) -> Imported
     ensures stands { result.number ≡ 0 → Stands pal stream.now (take result.length out.new) }
 {
     let r = vgm_measure::measure(pal, stream, out.len());
-    let number = r.number;
-    if number == 0 {
+    if r.number == 0 {
         write_log(pal, stream, out);
-        return r;
     }
     r
 }

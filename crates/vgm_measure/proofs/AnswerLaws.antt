@@ -5,44 +5,22 @@ use mathlib.Core.Bool.{Bool, true, false}
 use mathlib.Core.List.{List}
 use native.Mathlib.Omega.{arith}
 use lib.Dec.{ltb}
-use borrow.Author.Tests.{eq-eqb, ne_eqb, ltb-false}
+use borrow.Author.Tests.{ne_eqb, ltb-false}
 use lib.ListN.{length}
 use Rattle.arith.specs.Pick.{pick, either}
 use Rattle.log_rules.specs.Tree.{turns}
 use Rattle.vgm_stream.specs.declared.Said.{Said}
 use Rattle.vgm_stream.specs.Stream.{Stream, ended, refused, stream_of}
-use Rattle.vgm_measure.specs.declared.Imported.{Imported}
 use Rattle.vgm_measure.specs.declared.Sum.{Sum}
 use Rattle.vgm_measure.specs.Import.{import_refusal, import_weighed, import_answer, clocks_for, tree_for, text_for, import_for, tally_refusal, tally_weighed, tally_answer, tally_of}
 use Rattle.vgm_measure.specs.Measure.{sum_refusal, sum_weighed, sum_answer, sum_of, fitted}
 use Rattle.vgm_measure.proofs.BoundLaws.{either_false}
 use Rattle.vgm_measure.proofs.FaultLaws.{Refused, refused_place, numbered}
 
--- a sum by its test
-module _ (c t n : ℕ) where
-  pub weighed_heavy : either (ltb 2000000000 c) (ltb 1000000 t) ≡ true → sum_refusal 9 0 ≡ sum_weighed c t n
-  unfolding sum_weighed
-  weighed_heavy e = rw e
-
-  pub weighed_done : either (ltb 2000000000 c) (ltb 1000000 t) ≡ false
-      → ◌≡◌ {A = Sum} (record { tally = record { number = 0; place = 0; clocks = c; turns = t }; length = n }) (sum_weighed c t n)
-  unfolding sum_weighed
-  weighed_done e = rw e
-
--- a buffer by its tests
-module _ (room : ℕ) (s : Sum) where
-  pub fit_none : (s.tally.number ≡ 0 → ⊥) → import_refusal s.tally.number s.tally.place ≡ fitted room s
-  unfolding fitted
-  fit_none h = rw (ne_eqb s.tally.number 0 h)
-
-  pub fit_long : s.tally.number ≡ 0 → either (ltb room s.length) (ltb 60000 s.length) ≡ true → import_refusal 28 0 ≡ fitted room s
-  unfolding fitted
-  fit_long h e = rw (eq-eqb s.tally.number 0 h, e)
-
-  pub fit_done : s.tally.number ≡ 0 → either (ltb room s.length) (ltb 60000 s.length) ≡ false
-      → ◌≡◌ {A = Imported} (record { number = 0; place = 0; length = s.length }) (fitted room s)
-  unfolding fitted
-  fit_done h e = rw (eq-eqb s.tally.number 0 h, e)
+-- a sum that is a refusal is the answer for any room
+fit_none : (room : ℕ) (s : Sum) → (s.tally.number ≡ 0 → ⊥) → import_refusal s.tally.number s.tally.place ≡ fitted room s
+unfolding fitted
+fit_none room s h = rw (ne_eqb s.tally.number 0 h)
 
 -- the two answers by the sum
 fitted_weighed : (room c t n : ℕ) → fitted room (sum_weighed c t n) ≡ import_weighed room c t n

@@ -12,6 +12,7 @@ use log_line::{Act, Line};
 use vgm_stream::{Await, Said, Step};
 
 // The answer: number and place of a refusal, or the length of the log that was written.
+// Flat, with the number first, as document 01 has it: "a refusal returns its number and place, the state as given, 0 or no for the rest" (`import_refusal`).
 #[derive(Clone, Copy)]
 pub struct Imported {
     pub number: u8,
@@ -20,6 +21,7 @@ pub struct Imported {
 }
 
 // The totals of a stream's log, of any length: its clocks and its turns, or number and place of a refusal.
+// Flat for the same reason: the counts go on behind a fault too.
 #[derive(Clone, Copy)]
 pub struct Tally {
     pub number: u8,
@@ -86,12 +88,12 @@ fn gap_length(g: usize) -> usize
 }
 
 // Whether a count is over the totals of refusal 9 already.
+#[tactic(auto, unfolding(crate::specs::Measure::heavy_at))]
 fn heavy_at(pal: bool, k: Count) -> bool
     requires { Counted pal k }
     ensures { result ≡ heavy_at pal k }
 {
-    let c = clocks_of(pal, k.samples as u32);
-    arith::either_of(2000000000 < c, 1000000 < k.turns)
+    2000000000 < clocks_of(pal, k.samples as u32) || 1000000 < k.turns
 }
 
 // The gap before a write, and the write.
@@ -117,15 +119,14 @@ fn count_said(pal: bool, k: Count, s: Said) -> Count
 {
     match s {
         Said::Wait(n) => Count {
-            samples: k.samples + (n as usize),
-            clock: k.clock,
-            turns: k.turns,
-            length: k.length,
+            samples: k.samples + n as usize,
+            ..k
         },
         Said::Write(_, _) => count_write(pal, k),
     }
 }
 
+#[tactic(auto, using(crate::proofs::BoundLaws::light_of), unfolding(crate::specs::Measure::count_step))]
 fn count_light(pal: bool, k: Count, s: Said) -> Count
     requires { Counted pal k }
     ensures { (result ≡ count_step pal k (Step.Says s)) × Counted pal result }
@@ -138,14 +139,13 @@ fn count_light(pal: bool, k: Count, s: Said) -> Count
 }
 
 // A count behind a step. One that is over the totals stays as it is, so that nothing wraps and a fault further on is still found.
+#[tactic(auto, unfolding(crate::specs::Measure::count_step))]
 fn count_step(pal: bool, k: Count, s: Step) -> Count
     requires { Counted pal k }
     ensures { (result ≡ count_step pal k s) × Counted pal result }
 {
     match s {
-        Step::End => k,
-        Step::Fault(_) => k,
-        Step::Next(_) => k,
+        Step::End | Step::Fault(_) | Step::Next(_) => k,
         Step::Says(x) => count_light(pal, k, x),
     }
 }
@@ -156,8 +156,8 @@ fn refused(number: u8, place: usize) -> Sum
 {
     Sum {
         tally: Tally {
-            number: number,
-            place: place,
+            number,
+            place,
             clocks: 0,
             turns: 0,
         },
@@ -166,10 +166,11 @@ fn refused(number: u8, place: usize) -> Sum
 }
 
 // A log of c clocks, t turns and n bytes.
+#[tactic(auto, unfolding(crate::specs::Measure::sum_weighed))]
 fn weigh(c: usize, t: usize, n: usize) -> Sum
     ensures { result ≡ sum_weighed c t n }
 {
-    if arith::either_of(2000000000 < c, 1000000 < t) {
+    if 2000000000 < c || 1000000 < t {
         return refused(9, 0);
     }
     Sum {
@@ -197,15 +198,14 @@ fn closed(pal: bool, k: Count) -> Sum
 }
 
 // The sum where a byte ends the reading.
+#[tactic(auto, unfolding(vgm_stream::specs::Steps::stopped_at, crate::specs::Measure::sum_from))]
 fn stopped(pal: bool, s: Step, at: usize, k: Count) -> Sum
     requires { Counted pal k }
     ensures { result ≡ sum_from pal k (stopped_at s at) }
 {
     match s {
-        Step::End => closed(pal, k),
         Step::Fault(q) => refused(q, at),
-        Step::Next(_) => closed(pal, k),
-        Step::Says(_) => closed(pal, k),
+        Step::End | Step::Next(_) | Step::Says(_) => closed(pal, k),
     }
 }
 
@@ -213,50 +213,46 @@ fn stopped(pal: bool, s: Step, at: usize, k: Count) -> Sum
 fn sum_of(pal: bool, stream: &[u8]) -> Sum
     ensures { result ≡ sum_of pal stream.now }
 {
-    let head = head_length(pal);
-    let n = stream.len();
-    let mut i = 0;
     let mut w = Await::Command;
     let mut k = Count {
         samples: 0,
         clock: 0,
         turns: 0,
-        length: head,
+        length: head_length(pal),
     };
-    while i < n {
-        let s = vgm_stream::step_of(w, stream[i]);
+    for (i, &b) in stream.iter().enumerate() {
+        let s = vgm_stream::step_of(w, b);
         if vgm_stream::stops(s) {
             return stopped(pal, s, i, k);
         }
         w = vgm_stream::awaits(s);
         k = count_step(pal, k, s);
-        i += 1;
     }
-    refused(27, n)
+    refused(27, stream.len())
 }
 
 // The totals of the log of a stream, for a machine. Refused, at the first byte at fault: 25, 26, 27; then, at 0: 9.
 pub fn totals(pal: bool, stream: &[u8]) -> Tally
     ensures { result ≡ tally_of pal stream.now }
 {
-    let s = sum_of(pal, stream);
-    s.tally
+    sum_of(pal, stream).tally
 }
 
 // The answer by a sum, for a buffer of so many bytes.
+#[tactic(auto, unfolding(crate::specs::Measure::fitted))]
 fn fit(s: Sum, room: usize) -> Imported
     ensures { result ≡ fitted room s }
 {
     let number = s.tally.number;
     if number != 0 {
         return Imported {
-            number: number,
+            number,
             place: s.tally.place,
             length: 0,
         };
     }
     let n = s.length;
-    if arith::either_of(room < n, 60000 < n) {
+    if room < n || 60000 < n {
         return Imported {
             number: 28,
             place: 0,
@@ -274,6 +270,5 @@ fn fit(s: Sum, room: usize) -> Imported
 pub fn measure(pal: bool, stream: &[u8], room: usize) -> Imported
     ensures { result ≡ import_for pal stream.now room }
 {
-    let s = sum_of(pal, stream);
-    fit(s, room)
+    fit(sum_of(pal, stream), room)
 }

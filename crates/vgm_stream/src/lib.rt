@@ -1,7 +1,7 @@
 // The command part of a VGM file, read byte by byte.
 #![tactic(auto)]
 
-ghost use Rattle.std.specs.Prelude.{◌≡◌, ◌-◌};
+ghost use Rattle.std.specs.Prelude.{◌≡◌};
 ghost use Rattle.vgm_stream.specs.Stream.{command_of, register_of, byte_step};
 ghost use Rattle.vgm_stream.specs.Steps.{stops_at, awaited};
 
@@ -24,6 +24,7 @@ pub enum Said {
 }
 
 // What a byte brings: the end of the stream; a fault, by its number; what is awaited next; or the last byte of a command, and what that says.
+// No `Result`: `Fault` is one of four equal cases, and its place is known to the caller alone.
 #[derive(Clone, Copy)]
 pub enum Step {
     End,
@@ -32,41 +33,26 @@ pub enum Step {
     Says(Said),
 }
 
-// The samples of $70 to $7F.
-fn short(b: u8) -> u16
-    ensures { result ≡ b - 0x6f }
-{
-    if b < 0x6f { 0 } else { (b - 0x6f) as u16 }
-}
-
+#[tactic(auto, unfolding(crate::specs::Stream::command_of))]
 fn command_of(b: u8) -> Step
     ensures { result ≡ command_of b }
 {
-    if b == 0xb4 {
-        return Step::Next(Await::Register);
+    match b {
+        0xb4 => Step::Next(Await::Register),
+        0x61 => Step::Next(Await::Low),
+        0x62 => Step::Says(Said::Wait(735)),
+        0x63 => Step::Says(Said::Wait(882)),
+        0x70..=0x7f => Step::Says(Said::Wait(u16::from(b) - 0x6f)),
+        0x66 => Step::End,
+        _ => Step::Fault(25),
     }
-    if b == 0x61 {
-        return Step::Next(Await::Low);
-    }
-    if b == 0x62 {
-        return Step::Says(Said::Wait(735));
-    }
-    if b == 0x63 {
-        return Step::Says(Said::Wait(882));
-    }
-    if arith::both_of(0x70 <= b, b <= 0x7f) {
-        return Step::Says(Said::Wait(short(b)));
-    }
-    if b == 0x66 {
-        return Step::End;
-    }
-    Step::Fault(25)
 }
 
+#[tactic(auto, unfolding(crate::specs::Stream::register_of))]
 fn register_of(b: u8) -> Step
     ensures { result ≡ register_of b }
 {
-    if bus::is_register(0x4000 + (b as u16)) {
+    if bus::is_register(0x4000 + u16::from(b)) {
         Step::Next(Await::Value(b))
     } else {
         Step::Fault(26)
@@ -74,38 +60,34 @@ fn register_of(b: u8) -> Step
 }
 
 // What a byte brings where so much is awaited.
+#[tactic(auto, unfolding(crate::specs::Stream::byte_step))]
 pub fn step_of(w: Await, b: u8) -> Step
     ensures { result ≡ byte_step w b }
 {
     match w {
         Await::Command => command_of(b),
         Await::Register => register_of(b),
-        Await::Value(r) => Step::Says(Said::Write(0x4000 + (r as u16), b)),
+        Await::Value(r) => Step::Says(Said::Write(0x4000 + u16::from(r), b)),
         Await::Low => Step::Next(Await::High(b)),
-        Await::High(n) => Step::Says(Said::Wait((n as u16) + 256 * (b as u16))),
+        Await::High(n) => Step::Says(Said::Wait(u16::from(n) + 256 * u16::from(b))),
     }
 }
 
 // Whether a byte ends the reading: by the end, or by a fault.
+#[tactic(auto, unfolding(crate::specs::Steps::stops_at))]
 pub fn stops(s: Step) -> bool
     ensures { result ≡ stops_at s }
 {
-    match s {
-        Step::End => true,
-        Step::Fault(_) => true,
-        Step::Next(_) => false,
-        Step::Says(_) => false,
-    }
+    matches!(s, Step::End | Step::Fault(_))
 }
 
 // What is awaited behind a byte.
+#[tactic(auto, unfolding(crate::specs::Steps::awaited))]
 pub fn awaits(s: Step) -> Await
     ensures { result ≡ awaited s }
 {
     match s {
-        Step::End => Await::Command,
-        Step::Fault(_) => Await::Command,
         Step::Next(w) => w,
-        Step::Says(_) => Await::Command,
+        Step::End | Step::Fault(_) | Step::Says(_) => Await::Command,
     }
 }

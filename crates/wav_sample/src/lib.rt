@@ -16,10 +16,11 @@ pub struct Sampler {
 }
 
 // Whether a rate is one of 8000 to 192000.
+#[tactic(auto, unfolding(crate::specs::Samples::rate_right))]
 pub fn rate_right(rate: u32) -> bool
     ensures { result ≡ rate_right rate }
 {
-    arith::both_of(8000 <= rate, rate <= 192000)
+    8000 <= rate && rate <= 192000
 }
 
 // The clocks before a sample.
@@ -39,11 +40,12 @@ fn whole_by(pal: bool, rate: u64, clock: u64) -> u64
 }
 
 // How many samples so many clocks have; none at a rate that is not right.
+#[tactic(auto, unfolding(crate::specs::Samples::samples_in), using(crate::proofs::ClockLaws::whole_most, crate::proofs::CountLaws::samples_in_lem))]
 pub fn count(pal: bool, rate: u32, clocks: u32) -> u32
     ensures { result ≡ samples_in pal rate clocks }
 {
     if rate_right(rate) {
-        return whole_by(pal, rate as u64, clocks as u64) as u32;
+        return whole_by(pal, u64::from(rate), u64::from(clocks)) as u32;
     }
     0
 }
@@ -53,21 +55,16 @@ fn under_way(clock: u64, sum: u64, begin: u64, end: u64) -> bool
     requires { clock ≤ 2000000000 }
     ensures { result ≡ both (leb begin clock) (both (ltb clock end) (leb sum (65535 * (clock - begin)))) }
 {
-    if clock < begin {
-        return false;
-    }
-    arith::both_of(clock < end, sum <= 65535 * (clock - begin))
+    begin <= clock && clock < end && sum <= 65535 * (clock - begin)
 }
 
 // Whether a sampler is one that stands between two clocks of a log. A sample above 400,000,000 begins behind any clock.
+#[tactic(auto, unfolding(crate::specs::Sampler::in_order), using(crate::proofs::FitLaws::high_sample))]
 fn in_order_at(a: Sampler, pal: bool, rate: u64) -> bool
     requires { rate_right rate ≡ true }
     ensures { result ≡ in_order pal rate a }
 {
-    if 2000000000 < a.clock {
-        return false;
-    }
-    if 400000000 < a.sample {
+    if 2000000000 < a.clock || 400000000 < a.sample {
         return false;
     }
     let begin = clocks_before(pal, rate, a.sample);
@@ -79,8 +76,5 @@ fn in_order_at(a: Sampler, pal: bool, rate: u64) -> bool
 pub fn in_order(a: Sampler, pal: bool, rate: u32) -> bool
     ensures { result ≡ both (rate_right rate) (in_order pal rate a) }
 {
-    if rate_right(rate) {
-        return in_order_at(a, pal, arith::wide_u32(rate));
-    }
-    false
+    rate_right(rate) && in_order_at(a, pal, u64::from(rate))
 }

@@ -25,17 +25,15 @@ fn pour(rt: &HostRuntime, w: Wav, log: &[u8], memory: &[u8], out: &mut [u8]) -> 
     ensures { Writes (wav_bytes log.now memory.now w.rate) result }
 {
     let mut v = w;
-    let mut n: u64 = 0;
-    while n < 1000000000000 {
+    for _ in 0..1000000000000u64 {
         let r = play_wav::wav_on(v, log, memory, out);
         if !program_io::write_front(&mut rt.stdout(), out, r.length) {
             return false;
         }
-        if arith::either_of(r.over, r.number != 0) {
+        if r.over || r.number != 0 {
             return r.number == 0;
         }
         v = r.wav;
-        n += 1;
     }
     false
 }
@@ -66,7 +64,7 @@ pub fn write(rt: &HostRuntime, log: &[u8], memory: &[u8], rate: u32) -> Told
     }
     let done = lines_stdout::refused(rt, number, b.place);
     Told {
-        number: number,
+        number,
         written: done,
     }
 }

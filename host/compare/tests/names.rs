@@ -9,7 +9,8 @@ fn top() -> PathBuf {
     Path::new(env!("CARGO_MANIFEST_DIR")).join("../..")
 }
 
-/// The pages about the crates: README, those of docs and its notes. PORT is no such page: it names what stood before beside what stands now.
+/// The pages about the crates: README, those of docs and its notes. PORT and DESIGN-PASS are no such pages: they name what stood before beside what
+/// stands now.
 fn documents() -> Vec<PathBuf> {
     let mut all = vec![top().join("README.md")];
     for folder in ["docs", "docs/changes"] {
@@ -17,7 +18,7 @@ fn documents() -> Vec<PathBuf> {
         all.extend(
             entries
                 .map(|entry| entry.unwrap().path())
-                .filter(|path| path.extension().is_some_and(|e| e == "md") && !path.ends_with("docs/PORT.md")),
+                .filter(|path| path.extension().is_some_and(|e| e == "md") && !path.ends_with("docs/PORT.md") && !path.ends_with("docs/DESIGN-PASS.md")),
         );
     }
     all.sort();

@@ -5,7 +5,7 @@ use Rattle.c_at.proofs.state_at.Goals as goal
 pub returns-then-state-ne-SIZE : goal.returns-then-state-ne-SIZE
 returns-then-state-ne-SIZE c =
     let start = c.args in
-    let o = other_length_lem start.log.now start.memory.now start.clock start.state.now c.if-state-ne-SIZE.true in record { value = c.pick_u8-number.ensures ∙ o.0; state_after = o.1 }
+    let o = other_length_lem start.log.now start.memory.now start.clock start.state.now c.if-state-ne-SIZE.true in record { value = c.from.ensures ∙ (c.other_length.ensures ∙ o.0); state_after = o.1 }
 
 pub pack_at-requires : goal.pack_at-requires
 pack_at-requires c =

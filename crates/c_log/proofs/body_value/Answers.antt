@@ -14,12 +14,12 @@ returns-then-number-ne0 c =
 pub returns-in_default : goal.returns-in_default
 returns-in_default c =
     let h = sym c.requires ∙ c.if-number-ne0.false in
-    absurd (body_unread c.args.log.now c.args.offset h _ _ (sym c.read-r.ensures.value ∙ c.in_default.is))
+    absurd (body_unread c.args.log.now c.args.offset h _ (sym c.read.ensures.value ∙ c.in_default.is))
 
 pub returns : goal.returns
 returns c =
     body_value_is c.args.log.now c.args.offset (sym c.requires ∙ c.if-number-ne0.false) _ _
-    (sym c.read-r.ensures.value ∙ c.in-Item.is) _ c.body-part.ensures
+    (sym c.read.ensures.value ∙ c.in-Ok.is) _ c.body-part.ensures
 
 pub overflow_mul-result : goal.overflow_mul-result
 overflow_mul-result c = let h = (returns c).1 in record { fits = omega arith }

@@ -9,7 +9,7 @@ pub returns-then-player-ne-SIZE : goal.returns-then-player-ne-SIZE
 returns-then-player-ne-SIZE c =
     let start = c.args in
     let n = not_begun start.log.now start.memory.now start.player.now c.if-player-ne-SIZE.true in
-    rw (c.pack.ensures, c.pick_u8-number.ensures) (record { value = n.0; player_after = n.1 })
+    rw (c.pack.ensures, c.other_length-number.ensures) (record { value = n.0; player_after = n.1 })
 
 pub returns : goal.returns
 returns c =

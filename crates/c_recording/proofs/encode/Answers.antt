@@ -6,8 +6,8 @@ use Rattle.c_recording.proofs.encode.Goals as goal
 pub returns-then-b-eq-SIZE : goal.returns-then-b-eq-SIZE
 unfolding cursor_encoded
 returns-then-b-eq-SIZE c =
-    let clock = c.put_wide-then-b-eq-SIZE.ensures in
-    let samples = c.put_wide.ensures in
+    let clock = rw c.from-then-b-eq-SIZE.ensures at c.put_wide-then-b-eq-SIZE.ensures in
+    let samples = rw c.from.ensures at c.put_wide.ensures in
     let log = c.put_log.ensures in
     let a = c.args in
     rw (eq-eqb _ _ c.if-b-eq-SIZE.true) (put_cursor a.c a.b.now _ _ _ c.if-b-eq-SIZE.true log.c_len log.b_after samples clock)

@@ -7,6 +7,6 @@ pub returns-then-number-ne0 : goal.returns-then-number-ne0
 unfolding no_table
 returns-then-number-ne0 c = rw (← c.number_of-number.ensures, ne_eqb _ 0 c.if-number-ne0.true) refl
 
-pub returns : goal.returns
+pub returns-else-number-ne0 : goal.returns-else-number-ne0
 unfolding no_table
-returns c = rw (sym c.number_of-number.ensures ∙ c.if-number-ne0.false) refl
+returns-else-number-ne0 c = rw (sym c.number_of-number.ensures ∙ c.if-number-ne0.false) refl

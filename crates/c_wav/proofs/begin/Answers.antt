@@ -10,7 +10,7 @@ pub returns-then-wav-ne-SIZE : goal.returns-then-wav-ne-SIZE
 returns-then-wav-ne-SIZE c =
     let start = c.args in
     let n = not_begun start.log.now start.memory.now start.rate start.wav.now c.if-wav-ne-SIZE.true in
-    rw (c.pack.ensures, c.pick_u8-number.ensures) (record { value = n.0; wav_after = n.1 })
+    rw (c.pack.ensures, c.other_length-number.ensures) (record { value = n.0; wav_after = n.1 })
 
 pub overflow_cast-g : goal.overflow_cast-g
 overflow_cast-g c =

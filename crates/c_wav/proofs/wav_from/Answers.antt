@@ -5,12 +5,12 @@ use Rattle.c_wav.proofs.FileLaws.{written_whole, written_fits}
 use Rattle.c_wav.proofs.wav_from.Goals as goal
 
 pub slice_bounds-wav_on-end-2 : goal.slice_bounds-wav_on-end-2
-slice_bounds-wav_on-end-2 c = sym (length-take-le _ _ (omega (arith, c.least_usize-end.ensures)))
+slice_bounds-wav_on-end-2 c = sym (length-take-le _ _ (omega (arith, c.min-end.ensures)))
 
 pub returns : goal.returns
 returns c =
     let start = c.args in
-    let size = c.least_usize-end in
+    let size = c.min-end in
     let went = c.wav_on in
     let l = length-take-le size.result start.out.now (omega (arith, size.ensures)) in
     let fits = written_fits _ _ _ _ _ _ went.ensures in (

@@ -8,8 +8,8 @@ use Rattle.chip_access.proofs.accessed.Goals as goal
 
 pub returns-in-Write : goal.returns-in-Write
 unfolding access_state access_byte
-returns-in-Write c = record { value = simp (c.in-Write.is, c.register_written-after.ensures); state_value = λ h. ap in_range c.register_written-after.ensures ∙ access_kept (Write _ _) c.args.s (omega arith) h }
+returns-in-Write c = record { value = simp (c.in-Write.is, c.register_written-state.ensures); state_value = λ h. ap in_range c.register_written-state.ensures ∙ access_kept (Write _ _) c.args.s (omega arith) h }
 
 pub returns-in-Read : goal.returns-in-Read
 unfolding access_state access_byte
-returns-in-Read c = record { value = simp (c.in-Read.is, c.status_byte.ensures, c.status_read-after.ensures); state_value = λ h. ap in_range c.status_read-after.ensures ∙ access_kept Read _ tt h }
+returns-in-Read c = record { value = simp (c.in-Read.is, c.status_byte.ensures, c.status_read-state.ensures); state_value = λ h. ap in_range c.status_read-state.ensures ∙ access_kept Read _ tt h }

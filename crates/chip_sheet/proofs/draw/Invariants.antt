@@ -9,6 +9,3 @@ use Rattle.chip_sheet.proofs.draw.Given as goal
 abbrev pub invariant-loop-i : goal.invariant-loop-i
 invariant-loop-i l =
     (l.i ≤ l.n) × (length l.buffer ≡ length l.initial.buffer) × (sets l.buffer l.i (sheet_levels l.memory (l.n - l.i) l.a l.l) ≡ sets l.initial.buffer 0 (sheet_levels l.memory l.n l.address l.level))
-
-abbrev pub decreases-loop-i : goal.decreases-loop-i
-decreases-loop-i l = l.n - l.i

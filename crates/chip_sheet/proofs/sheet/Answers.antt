@@ -21,6 +21,6 @@ returns-then-number-eq0 c =
     let a = c.args in
     let z = drawn_out a.memory.now a.level a.address a.length a.buffer.now (sym c.number_of-number.ensures ∙ c.if-number-eq0.true) in record { value = z.0; buffer_after = c.draw.ensures ∙ z.1 }
 
-pub returns : goal.returns
-returns c =
+pub returns-else-number-eq0 : goal.returns-else-number-eq0
+returns-else-number-eq0 c =
     let a = c.args in let pair = refused a.memory.now a.level a.address a.length a.buffer.now c.number_of-number.result c.number_of-number.ensures c.if-number-eq0.false in record { value = pair.0; buffer_after = pair.1 }

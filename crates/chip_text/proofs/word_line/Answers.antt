@@ -5,4 +5,4 @@ use Rattle.chip_text.proofs.word_line.Goals as goal
 pub returns : goal.returns
 unfolding field_line
 returns c =
-    puts_then _ _ (puts _ (c.fixed-a.ensures.value, c.fixed-a.ensures.out_after)) (puts _ (c.keyed_line.ensures.value, c.keyed_line.ensures.out_after))
+    puts_then _ _ (puts _ (c.fixed-a.ensures.value, c.fixed-a.ensures.out_after)) (rw c.into.ensures at (puts _ (c.keyed_line.ensures.value, c.keyed_line.ensures.out_after)))

@@ -16,6 +16,6 @@ pub returns-then-in_range : goal.returns-then-in_range
 unfolding why_answer
 returns-then-in_range c = let pair = whole _ _ _ (simp (c.channel_why.ensures, c.if-in_range.true, ← c.in_range.ensures)) in record { value = pair.0; result_value = pair.1.0; result_value_2 = pair.1.1 }
 
-pub returns : goal.returns
+pub returns-else-in_range : goal.returns-else-in_range
 unfolding why_answer
-returns c = let pair = whole _ _ _ (simp (c.if-in_range.false, ← c.in_range.ensures)) in record { value = pair.0; result_value = pair.1.0; result_value_2 = pair.1.1 }
+returns-else-in_range c = let pair = whole _ _ _ (simp (c.if-in_range.false, ← c.in_range.ensures)) in record { value = pair.0; result_value = pair.1.0; result_value_2 = pair.1.1 }

@@ -1,11 +1,8 @@
-use Prim.Native.Nat.{◌-◌, ◌*◌, ◌≤◌}
+use Prim.Native.Nat.{◌*◌, ◌≤◌}
 use mathlib.Core.Path.{◌≡◌}
 use Rattle.arith.specs.Iterate.{iterate}
 use Rattle.chip_noise.specs.Shifter.{shifted_of}
 use Rattle.leap_noise.proofs.block_by_block.Given as goal
 
 abbrev pub invariant-loop-i : goal.invariant-loop-i
-invariant-loop-i l = (l.x ≡ iterate (shifted_of l.mode) (8 * l.i) l.register) × (l.x ≤ 32767) × (l.i ≤ l.q)
-
-abbrev pub decreases-loop-i : goal.decreases-loop-i
-decreases-loop-i l = l.q - l.i
+invariant-loop-i l = (l.x ≡ iterate (shifted_of l.mode) (8 * l._i) l.register) × (l.x ≤ 32767)

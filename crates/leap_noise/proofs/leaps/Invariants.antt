@@ -1,4 +1,4 @@
-use Prim.Native.Nat.{◌-◌, ◌*◌, ◌≤◌}
+use Prim.Native.Nat.{◌*◌, ◌≤◌}
 use mathlib.Core.Path.{◌≡◌}
 use mathlib.Core.Bool.{false}
 use Rattle.arith.specs.Iterate.{iterate}
@@ -6,7 +6,4 @@ use Rattle.chip_noise.specs.Shifter.{shifted_of}
 use Rattle.leap_noise.proofs.leaps.Given as goal
 
 abbrev pub invariant-loop-i : goal.invariant-loop-i
-invariant-loop-i l = (l.x ≡ iterate (shifted_of false) (256 * l.i) l.register) × (l.x ≤ 32767) × (l.i ≤ l.q)
-
-abbrev pub decreases-loop-i : goal.decreases-loop-i
-decreases-loop-i l = l.q - l.i
+invariant-loop-i l = (l.x ≡ iterate (shifted_of false) (256 * l._i) l.register) × (l.x ≤ 32767)

@@ -1,11 +1,7 @@
-use Prim.Native.Nat.{◌-◌, ◌≤◌}
 use mathlib.Core.Path.{◌≡◌}
 use Rattle.arith.specs.Iterate.{iterate}
 use Rattle.chip_noise.specs.Shifter.{shifted_of}
 use Rattle.leap_noise.proofs.singles.Given as goal
 
 abbrev pub invariant-loop-i : goal.invariant-loop-i
-invariant-loop-i l = (l.x ≡ iterate (shifted_of l.mode) l.i l.register) × (l.i ≤ l.k)
-
-abbrev pub decreases-loop-i : goal.decreases-loop-i
-decreases-loop-i l = l.k - l.i
+invariant-loop-i l = l.x ≡ iterate (shifted_of l.mode) l._i l.register

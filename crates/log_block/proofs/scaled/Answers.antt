@@ -1,7 +1,6 @@
 use Prim.Native.Nat.{◌+◌}
 use native.Mathlib.Nat.{mul-le-mul}
 use native.Mathlib.Omega.{arith}
-use Rattle.log_rules.proofs.TotalLaws.{totals≡}
 use Rattle.log_block.proofs.scaled.Goals as goal
 
 pub overflow_mul-n : goal.overflow_mul-n
@@ -15,7 +14,3 @@ overflow_mul-n-2 c =
 pub overflow_mul-n-3 : goal.overflow_mul-n-3
 overflow_mul-n-3 c =
     record { fits = omega (arith, mul-le-mul {n₁ = c.args.n} {m₁ = c.args.a.items} {n₂ = 255} {m₂ = 1000001} (omega arith) (omega arith)) }
-
-pub returns : goal.returns
-returns c =
-    totals≡ c.least_u64.ensures c.least_u64-2.ensures c.least_u64-3.ensures

@@ -79,7 +79,7 @@ loop-at-preserved c =
     let m = c.move_at-m in
     let s = stepped g (omega arith) m.result m.ensures.value in
     let w = c.put-to in
-    (going_on g (omega arith) m.result m.ensures.value w.result w.new.out w.ensures, marked_on _ (omega (arith, s.on)) m.ensures.marked)
+    (rw c.from-k.ensures (going_on g (omega arith) m.result m.ensures.value w.result w.new.out w.ensures), marked_on _ (omega (arith, s.on)) m.ensures.marked)
 
 pub shape_of-out : goal.shape_of-out
 shape_of-out c =

@@ -1,12 +1,9 @@
 -- The loop's invariant: what stands behind the digits passed, which say n, decides the rest. Assumes nothing.
-use Prim.Native.Nat.{◌+◌, ◌-◌, ◌≤◌}
+use Prim.Native.Nat.{◌+◌, ◌≤◌}
 use mathlib.Core.Path.{◌≡◌}
-use lib.ListN.{length, drop}
+use lib.ListN.{drop}
 use Rattle.log_form.specs.Forms.{goes_on, reach}
 use Rattle.log_form.proofs.number_from.Given as goal
 
 abbrev pub invariant-loop-i : goal.invariant-loop-i
-invariant-loop-i l = (l.n ≤ l.hi) × (1 + reach (goes_on l.lo l.hi l.first) (drop 1 l.s) ≡ l.i + reach (goes_on l.lo l.hi l.n) (drop l.i l.s))
-
-abbrev pub decreases-loop-i : goal.decreases-loop-i
-decreases-loop-i l = length l.s - l.i
+invariant-loop-i l = (l.n ≤ l.hi) × (reach (goes_on l.lo l.hi l.first) l.s ≡ l.i + reach (goes_on l.lo l.hi l.n) (drop l.i l.s))

@@ -1,5 +1,4 @@
-use Prim.Native.Nat.{◌-◌}
-use native.Mathlib.Omega.{arith}
+use Rattle.std.proofs.Common.{arith}
 use Rattle.log_rules.proofs.PlaceLaws.{len_feed, len_more, len_none}
 use Rattle.log_rules.specs.Lines.{next_line}
 use Rattle.log_read.proofs.line_end.Goals as goal
@@ -18,7 +17,7 @@ loop-i-preserved c =
     let log = c.args.log.now in
     let i = c.loop-i.i in
     let f = len_more log i (omega arith) c.if-log-i-eq10.false in
-    omega arith
+    (omega arith, omega arith)
 
 pub returns : goal.returns
 unfolding next_line

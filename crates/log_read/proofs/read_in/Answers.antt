@@ -5,11 +5,11 @@ use Rattle.log_rules.proofs.NumberLaws.{reading_numbers}
 use Rattle.log_rules.specs.Lines.{next_line}
 use Rattle.log_read.proofs.read_in.Goals as goal
 
-pub returns-then-log-gt60000 : goal.returns-then-log-gt60000
-returns-then-log-gt60000 c = let pair = reading_numbers _ _ _ _ (sym (read_long _ c.args.log.now _ c.if-log-gt60000.true)) in record { value = pair.0; reading_is = pair.1 }
+pub returns-then-log-gt-MOST : goal.returns-then-log-gt-MOST
+returns-then-log-gt-MOST c = let pair = reading_numbers _ _ _ _ (sym (read_long _ c.args.log.now _ c.if-log-gt-MOST.true)) in record { value = pair.0; reading_is = pair.1 }
 
 pub returns-then-log-at : goal.returns-then-log-at
-returns-then-log-at c = let pair = reading_numbers _ _ _ _ (sym (read_none _ c.args.log.now _ c.if-log-gt60000.false c.if-log-at.true)) in record { value = pair.0; reading_is = pair.1 }
+returns-then-log-at c = let pair = reading_numbers _ _ _ _ (sym (read_none _ c.args.log.now _ c.if-log-gt-MOST.false c.if-log-at.true)) in record { value = pair.0; reading_is = pair.1 }
 
 -- the line ends behind its start, within the log
 pub slice_bounds-spot-count : goal.slice_bounds-spot-count
@@ -25,7 +25,7 @@ pub item_of-requires : goal.item_of-requires
 unfolding next_line
 item_of-requires c =
     let a = c.args in
-    read_reaches a.stand a.log.now a.at _ _ c.if-log-gt60000.false c.if-log-at.false
+    read_reaches a.stand a.log.now a.at _ _ c.if-log-gt-MOST.false c.if-log-at.false
     c.line_end-e.ensures c.spot.ensures.value
 
 pub returns : goal.returns
@@ -33,5 +33,5 @@ unfolding next_line
 returns c =
     let a = c.args in let pair = reading_numbers _ _ _ _
     (c.item_of.ensures
-    ∙ read_is a.stand a.log.now a.at _ _ c.if-log-gt60000.false c.if-log-at.false
+    ∙ read_is a.stand a.log.now a.at _ _ c.if-log-gt-MOST.false c.if-log-at.false
     c.line_end-e.ensures c.spot.ensures.value) in record { value = pair.0; reading_is = pair.1 }

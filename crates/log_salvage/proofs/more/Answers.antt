@@ -1,4 +1,3 @@
-use Rattle.log_salvage.specs.Steps.{more_by}
 use native.Mathlib.Omega.{arith}
 use native.Mathlib.Nat.{mul-le-mul}
 use Rattle.log_salvage.proofs.more.Goals as goal
@@ -14,7 +13,3 @@ overflow_mul-w-2 c = record { fits = omega (arith, mul-le-mul {n₁ = c.args.w} 
 
 pub overflow_add-t-2 : goal.overflow_add-t-2
 overflow_add-t-2 c = omega (arith, mul-le-mul {n₁ = c.args.w} {m₁ = c.args.turns} {n₂ = 2000000001} {m₂ = 255} (omega arith) (omega arith))
-
-pub returns : goal.returns
-unfolding more_by
-returns c = simp (c.least_u64-2.ensures, c.least_u64.ensures)

@@ -3,14 +3,6 @@ use Rattle.log_line.specs.Printed.{line_text, act_text, ended}
 use Rattle.text_print.proofs.PieceLaws.{put_last}
 use Rattle.log_writer.proofs.access_line.Goals as goal
 
-pub write_line-requires : goal.write_line-requires
-unfolding line_text act_text ended
-write_line-requires c = rw c.in-Write.is at c.requires
-
-pub returns-in-Write : goal.returns-in-Write
-unfolding line_text act_text ended
-returns-in-Write c = rw c.in-Write.is c.write_line.ensures
-
 pub returns-in-Read : goal.returns-in-Read
 unfolding line_text act_text ended
 returns-in-Read c = rw c.in-Read.is (put_last c.args.out.now c.args.at (bytes "read=4015\n") _ _ (rw c.in-Read.is at c.requires) c.fixed.ensures.value c.fixed.ensures.out_after)

@@ -1,18 +1,29 @@
-use mathlib.Core.Path.{sym, ap, ◌∙◌}
-use Prim.Native.Nat.{ℕ, ◌+◌}
+use mathlib.Core.Path.{refl, ◌∙◌}
+use Prim.Native.Nat.{◌+◌, ◌<◌}
 use native.Mathlib.Omega.{arith}
+use lib.ListN.{length}
 use Rattle.log_line.specs.Printed.{line_text}
 use Rattle.text_print.proofs.StoreLaws.{written, kept}
 use Rattle.log_writer.proofs.put_line.Goals as goal
+use Rattle.log_writer.proofs.put_line.Goals.{else-at-size-via-then-at-size+else-line_length-size, else-at-size-via-else-at-size}
 
-pub returns-then-size-at : goal.returns-then-size-at
-returns-then-size-at c = let pair = kept _ _ _ c.line_length-n.result (sym c.line_length-n.ensures.0) (omega arith) in record { value = pair.0; out_after = pair.1 }
+pub returns-else-at-size : goal.returns-else-at-size
+returns-else-at-size c =
+    let a = c.args in
+    let t = line_text a.l in
+    let far : length a.out.now < a.at + length t =
+    elim c.else-at-size.branch [
+      | else-at-size-via-then-at-size+else-line_length-size w ↦ omega (arith, w.line_length.ensures.0)
+      | else-at-size-via-else-at-size w ↦ omega arith
+    ] in
+    let pair = kept a.out.now a.at t (length t) refl far in
+    record { value = pair.0; out_after = pair.1 }
 
-pub returns-then-size-at-2 : goal.returns-then-size-at-2
-returns-then-size-at-2 c = let pair = kept _ _ _ c.line_length-n.result (sym c.line_length-n.ensures.0) (omega arith) in record { value = pair.0; out_after = pair.1 }
-
-pub returns : goal.returns
-returns c = let n = c.line_length-n in
+pub returns-then-line_length-size : goal.returns-then-line_length-size
+returns-then-line_length-size c =
+    let a = c.args in
+    let t = line_text a.l in
+    let n = c.line_length.ensures.0 in
     let p = c.any_line.ensures in
-    let e = c.any_line.ensures.place in
-    let w = written c.args.out.now c.args.at (line_text c.args.l) n.result (sym n.ensures.0) (omega arith) c.any_line.new.out p.bytes in record { value = e ∙ (ap (λ (x : ℕ). c.args.at + x) (sym n.ensures.0) ∙ w.0); out_after = w.1 }
+    let w = written a.out.now a.at t (length t) refl (omega (arith, n)) c.any_line.new.out p.bytes in
+    record { value = p.place ∙ w.0; out_after = w.1 }

@@ -1,12 +1,13 @@
-use mathlib.Core.Path.{◌∙◌}
+use mathlib.Core.Path.{◌≡◌, ap, ◌∙◌}
 use native.Mathlib.Omega.{arith}
-use Rattle.meter.proofs.Answers.{told_first, empty}
-use Rattle.meter.proofs.Numbers.{measured_numbers}
+use Rattle.meter.specs.declared.Metering.TheVariants.{NoLevels}
+use Rattle.meter.specs.Measure.{measured_number, measured_levels, measure_of}
+use Rattle.meter.proofs.Answers.{empty}
+use Rattle.meter.proofs.Numbers.{measured_number_lem, measured_levels_lem}
 use Rattle.meter.proofs.measure.Goals as goal
 
-pub returns-then-levels-eq0 : goal.returns-then-levels-eq0
-returns-then-levels-eq0 c = let pair = measured_numbers c.args.levels.now _ (empty c.args.levels.now c.if-levels-eq0.true) in record { value = pair.0; measured_is = pair.1 }
-
-pub returns : goal.returns
-returns c =
-    let l = c.args.levels.now in let pair = measured_numbers l _ (c.told.ensures.value ∙ rw c.span_of-s.ensures (told_first l (omega arith))) in record { value = pair.0; measured_is = pair.1 }
+pub returns-in_default-clause-measured_is : goal.returns-in_default-clause-measured_is
+returns-in_default-clause-measured_is c =
+    let l = c.args.levels.now in
+    let e : NoLevels ≡ measure_of l = empty l (omega (arith, c.in_default.len_below)) in
+    (ap measured_number e ∙ measured_number_lem l, ap measured_levels e ∙ measured_levels_lem l)

@@ -7,4 +7,4 @@ pub returns : goal.returns
 unfolding passed_text
 returns c =
     puts_then _ _ c.machine_line-a.ensures
-    (puts_then _ _ (puts _ (c.keyed_line-b.ensures.value, c.keyed_line-b.ensures.out_after)) (puts_then _ _ (puts _ (c.keyed_line-c.ensures.value, c.keyed_line-c.ensures.out_after)) (puts _ (c.keyed_line.ensures.value, c.keyed_line.ensures.out_after))))
+    (puts_then _ _ (puts _ (c.keyed_line-b.ensures.value, c.keyed_line-b.ensures.out_after)) (puts_then _ _ (puts _ (c.keyed_line-d.ensures.value, c.keyed_line-d.ensures.out_after)) (puts _ (c.keyed_line.ensures.value, c.keyed_line.ensures.out_after))))

@@ -6,29 +6,22 @@ use native.Mathlib.Omega.{arith}
 use mathlib.Core.Path.{refl}
 use Rattle.perch_salvage.proofs.keyed.Goals as goal
 
-pub returns-then-size-n : goal.returns-then-size-n
-returns-then-size-n c =
+pub returns-then-out-n : goal.returns-then-out-n
+returns-then-out-n c =
     let a = c.args in
-    let u = c.width-u.ensures.value in
-    let v = c.width-v.ensures.value in
+    let u = rw c.from.ensures at c.width-u.ensures.value in
+    let v = rw c.from-2.ensures at c.width-v.ensures.value in
     let w = c.width-w.ensures.value in
     let text = keyed_text a.key.now a.first a.second a.line a.words.now in
-    let long = keyed_long a.key.now a.first a.second a.line a.words.now in let pair = kept a.out.now 0 text _ refl (omega arith) in record { value = pair.0; out_after = pair.1 }
-
-pub returns-then-size-n-2 : goal.returns-then-size-n-2
-returns-then-size-n-2 c =
-    let a = c.args in
-    let u = c.width-u.ensures.value in
-    let v = c.width-v.ensures.value in
-    let w = c.width-w.ensures.value in
-    let text = keyed_text a.key.now a.first a.second a.line a.words.now in
-    let long = keyed_long a.key.now a.first a.second a.line a.words.now in let pair = kept a.out.now 0 text _ refl (omega arith) in record { value = pair.0; out_after = pair.1 }
+    let long = keyed_long a.key.now a.first a.second a.line a.words.now in
+    let pair = kept a.out.now 0 text _ refl (omega arith) in
+    record { value = pair.0; out_after = pair.1 }
 
 pub keyed_line-requires : goal.keyed_line-requires
 keyed_line-requires c =
     let a = c.args in
-    let u = c.width-u.ensures.value in
-    let v = c.width-v.ensures.value in
+    let u = rw c.from.ensures at c.width-u.ensures.value in
+    let v = rw c.from-2.ensures at c.width-v.ensures.value in
     let w = c.width-w.ensures.value in
     let long = keyed_long a.key.now a.first a.second a.line a.words.now in
     omega arith
@@ -36,8 +29,8 @@ keyed_line-requires c =
 pub returns : goal.returns
 returns c =
     let a = c.args in
-    let u = c.width-u.ensures.value in
-    let v = c.width-v.ensures.value in
+    let u = rw c.from.ensures at c.width-u.ensures.value in
+    let v = rw c.from-2.ensures at c.width-v.ensures.value in
     let w = c.width-w.ensures.value in
     let text = keyed_text a.key.now a.first a.second a.line a.words.now in
     let long = keyed_long a.key.now a.first a.second a.line a.words.now in

@@ -7,4 +7,4 @@ pub returns : goal.returns
 unfolding level_line
 returns c =
     puts_then _ _ (puts _ (c.hex_four-a.ensures.value, c.hex_four-a.ensures.out_after))
-    (puts_then (bytes ":") _ (puts _ (c.fixed-b.ensures.value, c.fixed-b.ensures.out_after)) (puts_then _ _ (puts _ (c.decimal-c.ensures.value, c.decimal-c.ensures.out_after)) (puts (bytes "\n") (c.fixed.ensures.value, c.fixed.ensures.out_after))))
+    (puts_then (bytes ":") _ (puts _ (c.fixed-b.ensures.value, c.fixed-b.ensures.out_after)) (puts_then _ _ (puts _ (rw c.from.ensures at c.decimal-c.ensures.value, rw c.from.ensures at c.decimal-c.ensures.out_after)) (puts (bytes "\n") (c.fixed.ensures.value, c.fixed.ensures.out_after))))

@@ -1,4 +1,4 @@
-use Prim.Native.Nat.{ℕ, ◌+◌, ◌-◌}
+use Prim.Native.Nat.{ℕ, ◌+◌}
 use mathlib.Core.Path.{refl, sym, ap, ◌∙◌}
 use mathlib.Core.List.{List}
 use native.Mathlib.Nat.{add-zero}
@@ -8,29 +8,29 @@ use lib.Seq.{sets}
 use Rattle.perch_sheet.proofs.Texts.{lines_step, lines_end_lem}
 use Rattle.perch_sheet.proofs.level_lines.Goals as goal
 
-pub loop-i-init : goal.loop-i-init
-loop-i-init c = (omega arith, refl, λ room. (refl, refl))
+pub loop-level-init : goal.loop-level-init
+loop-level-init c = (omega arith, refl, λ room. (refl, refl))
 
-pub loop-i-preserved : goal.loop-i-preserved
-loop-i-preserved c =
+pub loop-level-preserved : goal.loop-level-preserved
+loop-level-preserved c =
     let w = c.level_line-place in
-    let l = c.loop-i in
+    let l = c.loop-level in
     let s = c.args.levels.now in (
       omega arith,
       omega (arith, c.out-1.given, l.invariant.1),
       λ room.
           let v = l.invariant.2 room in
-          rw c.address_after-a.ensures (lines_step l.a s l.i (omega arith) l.out l.place _ _ (omega (arith, l.invariant.1, room)) v.0 v.1 w.result w.new.out w.ensures),
+          rw c.address_after-a.ensures (lines_step l.a s l.level-index (omega arith) l.out l.place _ _ (omega (arith, l.invariant.1, room)) v.0 v.1 w.result w.new.out w.ensures),
     )
 
 pub shape_of-out : goal.shape_of-out
-shape_of-out c = c.loop-i.invariant.1
+shape_of-out c = c.loop-level.invariant.1
 
 pub returns : goal.returns
 returns c =
     let s = c.args.levels.now in
-    let l = c.loop-i in
-    let e = lines_end_lem l.a s l.i (omega arith) in
+    let l = c.loop-level in
+    let e = lines_end_lem l.a s l.level-index (omega arith) in
     λ room.
     let v = l.invariant.2 room in
     record {

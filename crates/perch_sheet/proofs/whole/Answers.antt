@@ -36,4 +36,4 @@ returns c =
     let w = c.sheet-w in
     let a = c.args in
     rw (text_refused a.memory.now a.level a.address a.size _ refl w.result w.ensures.value c.if-w-eq0.false)
-    (puts_then (bytes "sheet=1\n") _ (puts _ (c.fixed-a.ensures.value, c.fixed-a.ensures.out_after)) (puts _ (c.keyed_line.ensures.value, c.keyed_line.ensures.out_after)))
+    (puts_then (bytes "sheet=1\n") _ (puts _ (c.fixed-a.ensures.value, c.fixed-a.ensures.out_after)) (puts _ (rw c.from.ensures at c.keyed_line.ensures.value, rw c.from.ensures at c.keyed_line.ensures.out_after)))

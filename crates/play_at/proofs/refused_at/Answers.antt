@@ -1,4 +1,4 @@
 use Rattle.play_at.proofs.refused_at.Goals as goal
 
 pub returns : goal.returns
-returns c = rw c.power_on-s.ensures
+returns c = rw c.power_on.ensures

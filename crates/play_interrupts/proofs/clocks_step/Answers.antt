@@ -9,7 +9,7 @@ use Rattle.play_interrupts.proofs.clocks_step.Goals as goal
 
 pub returns : goal.returns
 returns c =
-    let w = c.wide_u32-clocks.ensures.value in
+    let w = c.from-clocks.ensures in
     let u = c.until-k in
     let memory = c.args.memory.now in
     let s = c.args.p.moment.state in
@@ -19,4 +19,4 @@ returns c =
     (u.ensures ∙ until_is memory c.args.p.left s p.0 p.1 p.3)
     (c.clocks_on-far.ensures.value ∙ (clocks_on_is memory _ s p.0 p.1 ∙ ap (λ (i : ℕ). iterate (chip_clock memory) i s) w))
     (c.change_next-n.ensures ∙ rw w refl)
-    (c.place_of-q.ensures ∙ rw (c.moment_of-here.ensures, c.minus_u32.ensures, w) refl)
+    (c.place_of-q.ensures ∙ rw (c.moment_of-here.ensures, c.saturating_sub.ensures, w) refl)

@@ -12,14 +12,14 @@ pub records-requires : goal.records-requires
 records-requires c =
     let a = c.args in
     let h : a.at + 23 * a.n ≤ length a.out.now = leb-true _ _ (sym c.left.ensures ∙ c.if-left.true) in
-    let k = c.least_usize in record { n_in_bounds = omega (arith, k.ensures); n_in_bounds_2 = omega (arith, h, k.ensures) }
+    let k = c.min in record { n_in_bounds = omega (arith, k.ensures); n_in_bounds_2 = omega (arith, h, k.ensures) }
 
 pub returns-then-left : goal.returns-then-left
 returns-then-left c =
     let a = c.args in
     let h = leb-true _ _ (sym c.left.ensures ∙ c.if-left.true) in
-    let all : level_entries a.time c.least_usize.result a.words.now ≡ level_entries a.time a.n a.words.now =
-    ap (λ (k : ℕ). level_entries a.time k a.words.now) c.least_usize.ensures ∙ levels_all a.time a.n a.words.now in
+    let all : level_entries a.time c.min.result a.words.now ≡ level_entries a.time a.n a.words.now =
+    ap (λ (k : ℕ). level_entries a.time k a.words.now) c.min.ensures ∙ levels_all a.time a.n a.words.now in
     let e = rw all at c.records.ensures.value in
     let q = rw all at c.records.ensures.out_after in record { value = e ∙ sym (lines_end_lem a.out.now a.at a.n _ h); out_after = q ∙ sym (lines_in_lem a.out.now a.at a.n _ h) }
 

@@ -29,4 +29,4 @@ unfolding word_of
 returns c =
     let a = c.args in
     let e = level_digits a.level a.four a.dropped c.requires.four_value.0 c.requires.four_value.2 c.requires.level_value.0 c.requires.level_value.1 in
-    omega (arith, e)
+    rw c.from-first.ensures (omega (arith, e))

@@ -57,7 +57,7 @@ put_word-requires-3 c =
 
 pub level_word-requires : goal.level_word-requires
 level_word-requires c =
-    let e = second_four _ _ c.args.level c.eight_digits-both.ensures in
+    let e = second_four _ _ c.args.level (rw c.from.ensures at c.eight_digits-both.ensures) in
     let m = c.missing-dropped.ensures in record { four_value = (e, omega (arith, e, four_most c.args.level), c.requires.h_value.3); level_value = (m.1, m.2) }
 
 pub put_word-requires-4 : goal.put_word-requires-4
@@ -76,7 +76,7 @@ returns c =
     let h = c.args.h in
     let t = c.args.time in
     let e = c.requires.h_value.0 in
-    let low = c.eight_digits-both.ensures ∙ ap (λ (n : ℕ). word_of (digits_in 4 n ++ digits_in 4 (c.args.level % 10000))) (low_of h t e) in
+    let low = (rw c.from.ensures at c.eight_digits-both.ensures) ∙ ap (λ (n : ℕ). word_of (digits_in 4 n ++ digits_in 4 (c.args.level % 10000))) (low_of h t e) in
     line_stored t c.args.level (c.args.level % 10000) c.requires.h_value.1 c.requires.h_value.2 c.args.at h.size h.word _ _ c.missing-dropped.result _ c.args.out.now _ _ _ _
     (size_of h t e) c.missing-dropped.ensures.0 (word_of_lem h t e) low c.level_word.ensures
     c.put_word.ensures c.put_word-2.ensures c.put_word-3.ensures c.put_word-4.ensures refl

@@ -23,56 +23,26 @@ loop-i-init c =
     let all = lines_all c.args.time c.args.n c.args.words.now in
     (omega arith, refl, omega (arith, c.requires.n_in_bounds_2), (0, c.high_of-high.ensures), rw all refl, rw all refl)
 
-pub overflow_mul-k : goal.overflow_mul-k
-overflow_mul-k c = omega (arith, c.requires.n_in_bounds, c.ranges)
-
-pub overflow_add-j : goal.overflow_add-j
-overflow_add-j c = omega (arith, c.requires.n_in_bounds, c.ranges)
-
-pub offset_bounds-words-k : goal.offset_bounds-words-k
-offset_bounds-words-k c = omega (arith, c.requires.n_in_bounds, c.ranges)
-
-pub bounds-words-k : goal.bounds-words-k
-bounds-words-k c = omega (arith, c.requires.n_in_bounds, c.loop-i-test.true)
-
-pub overflow_add-t : goal.overflow_add-t
-overflow_add-t c = omega (arith, c.wide_u32.ensures.upper_bound, c.wide_u32-in-loop-i.ensures.upper_bound)
-
-pub offset_bounds-words-j : goal.offset_bounds-words-j
-offset_bounds-words-j c = omega (arith, c.requires.n_in_bounds, c.ranges)
-
-pub bounds-words-j : goal.bounds-words-j
-bounds-words-j c = omega (arith, c.requires.n_in_bounds, c.loop-i-test.true)
-
 pub high_at-high-requires : goal.high_at-high-requires
-high_at-high-requires c = (c.loop-i.invariant.3, omega (arith, c.wide_u32.ensures.upper_bound, c.wide_u32-in-loop-i.ensures.upper_bound))
-
-pub overflow_add-i : goal.overflow_add-i
-overflow_add-i c = omega (arith, c.loop-i-test.true, c.ranges)
+high_at-high-requires c = (c.loop-i.invariant.3, omega (arith, c.ranges))
 
 pub one_line-place-requires : goal.one_line-place-requires
 one_line-place-requires c =
-    let l = c.loop-i in record { more_in_bounds = rw (sym l.invariant.1) at (room (ltb (l.i + 1) c.args.n) l.place c.args.n l.i (length c.args.out.now) refl c.loop-i-test.true l.invariant.2); h_value = (c.high_at-high.ensures, omega (arith, c.wide_u32.ensures.upper_bound, c.wide_u32-in-loop-i.ensures.upper_bound), omega arith) }
-
-pub loop-i-smaller : goal.loop-i-smaller
-loop-i-smaller c = omega (arith, c.loop-i-test.true)
+    let l = c.loop-i in record { more_in_bounds = rw (sym l.invariant.1) at (room (ltb (l.i + 1) c.args.n) l.place c.args.n l.i (length c.args.out.now) refl c.loop-i-test.true l.invariant.2); h_value = (c.high_at-high.ensures, omega (arith, c.ranges), omega arith) }
 
 pub loop-i-preserved : goal.loop-i-preserved
 loop-i-preserved c =
     let a = c.args in
     let l = c.loop-i in
     let t = c.loop-i-test.true in
-    let time = c.wide_u32 in
-    let clock = c.wide_u32-in-loop-i in
+    let time = c.from in
+    let clock = c.from-in-loop-i in
     let x = time.result + clock.result in
     let y = get_or a.words.now (2 * l.i + 1) 0 % 65536 in
     let e = c.one_line-place.ensures in
     let step = lines_step a.time a.n a.words.now c.requires.n_in_bounds l.i t l.out l.place _ _ l.invariant.4 l.invariant.5
-    x y (ap₂ (λ (u v : ℕ). u + v) time.ensures.value clock.ensures.value) refl _ _ e in
+    x y (ap₂ (λ (u v : ℕ). u + v) time.ensures clock.ensures) refl _ _ e in
     (omega (arith, t), e.size ∙ l.invariant.1, omega (arith, t, l.invariant.2, e.place, level_size x y (omega arith)), (x, c.high_at-high.ensures), step.0, step.1)
-
-pub shape_of-out : goal.shape_of-out
-shape_of-out c = c.loop-i.invariant.1
 
 pub returns : goal.returns
 returns c =

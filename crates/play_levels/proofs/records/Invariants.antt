@@ -13,6 +13,3 @@ invariant-loop-i l =
     (l.i ≤ l.n) × (length l.out ≡ length l.initial.out) × (l.place + 23 * (l.n - l.i) ≤ length l.initial.out) × ((t : ℕ) × (l.high ≡ high_of t))
     × (l.place + length (entries_text (level_entries l.time (l.n - l.i) (drop (2 * l.i) l.words))) ≡ l.at + length (entries_text (level_entries l.time l.n l.words)))
     × (sets l.out l.place (entries_text (level_entries l.time (l.n - l.i) (drop (2 * l.i) l.words))) ≡ sets l.initial.out l.at (entries_text (level_entries l.time l.n l.words)))
-
-abbrev pub decreases-loop-i : goal.decreases-loop-i
-decreases-loop-i l = l.n - l.i

@@ -11,28 +11,28 @@ pub overflow_sub-left : goal.overflow_sub-left
 overflow_sub-left c =
     let l = c.loop-left in
     let r = c.uncounted-r in
-    let e = rw c.least_u64.ensures at r.ensures.value in
-    let f = rw c.least_u64.ensures at r.ensures.words_after in
+    let e = rw c.min.ensures at r.ensures.value in
+    let f = rw c.min.ensures at r.ensures.words_after in
     let o = onward c.args.memory.now l.state l.heard l.left l.words _ r.result c.requires.memory_len.0 l.invariant.0 (λ i. omega (arith, c.type_inv.memory i)) (omega (arith, l.invariant.1, c.requires.in_bounds)) c.loop-left-test.true e f in
-    omega (arith, c.wide_u32-left.ensures.value, o.most)
+    omega (arith, c.from-left.ensures, o.most)
 
 pub loop-left-smaller : goal.loop-left-smaller
 loop-left-smaller c =
     let l = c.loop-left in
     let r = c.uncounted-r in
-    let e = rw c.least_u64.ensures at r.ensures.value in
-    let f = rw c.least_u64.ensures at r.ensures.words_after in
+    let e = rw c.min.ensures at r.ensures.value in
+    let f = rw c.min.ensures at r.ensures.words_after in
     let o = onward c.args.memory.now l.state l.heard l.left l.words _ r.result c.requires.memory_len.0 l.invariant.0 (λ i. omega (arith, c.type_inv.memory i)) (omega (arith, l.invariant.1, c.requires.in_bounds)) c.loop-left-test.true e f in
-    omega (arith, c.wide_u32-left.ensures.value, o.some, o.most)
+    omega (arith, c.from-left.ensures, o.some, o.most)
 
 pub loop-left-preserved : goal.loop-left-preserved
 loop-left-preserved c =
     let l = c.loop-left in
     let r = c.uncounted-r in
-    let e = rw c.least_u64.ensures at r.ensures.value in
-    let f = rw c.least_u64.ensures at r.ensures.words_after in
+    let e = rw c.min.ensures at r.ensures.value in
+    let f = rw c.min.ensures at r.ensures.words_after in
     let o = onward c.args.memory.now l.state l.heard l.left l.words _ r.result c.requires.memory_len.0 l.invariant.0 (λ i. omega (arith, c.type_inv.memory i)) (omega (arith, l.invariant.1, c.requires.in_bounds)) c.loop-left-test.true e f in
-    (o.ranged, omega (arith, c.words-1.given, l.invariant.1), rw (c.wide_u32-left.ensures.value, c.with_records-heard.ensures) (o.same ∙ l.invariant.2))
+    (o.ranged, omega (arith, c.words-1.given, l.invariant.1), rw (c.from-left.ensures, c.with_records-heard.ensures) (o.same ∙ l.invariant.2))
 
 pub shape_of-words : goal.shape_of-words
 shape_of-words c = c.loop-left.invariant.1

@@ -16,11 +16,11 @@ returns-then-k-ne0 c =
     let k = c.check-k in
     c.refused-then-k-ne0.ensures ∙ refused_log a.log.now a.memory.now c.if-memory-ne32768.false k.result k.ensures c.if-k-ne0.true
 
-pub walk-m-requires : goal.walk-m-requires
-walk-m-requires c = record { log_value = (sym (ap (λ (k : Checked). k.number) c.check-k.ensures) ∙ c.if-k-ne0.false, c.if-memory-ne32768.false); in_bounds = omega arith }
+pub walk-requires : goal.walk-requires
+walk-requires c = record { log_value = (sym (ap (λ (k : Checked). k.number) c.check-k.ensures) ∙ c.if-k-ne0.false, c.if-memory-ne32768.false); in_bounds = omega arith }
 
 pub returns : goal.returns
 returns c =
     let a = c.args in
     let fine : (check_of a.log.now).number ≡ 0 = sym (ap (λ (k : Checked). k.number) c.check-k.ensures) ∙ c.if-k-ne0.false in
-    rw c.walk-m.ensures (sym (meter_is a.log.now a.memory.now c.if-memory-ne32768.false fine))
+    rw c.walk.ensures (sym (meter_is a.log.now a.memory.now c.if-memory-ne32768.false fine))

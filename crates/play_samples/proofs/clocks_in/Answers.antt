@@ -9,18 +9,18 @@ pub overflow_add-p : goal.overflow_add-p
 overflow_add-p c =
     let a = c.args in
     let f = fit_few a.p.moment.state.pal a.rate (sampler_at a.p) a.p.left c.requires in
-    omega (arith, f, c.least_usize-few.ensures)
+    omega (arith, f, c.min-few.ensures)
 
 pub clocks_before-end-requires : goal.clocks_before-end-requires
 clocks_before-end-requires c =
     let a = c.args in
     let f = fit_few a.p.moment.state.pal a.rate (sampler_at a.p) a.p.left c.requires in
-    (rw c.wide_u32.ensures.value c.requires.right, omega (arith, f, c.least_usize-few.ensures))
+    (rw c.from.ensures c.requires.right, omega (arith, f, c.min-few.ensures))
 
 pub returns : goal.returns
 unfolding clocks_in
 returns c =
     let a = c.args in
-    c.least_u64.ensures
-    ∙ (rw (c.reach.ensures, c.wide_u32-2.ensures.value, c.clocks_before-end.ensures, c.wide_u32.ensures.value, c.least_usize-few.ensures)
+    c.min.ensures
+    ∙ (rw (c.reach.ensures, c.from-2.ensures, c.clocks_before-end.ensures, c.from.ensures, c.min-few.ensures)
     (clocks_few a.p.moment.state.pal a.rate (sampler_at a.p) a.p.left a.room c.requires))

@@ -1,4 +1,4 @@
 use Rattle.play_samples.proofs.clocks_past.Goals as goal
 
 pub returns : goal.returns
-returns c = rw (c.place_of.ensures, c.minus_u32.ensures, c.moment_of-here.ensures, c.wide_u32.ensures.value)
+returns c = rw (c.place_of.ensures, c.saturating_sub.ensures, c.moment_of-here.ensures, c.from.ensures)

@@ -7,7 +7,7 @@ use Rattle.play_samples.proofs.pen_of.Goals as goal
 pub clocks_before-begin-requires : goal.clocks_before-begin-requires
 clocks_before-begin-requires c =
     let n = numbers c.args.pal c.args.rate c.args.a c.requires.0 c.requires.1 in
-    (rw c.wide_u32-w.ensures.value c.requires.0, omega (arith, n.few))
+    (rw c.from-w.ensures c.requires.0, omega (arith, n.few))
 
 pub overflow_add-a : goal.overflow_add-a
 overflow_add-a c =
@@ -15,7 +15,7 @@ overflow_add-a c =
 
 pub clocks_before-end-requires : goal.clocks_before-end-requires
 clocks_before-end-requires c =
-    (rw c.wide_u32-w.ensures.value c.requires.0, omega (arith, (numbers c.args.pal c.args.rate c.args.a c.requires.0 c.requires.1).few))
+    (rw c.from-w.ensures c.requires.0, omega (arith, (numbers c.args.pal c.args.rate c.args.a c.requires.0 c.requires.1).few))
 
 pub overflow_add-a-2 : goal.overflow_add-a-2
 overflow_add-a-2 c =
@@ -23,29 +23,29 @@ overflow_add-a-2 c =
 
 pub over_before-part-requires : goal.over_before-part-requires
 over_before-part-requires c =
-    (rw c.wide_u32-w.ensures.value c.requires.0, omega (arith, (numbers c.args.pal c.args.rate c.args.a c.requires.0 c.requires.1).few))
+    (rw c.from-w.ensures c.requires.0, omega (arith, (numbers c.args.pal c.args.rate c.args.a c.requires.0 c.requires.1).few))
 
 pub overflow_sub-result : goal.overflow_sub-result
 overflow_sub-result c =
-    let w = c.wide_u32-w.ensures.value in
+    let w = c.from-w.ensures in
     let n = numbers c.args.pal c.args.rate c.args.a c.requires.0 c.requires.1 in
     omega (arith, n.under, rw w at c.clocks_before-end.ensures)
 
 pub overflow_cast-result : goal.overflow_cast-result
 overflow_cast-result c =
-    let w = c.wide_u32-w.ensures.value in
+    let w = c.from-w.ensures in
     let n = numbers c.args.pal c.args.rate c.args.a c.requires.0 c.requires.1 in
     omega (arith, n.begun, n.short, rw w at c.clocks_before-end.ensures)
 
 pub overflow_sub-result-2 : goal.overflow_sub-result-2
 overflow_sub-result-2 c =
-    let w = c.wide_u32-w.ensures.value in
+    let w = c.from-w.ensures in
     let n = numbers c.args.pal c.args.rate c.args.a c.requires.0 c.requires.1 in
     omega (arith, n.begun, n.under, rw w at c.clocks_before-end.ensures, rw w at c.clocks_before-begin.ensures)
 
 pub overflow_cast-result-2 : goal.overflow_cast-result-2
 overflow_cast-result-2 c =
-    let w = c.wide_u32-w.ensures.value in
+    let w = c.from-w.ensures in
     let n = numbers c.args.pal c.args.rate c.args.a c.requires.0 c.requires.1 in
     omega (arith, n.short, rw w at c.clocks_before-end.ensures, rw w at c.clocks_before-begin.ensures)
 
@@ -56,12 +56,12 @@ overflow_cast-result-3 c =
 
 pub overflow_cast-result-4 : goal.overflow_cast-result-4
 overflow_cast-result-4 c =
-    let w = c.wide_u32-w.ensures.value in
+    let w = c.from-w.ensures in
     let n = numbers c.args.pal c.args.rate c.args.a c.requires.0 c.requires.1 in
     omega (arith, n.part, rw w at c.over_before-part.ensures)
 
 pub returns : goal.returns
 unfolding clocks_of
 returns c =
-    let w = c.wide_u32-w.ensures.value in
+    let w = c.from-w.ensures in
     (refl, rw (c.over_before-part.ensures, c.clocks_before-end.ensures, c.clocks_before-begin.ensures, w) (record { left = refl; whole = refl; sum = refl; part = refl }))

@@ -1,4 +1,3 @@
-use Prim.Native.Nat.{◌-◌}
 use native.Mathlib.Omega.{arith}
 use Rattle.play_samples.proofs.RoomLaws.{fit_few}
 use Rattle.play_samples.proofs.WriteLaws.{writes_length}
@@ -17,16 +16,16 @@ loop-i-init c =
     (omega arith, moving_start a.pal a.rate a.words.now a.n a.done c.requires.recorded a.out.now a.at a.a a.level (omega arith) c.requires.fit _ c.pen_of-pen.ensures.0 c.pen_of-pen.ensures.1)
 
 pub overflow_mul-k : goal.overflow_mul-k
-overflow_mul-k c = omega (arith, c.loop-i-test.true, c.requires.recorded.size)
+overflow_mul-k c = omega (arith, c.loop-i-test, c.requires.recorded.size)
 
 pub overflow_add-j : goal.overflow_add-j
-overflow_add-j c = omega (arith, c.loop-i-test.true, c.requires.recorded.size)
+overflow_add-j c = omega (arith, c.loop-i-test, c.requires.recorded.size)
 
 pub offset_bounds-words-k : goal.offset_bounds-words-k
-offset_bounds-words-k c = omega (arith, c.loop-i-test.true, c.requires.recorded.size)
+offset_bounds-words-k c = omega (arith, c.loop-i-test, c.requires.recorded.size)
 
 pub bounds-words-k : goal.bounds-words-k
-bounds-words-k c = omega (arith, c.loop-i-test.true, c.requires.recorded.size)
+bounds-words-k c = omega (arith, c.loop-i-test, c.requires.recorded.size)
 
 pub overflow_sub-clock : goal.overflow_sub-clock
 overflow_sub-clock c =
@@ -34,7 +33,7 @@ overflow_sub-clock c =
     let a = c.args in
     let o =
     moving_on a.pal a.rate a.words.now a.n a.done c.requires.recorded a.out.now a.at a.a a.level l.out l.pen l.v l.from l.i
-    c.requires.done_in_bounds l.invariant.1 c.loop-i-test.true in
+    c.requires.done_in_bounds l.invariant.1 (omega (arith, c.loop-i-test)) in
     omega (arith, o.behind)
 
 pub overflow_sub-clock-in-loop-i : goal.overflow_sub-clock-in-loop-i
@@ -43,7 +42,7 @@ overflow_sub-clock-in-loop-i c =
     let a = c.args in
     let o =
     moving_on a.pal a.rate a.words.now a.n a.done c.requires.recorded a.out.now a.at a.a a.level l.out l.pen l.v l.from l.i
-    c.requires.done_in_bounds l.invariant.1 c.loop-i-test.true in
+    c.requires.done_in_bounds l.invariant.1 (omega (arith, c.loop-i-test)) in
     omega (arith, o.behind)
 
 pub held_on-pen-requires : goal.held_on-pen-requires
@@ -52,14 +51,14 @@ held_on-pen-requires c =
     let a = c.args in
     let o =
     moving_on a.pal a.rate a.words.now a.n a.done c.requires.recorded a.out.now a.at a.a a.level l.out l.pen l.v l.from l.i
-    c.requires.done_in_bounds l.invariant.1 c.loop-i-test.true in
+    c.requires.done_in_bounds l.invariant.1 (omega (arith, c.loop-i-test)) in
     rw c.pace_of-c.ensures o.roomy
 
 pub offset_bounds-words-j : goal.offset_bounds-words-j
-offset_bounds-words-j c = omega (arith, c.loop-i-test.true, c.requires.recorded.size, c.well_formed)
+offset_bounds-words-j c = omega (arith, c.loop-i-test, c.requires.recorded.size, c.well_formed)
 
 pub bounds-words-j : goal.bounds-words-j
-bounds-words-j c = omega (arith, c.loop-i-test.true, c.requires.recorded.size)
+bounds-words-j c = omega (arith, c.loop-i-test, c.requires.recorded.size)
 
 pub overflow_cast-v : goal.overflow_cast-v
 overflow_cast-v c =
@@ -67,14 +66,8 @@ overflow_cast-v c =
     let a = c.args in
     let o =
     moving_on a.pal a.rate a.words.now a.n a.done c.requires.recorded a.out.now a.at a.a a.level l.out l.pen l.v l.from l.i
-    c.requires.done_in_bounds l.invariant.1 c.loop-i-test.true in
+    c.requires.done_in_bounds l.invariant.1 (omega (arith, c.loop-i-test)) in
     omega (arith, o.small)
-
-pub overflow_add-i : goal.overflow_add-i
-overflow_add-i c = omega (arith, c.loop-i-test.true)
-
-pub loop-i-smaller : goal.loop-i-smaller
-loop-i-smaller c = omega (arith, c.loop-i-test.true)
 
 pub loop-i-preserved : goal.loop-i-preserved
 loop-i-preserved c =
@@ -82,8 +75,8 @@ loop-i-preserved c =
     let a = c.args in
     let o =
     moving_on a.pal a.rate a.words.now a.n a.done c.requires.recorded a.out.now a.at a.a a.level l.out l.pen l.v l.from l.i
-    c.requires.done_in_bounds l.invariant.1 c.loop-i-test.true in
-    (omega (arith, c.loop-i-test.true), o.on _ _ (rw c.pace_of-c.ensures at c.held_on-pen.ensures))
+    c.requires.done_in_bounds l.invariant.1 (omega (arith, c.loop-i-test)) in
+    (omega (arith, c.loop-i-test), o.on _ _ (rw c.pace_of-c.ensures at c.held_on-pen.ensures))
 
 pub overflow_sub-done : goal.overflow_sub-done
 overflow_sub-done c =

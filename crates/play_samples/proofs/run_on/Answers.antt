@@ -8,8 +8,8 @@ use Rattle.play_samples.proofs.run_on.Goals as goal
 pub records_on-w-requires : goal.records_on-w-requires
 records_on-w-requires c =
     let a = c.args in
-    let n : c.least_u64.result ≡ portion a.left =
-    c.least_u64.ensures ∙ ap (λ (x : ℕ). min x 1000000) c.wide_u32.ensures.value in
+    let n : c.min.result ≡ portion a.left =
+    c.min.ensures ∙ ap (λ (x : ℕ). min x 1000000) c.from.ensures in
     let h =
     run_ranged a.memory.now a.s a.left a.pal a.rate a.a a.out.now a.at a.words.now _ c.uncounted-r.result c.requires.memory_len.0
     (λ i. omega (arith, c.type_inv.memory i)) c.requires.memory_len.1 c.requires.memory_len.2 c.requires.memory_len.3 c.requires.fit c.requires.s_in_bounds (rw n at c.uncounted-r.ensures.value)
@@ -18,8 +18,8 @@ records_on-w-requires c =
 pub returns : goal.returns
 returns c =
     let a = c.args in
-    let n : c.least_u64.result ≡ portion a.left =
-    c.least_u64.ensures ∙ ap (λ (x : ℕ). min x 1000000) c.wide_u32.ensures.value in
+    let n : c.min.result ≡ portion a.left =
+    c.min.ensures ∙ ap (λ (x : ℕ). min x 1000000) c.from.ensures in
     let h =
     run_ranged a.memory.now a.s a.left a.pal a.rate a.a a.out.now a.at a.words.now _ c.uncounted-r.result c.requires.memory_len.0
     (λ i. omega (arith, c.type_inv.memory i)) c.requires.memory_len.1 c.requires.memory_len.2 c.requires.memory_len.3 c.requires.fit c.requires.s_in_bounds (rw n at c.uncounted-r.ensures.value)

@@ -1,4 +1,4 @@
 use Rattle.play_samples.proofs.written_by.Goals as goal
 
 pub returns : goal.returns
-returns c = rw (c.wide_u32-2.ensures.value, c.wide_u32.ensures.value)
+returns c = rw (c.from-2.ensures, c.from.ensures)

@@ -21,16 +21,16 @@ last_level-last-requires c =
     let a = c.args in
     let k = c.room-end in
     let r = c.uncounted-ran in
-    let e = rw c.wide_u32.ensures.value at r.ensures.value in
-    let l = ap (λ (x : List ℕ). x ++ drop (2 * k.result) a.words.now) (rw c.wide_u32.ensures.value at r.ensures.words_after) in record { n_in_bounds = portion_long a.memory.now a.p a.at a.out.now a.words.now c.requires.1 k.result k.ensures r.result e (r.new.words ++ drop (2 * k.result) a.words.now) l; n_bound = portion_low a.memory.now a.p a.at a.out.now a.words.now c.requires.1 k.result k.ensures r.result e (r.new.words ++ drop (2 * k.result) a.words.now) l }
+    let e = rw c.from.ensures at r.ensures.value in
+    let l = ap (λ (x : List ℕ). x ++ drop (2 * k.result) a.words.now) (rw c.from.ensures at r.ensures.words_after) in record { n_in_bounds = portion_long a.memory.now a.p a.at a.out.now a.words.now c.requires.1 k.result k.ensures r.result e (r.new.words ++ drop (2 * k.result) a.words.now) l; n_bound = portion_low a.memory.now a.p a.at a.out.now a.words.now c.requires.1 k.result k.ensures r.result e (r.new.words ++ drop (2 * k.result) a.words.now) l }
 
 pub behind-requires : goal.behind-requires
 behind-requires c =
     let a = c.args in
     let k = c.room-end in
     let r = c.uncounted-ran in
-    let e = rw c.wide_u32.ensures.value at r.ensures.value in
-    let l = ap (λ (x : List ℕ). x ++ drop (2 * k.result) a.words.now) (rw c.wide_u32.ensures.value at r.ensures.words_after) in
+    let e = rw c.from.ensures at r.ensures.value in
+    let l = ap (λ (x : List ℕ). x ++ drop (2 * k.result) a.words.now) (rw c.from.ensures at r.ensures.words_after) in
     let d = portion_done a.memory.now a.p a.at a.out.now a.words.now c.requires.1 k.result k.ensures r.result e (r.new.words ++ drop (2 * k.result) a.words.now) l in
     (d, omega (arith, d, c.requires.0))
 
@@ -45,8 +45,8 @@ returns c =
     let a = c.args in
     let k = c.room-end in
     let r = c.uncounted-ran in
-    let e = rw c.wide_u32.ensures.value at r.ensures.value in
-    let l = ap (λ (x : List ℕ). x ++ drop (2 * k.result) a.words.now) (rw c.wide_u32.ensures.value at r.ensures.words_after) in
+    let e = rw c.from.ensures at r.ensures.value in
+    let l = ap (λ (x : List ℕ). x ++ drop (2 * k.result) a.words.now) (rw c.from.ensures at r.ensures.words_after) in
     let v = c.level_lines-next in rw (← k.ensures)
     (let pair = portion_all a.memory.now a.p a.at a.out.now a.words.now c.requires.1 k.result k.ensures r.result e (r.new.words ++ drop (2 * k.result) a.words.now) l c.requires.0 c.outcome.result
-    (c.outcome.ensures ∙ rw (c.behind.ensures, c.pick_u8-kind.ensures, c.last_level-last.ensures, v.ensures.value) refl) v.new.out v.ensures.out_after in record { value = pair.0; out_after = pair.1 })
+    (c.outcome.ensures ∙ rw (c.behind.ensures, c.kind_of-kind.ensures, c.last_level-last.ensures, v.ensures.value) refl) v.new.out v.ensures.out_after in record { value = pair.0; out_after = pair.1 })

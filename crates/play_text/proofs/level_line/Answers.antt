@@ -13,13 +13,13 @@ pub level_text-requires : goal.level_text-requires
 level_text-requires c =
     let a = c.args in
     let h : a.at + 23 * 1 ≤ length a.out.now = leb-true _ _ (sym c.left.ensures ∙ c.if-left.true) in
-    omega (arith, h, level_size a.time a.level (omega arith))
+    omega (arith, h, level_size a.time c.from.result (omega arith))
 
 pub returns-then-left : goal.returns-then-left
 returns-then-left c =
     let a = c.args in
     let h = leb-true _ _ (sym c.left.ensures ∙ c.if-left.true) in
-    let e = c.level_text.ensures in record { value = e.place ∙ sym (lines_end_lem a.out.now a.at 1 (entry_text (Level a.time a.level)) h); out_after = e.bytes ∙ sym (lines_in_lem a.out.now a.at 1 (entry_text (Level a.time a.level)) h) }
+    let e = rw c.from.ensures at c.level_text.ensures in record { value = e.place ∙ sym (lines_end_lem a.out.now a.at 1 (entry_text (Level a.time a.level)) h); out_after = e.bytes ∙ sym (lines_in_lem a.out.now a.at 1 (entry_text (Level a.time a.level)) h) }
 
 pub returns : goal.returns
 returns c =

@@ -19,7 +19,7 @@ pub returns-in-Level : goal.returns-in-Level
 returns-in-Level c = rw c.in-Level.is c.level_entry.ensures
 
 pub returns-in-Read : goal.returns-in-Read
-returns-in-Read c = rw c.in-Read.is (rw c.wide_u32.ensures.value at c.read_line.ensures)
+returns-in-Read c = rw c.in-Read.is (rw c.from.ensures at c.read_line.ensures)
 
 pub returns-in-Stop : goal.returns-in-Stop
-returns-in-Stop c = rw c.in-Stop.is (rw c.wide_u32-in-Stop.ensures.value at c.stop_line.ensures)
+returns-in-Stop c = rw c.in-Stop.is (rw c.from-in-Stop.ensures at c.stop_line.ensures)

@@ -5,4 +5,4 @@ use Rattle.play_trace.proofs.access_met.Goals as goal
 pub returns : goal.returns
 unfolding met_step access_event
 returns c =
-    rw (c.passed_at.ensures, c.least_u64-done.ensures, c.bus_of-bus.ensures, c.shown_at-point.ensures, c.seen_of-seen.ensures)
+    rw (c.passed_at.ensures, c.min-done.ensures, c.bus_of-bus.ensures, c.shown_at-point.ensures, c.seen_of-seen.ensures)

@@ -7,13 +7,16 @@ use Rattle.play_trace.proofs.StepLaws.{clocks_passed}
 use Rattle.play_trace.proofs.clocks_step.Goals as goal
 
 pub overflow_add-m : goal.overflow_add-m
-overflow_add-m c = omega (arith, c.wide_u32-2.ensures.upper_bound, c.requires.0)
+overflow_add-m c =
+    let m = until_most c.args.memory.now c.min-n.result c.args.p.moment.state in
+    let w = c.from.ensures in
+    omega (arith, c.from-2.ensures, c.until_seen-span.ensures.clocks_value, m, c.min-n.ensures, w, c.requires.0, c.requires.1)
 
 pub clock_next-next-requires : goal.clock_next-next-requires
 clock_next-next-requires c =
-    let m = until_most c.args.memory.now c.least_u64-n.result c.args.p.moment.state in
-    let w = c.wide_u32.ensures.value in
-    omega (arith, c.wide_u32-2.ensures.value, c.until_seen-span.ensures.clocks_value, m, c.least_u64-n.ensures, w, c.requires.0, c.requires.1)
+    let m = until_most c.args.memory.now c.min-n.result c.args.p.moment.state in
+    let w = c.from.ensures in
+    omega (arith, c.from-2.ensures, c.until_seen-span.ensures.clocks_value, m, c.min-n.ensures, w, c.requires.0, c.requires.1)
 
 pub clocks_past-requires : goal.clocks_past-requires
 clocks_past-requires c = omega (arith, c.requires.0)
@@ -23,9 +26,9 @@ returns c =
     let a = c.args in
     let memory = c.args.memory.now in
     let s = c.args.p.moment.state in
-    let w = c.wide_u32-2.ensures.value in
-    let e : c.least_u64-n.result ≡ min a.p.left (a.until - a.p.moment.time) =
-    c.least_u64-n.ensures ∙ ap (λ (i : ℕ). min i (a.until - a.p.moment.time)) c.wide_u32.ensures.value in
+    let w = c.from-2.ensures in
+    let e : c.min-n.result ≡ min a.p.left (a.until - a.p.moment.time) =
+    c.min-n.ensures ∙ ap (λ (i : ℕ). min i (a.until - a.p.moment.time)) c.from.ensures in
     c.passed_of.ensures
     ∙ clocks_passed memory a.p c.until_seen-span.result.clocks _ c.until_seen-span.result.state c.clock_next-next.result c.clocks_past.result
     (c.until_seen-span.ensures.clocks_value ∙ ap (λ (i : ℕ). until_seen memory i s) e)

@@ -12,9 +12,9 @@ pub returns : goal.returns
 returns c =
     let a = c.args in
     let memory = c.args.memory.now in
-    let k = c.least_u64-k.result in
+    let k = c.min-k.result in
     let e : k ≡ min a.p.left (a.from - a.p.moment.time) =
-    c.least_u64-k.ensures ∙ ap (λ (i : ℕ). min i (a.from - a.p.moment.time)) c.wide_u32.ensures.value in
+    c.min-k.ensures ∙ ap (λ (i : ℕ). min i (a.from - a.p.moment.time)) c.from.ensures in
     c.passed_of.ensures
     ∙ clocks_far memory a.p k _ c.clocks_on-far.result c.clocks_past.result e
     (c.clocks_on-far.ensures.value ∙ clocks_on_is memory k a.p.moment.state c.requires.0 c.requires.1) c.clocks_past.ensures

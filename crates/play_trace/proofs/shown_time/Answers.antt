@@ -6,8 +6,8 @@ use Rattle.play_trace.proofs.shown_time.Goals as goal
 pub overflow_add-result : goal.overflow_add-result
 overflow_add-result c =
     let t = time_most c.args.s.pal c.args.clock c.requires in
-    omega (arith, t, c.least_u64.ensures, c.clock_time.ensures)
+    omega (arith, t, c.min.ensures, c.clock_time.ensures)
 
 pub returns : goal.returns
 unfolding shown_at
-returns c = rw (c.least_u64.ensures, c.clock_time.ensures)
+returns c = rw (c.min.ensures, c.clock_time.ensures)

@@ -16,27 +16,27 @@ overflow_sub-left c =
     let a = c.args in
     let l = c.loop-left in
     let r = c.uncounted-r in
-    let e = rw c.least_u64.ensures at r.ensures.value in
+    let e = rw c.min.ensures at r.ensures.value in
     let n = nearer a.memory.now l.state l.left l.words r.result c.requires.memory_len.0 (λ i. omega (arith, c.type_inv.memory i)) l.invariant.0 (omega (arith, l.invariant.1, c.requires.in_bounds)) c.loop-left-test.true e in
-    omega (arith, c.wide_u32-left.ensures.value, n.most)
+    omega (arith, c.from-left.ensures, n.most)
 
 pub loop-left-smaller : goal.loop-left-smaller
 loop-left-smaller c =
     let a = c.args in
     let l = c.loop-left in
     let r = c.uncounted-r in
-    let e = rw c.least_u64.ensures at r.ensures.value in
+    let e = rw c.min.ensures at r.ensures.value in
     let n = nearer a.memory.now l.state l.left l.words r.result c.requires.memory_len.0 (λ i. omega (arith, c.type_inv.memory i)) l.invariant.0 (omega (arith, l.invariant.1, c.requires.in_bounds)) c.loop-left-test.true e in
-    omega (arith, c.wide_u32-left.ensures.value, n.some, n.most)
+    omega (arith, c.from-left.ensures, n.some, n.most)
 
 pub loop-left-preserved : goal.loop-left-preserved
 loop-left-preserved c =
     let a = c.args in
     let l = c.loop-left in
     let r = c.uncounted-r in
-    let e = rw c.least_u64.ensures at r.ensures.value in
+    let e = rw c.min.ensures at r.ensures.value in
     let n = nearer a.memory.now l.state l.left l.words r.result c.requires.memory_len.0 (λ i. omega (arith, c.type_inv.memory i)) l.invariant.0 (omega (arith, l.invariant.1, c.requires.in_bounds)) c.loop-left-test.true e in
-    (n.ranged, omega (arith, c.words-1.given, l.invariant.1), rw c.wide_u32-left.ensures.value (n.same ∙ l.invariant.2))
+    (n.ranged, omega (arith, c.words-1.given, l.invariant.1), rw c.from-left.ensures (n.same ∙ l.invariant.2))
 
 pub shape_of-words : goal.shape_of-words
 shape_of-words c = c.loop-left.invariant.1

@@ -1,4 +1,4 @@
 use Rattle.recording_cursor.proofs.start.Goals as goal
 
 pub returns : goal.returns
-returns c = rw c.start-c.ensures
+returns c = rw c.start.ensures

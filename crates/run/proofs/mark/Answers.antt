@@ -8,4 +8,4 @@ returns-then-level-was c =
 
 pub returns : goal.returns
 returns c =
-    let a = c.args in rw (ne_eqb a.level a.was c.if-level-was.false) (record { value = refl; words_after = c.put.ensures })
+    let a = c.args in rw (ne_eqb a.level a.was c.if-level-was.false) (record { value = refl; words_after = rw c.from.ensures at c.put.ensures })

@@ -62,8 +62,8 @@ loop-e-init c =
       omega arith,
     )
 
-pub overflow_add-end : goal.overflow_add-end
-overflow_add-end c = omega (arith, c.loop-e.invariant.0.standing.far)
+pub overflow_add-from : goal.overflow_add-from
+overflow_add-from c = omega (arith, c.loop-e.invariant.0.standing.far)
 
 pub overflow_cast-e : goal.overflow_cast-e
 overflow_cast-e c =

@@ -1,6 +1,5 @@
-use Prim.Native.Nat.{ℕ, ◌-◌}
+use Prim.Native.Nat.{ℕ}
 use mathlib.Core.Path.{◌≡◌, refl, ap, ◌∙◌}
-use mathlib.Core.Bool.{true}
 use native.Mathlib.Omega.{arith}
 use Rattle.chip.specs.Range.{Bytes}
 use Rattle.chip.proofs.RangeLaws.{state_in_lem}
@@ -85,7 +84,7 @@ overflow_add-table c =
     let w = i.invariant a.s c.requires.s_value refl c.dmc_period-period.ensures in
     let b = c.loop-walked-test.true in
     let q = walk_low a.memory.now bytes a.s r a.counts a.count i.table i.d i.at i.walked w b in
-    omega (arith, q, c.least_u32-g.ensures)
+    omega (arith, q, c.min-g.ensures)
 
 pub offset_bounds-table-place-in-loop-walked : goal.offset_bounds-table-place-in-loop-walked
 offset_bounds-table-place-in-loop-walked c =
@@ -120,7 +119,7 @@ overflow_add-walked c =
     let e : c.last_at-last.result ≡ last_at i.at (dmc_still (dmc_period a.s.pal a.s.dmc.registers.index) i.d) a.count =
     c.last_at-last.ensures ∙ ap (λ (x : ℕ). last_at i.at x a.count) (c.still_for.ensures ∙ ap (λ (x : ℕ). dmc_still x i.d) c.dmc_period-period.ensures) in
     let m = walk_last a.memory.now bytes a.s r a.counts a.count i.table i.d i.at i.walked w b _ e in
-    omega (arith, m, c.least_u32-g.ensures, c.requires.count_bound)
+    omega (arith, m, c.min-g.ensures, c.requires.count_bound)
 
 pub returns-then-g-left : goal.returns-then-g-left
 returns-then-g-left c =
@@ -134,8 +133,8 @@ returns-then-g-left c =
     c.last_at-last.ensures ∙ ap (λ (x : ℕ). last_at i.at x a.count) (c.still_for.ensures ∙ ap (λ (x : ℕ). dmc_still x i.d) c.dmc_period-period.ensures) in
     let m = walk_last a.memory.now bytes a.s r a.counts a.count i.table i.d i.at i.walked w b _ e in
     let q = walk_low a.memory.now bytes a.s r a.counts a.count i.table i.d i.at i.walked w b in
-    walk_full a.memory.now bytes a.s r a.counts a.count i.table i.d i.at i.walked w b _ e c.least_u32-g.result (omega (arith, c.least_u32-g.ensures)) (omega (arith, q, c.least_u32-g.ensures))
-    c.if-g-left.true (omega (arith, q, c.least_u32-g.ensures, c.if-g-left.true))
+    walk_full a.memory.now bytes a.s r a.counts a.count i.table i.d i.at i.walked w b _ e c.min-g.result (omega (arith, c.min-g.ensures)) (omega (arith, q, c.min-g.ensures))
+    c.if-g-left.true (omega (arith, q, c.min-g.ensures, c.if-g-left.true))
 
 pub overflow_add-at : goal.overflow_add-at
 overflow_add-at c =
@@ -175,8 +174,8 @@ loop-walked-preserved c =
     let e : c.last_at-last.result ≡ last_at i.at (dmc_still (dmc_period s.pal s.dmc.registers.index) i.d) a.count =
     c.last_at-last.ensures ∙ ap (λ (x : ℕ). last_at i.at x a.count) (c.still_for.ensures ∙ ap (λ (x : ℕ). dmc_still x i.d) f) in
     let q = walk_low a.memory.now bytes s r a.counts a.count i.table i.d i.at i.walked w b in
-    walk_on a.memory.now bytes s r a.counts a.count i.table i.d i.at i.walked w b _ e c.least_u32-g.result
-    (omega (arith, c.least_u32-g.ensures)) (omega (arith, q, c.least_u32-g.ensures)) (omega (arith, c.least_u32-g.ensures, c.if-g-left.false))
+    walk_on a.memory.now bytes s r a.counts a.count i.table i.d i.at i.walked w b _ e c.min-g.result
+    (omega (arith, c.min-g.ensures)) (omega (arith, q, c.min-g.ensures)) (omega (arith, c.min-g.ensures, c.if-g-left.false))
     _ (c.fed-d.ensures
     ∙ ap (dmc_read a.memory.now) (c.timed-timed.ensures ∙ ap (dmc_timed c.dmc_period-period.result) c.at_brink-brink.ensures)
     ∙ turned_by a.memory.now c.dmc_period-period.result i.d

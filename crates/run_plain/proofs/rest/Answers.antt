@@ -1,4 +1,3 @@
-use Prim.Native.Nat.{◌-◌}
 use mathlib.Core.Path.{refl, sym, ap, ◌∙◌}
 use native.Mathlib.Omega.{arith}
 use Rattle.chip.specs.Level.{state_level}
@@ -172,7 +171,7 @@ loop-done-preserved c =
           let h = l.invariant.0 s counts lent g in
           record {
             held =
-                rw (c.put.ensures, c.level-after.ensures, c.clocked-next.ensures)
+                rw (c.put.ensures, c.from.ensures, c.level-after.ensures, c.clocked-next.ensures)
                 (held_mark a.memory.now s lent l.words l.state l.done l.n h.held
                 (λ q. c.if-after-level.false ((c.level-after.ensures ∙ ap state_level c.clocked-next.ensures) ∙ q ∙ sym l.invariant.1))
                 (omega (arith, c.if-room-at.false, l.invariant.3, held_length a.memory.now s lent a.words.now a.s a.from a.records g.held)));

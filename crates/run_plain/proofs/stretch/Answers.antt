@@ -1,7 +1,5 @@
-use Prim.Native.Nat.{◌-◌}
 use mathlib.Core.Path.{refl, sym, ap, ◌∙◌}
 use native.Mathlib.Omega.{arith}
-use Rattle.arith.proofs.PickLaws.{both_left, both_right}
 use Rattle.chip.specs.Range.{Bytes}
 use Rattle.run_answer.specs.Run.{room_of}
 use Rattle.run_answer.proofs.RunLaws.{held_length}
@@ -23,34 +21,16 @@ loop-heard-init c =
       refl,
     )
 
-pub heard_of-after-requires : goal.heard_of-after-requires
-heard_of-after-requires c = c.loop-heard.invariant.2
-
-pub overflow_add-done : goal.overflow_add-done
-overflow_add-done c = omega (arith, c.loop-heard.invariant.5, c.requires.done_le_until.1)
-
 pub note-n-requires : goal.note-n-requires
 note-n-requires c =
     let a = c.args in
     let b = c.requires.begun in
     let l = c.loop-heard in
     let g = l.invariant.0 b.start b.counts b.lent b.going in
-    let t = sym c.both_of.ensures ∙ c.loop-heard-test.true in
-    let goes = sym c.goes.ensures ∙ both_left c.goes.result c.is_calm.result t in
-    let calm = sym c.is_calm.ensures ∙ both_right c.goes.result c.is_calm.result t in
+    let goes = sym c.goes.ensures ∙ c.loop-heard-test.true in
+    let calm = sym c.is_calm.ensures ∙ c.if-is_calm.true in
     let next = c.calm_clocked-next.ensures ∙ calm_clock_lem a.memory.now l.state calm in
     let bytes : Bytes a.memory.now = λ i. omega (arith, c.type_inv.memory i) in record { n_bound = omega (arith, going_few a.memory.now b.start b.counts b.lent l.words l.table l.state l.done l.n g, l.invariant.5, c.requires.done_le_until.1); s_bound = (omega (arith, going_size a.memory.now b.start b.counts b.lent l.words l.table l.state l.done l.n g, going_low a.memory.now b.start b.counts b.lent l.words l.table l.state l.done l.n g _ next bytes b.ranged), going_size a.memory.now b.start b.counts b.lent l.words l.table l.state l.done l.n g); s_bound_2 = spare_low a.until l.done l.table l.invariant.3 (goes_before l.done a.until l.n (room_of a.words.now) goes) _ }
-
-pub overflow_add-done-in-loop-heard : goal.overflow_add-done-in-loop-heard
-overflow_add-done-in-loop-heard c = omega (arith, c.loop-heard.invariant.5, c.requires.done_le_until.1)
-
-pub loop-heard-smaller : goal.loop-heard-smaller
-loop-heard-smaller c =
-    let a = c.args in
-    let l = c.loop-heard in
-    let t = sym c.both_of.ensures ∙ c.loop-heard-test.true in
-    let goes = sym c.goes.ensures ∙ both_left c.goes.result c.is_calm.result t in
-    omega (arith, goes_before l.done a.until l.n (room_of a.words.now) goes)
 
 pub loop-heard-preserved : goal.loop-heard-preserved
 loop-heard-preserved c =
@@ -58,9 +38,8 @@ loop-heard-preserved c =
     let b = c.requires.begun in
     let l = c.loop-heard in
     let g = l.invariant.0 b.start b.counts b.lent b.going in
-    let t = sym c.both_of.ensures ∙ c.loop-heard-test.true in
-    let goes = sym c.goes.ensures ∙ both_left c.goes.result c.is_calm.result t in
-    let calm = sym c.is_calm.ensures ∙ both_right c.goes.result c.is_calm.result t in
+    let goes = sym c.goes.ensures ∙ c.loop-heard-test.true in
+    let calm = sym c.is_calm.ensures ∙ c.if-is_calm.true in
     let next = c.calm_clocked-next.ensures ∙ calm_clock_lem a.memory.now l.state calm in
     let before = goes_before l.done a.until l.n (room_of a.words.now) goes in
     let bytes : Bytes a.memory.now = λ i. omega (arith, c.type_inv.memory i) in
@@ -78,34 +57,3 @@ loop-heard-preserved c =
       omega (arith, before),
       l.invariant.6,
     )
-
-pub shape_of-table : goal.shape_of-table
-shape_of-table c =
-    let a = c.args in
-    let b = c.requires.begun in
-    let l = c.loop-heard in
-    let g = l.invariant.0 b.start b.counts b.lent b.going in
-    going_size a.memory.now b.start b.counts b.lent l.words l.table l.state l.done l.n g
-    ∙ sym (going_size a.memory.now b.start b.counts b.lent a.words.now a.table.now a.first.state a.first.done a.first.records b.going)
-
-pub shape_of-words : goal.shape_of-words
-shape_of-words c =
-    let a = c.args in
-    let b = c.requires.begun in
-    let l = c.loop-heard in
-    let g = l.invariant.0 b.start b.counts b.lent b.going in
-    held_length a.memory.now b.start b.lent l.words l.state l.done l.n g.held
-    ∙ sym (held_length a.memory.now b.start b.lent a.words.now a.first.state a.first.done a.first.records b.going.held)
-
-pub returns : goal.returns
-returns c =
-    let l = c.loop-heard in
-    let t = sym c.both_of.ensures ∙ c.loop-heard-test.false in
-    record {
-      on = l.invariant.4;
-      most = l.invariant.5;
-      level = l.invariant.1;
-      spare = l.invariant.3;
-      stops = rw (← l.invariant.6, ← c.goes.ensures, ← c.is_calm.ensures) t;
-      going = l.invariant.0;
-    }

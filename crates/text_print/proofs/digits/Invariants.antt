@@ -1,5 +1,5 @@
 -- The loop's invariant: what is left to be stored makes the whole; a turn stores two digits, `fill_pair`. Assumes nothing.
-use Prim.Native.Nat.{◌-◌, ◌≤◌}
+use Prim.Native.Nat.{◌≤◌}
 use mathlib.Core.Path.{◌≡◌}
 use lib.ListN.{length}
 use lib.Seq.{sets}

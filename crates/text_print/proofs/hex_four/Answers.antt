@@ -1,12 +1,9 @@
-use native.Mathlib.Omega.{arith}
-use Rattle.text_print.proofs.StoreLaws.{written, kept, length_four}
+use Rattle.text_print.proofs.StoreLaws.{written_if, kept_if, length_four}
 use Rattle.text_print.proofs.hex_four.Goals as goal
 
-pub returns-then-size-at : goal.returns-then-size-at
-returns-then-size-at c = let pair = kept _ _ _ 4 (length_four _) (omega arith) in record { value = pair.0; out_after = pair.1 }
-
-pub returns-then-size-at-lt4 : goal.returns-then-size-at-lt4
-returns-then-size-at-lt4 c = let pair = kept _ _ _ 4 (length_four _) (omega arith) in record { value = pair.0; out_after = pair.1 }
+pub returns-then-not-fits : goal.returns-then-not-fits
+returns-then-not-fits c = let pair = kept_if _ _ _ 4 (length_four _) _ c.fits.ensures c.if-not-fits.true in record { value = pair.0; out_after = pair.1 }
 
 pub returns : goal.returns
-returns c = let pair = written _ _ _ 4 (length_four _) (omega arith) _ c.four.ensures in record { value = pair.0; out_after = pair.1 }
+returns c =
+    let pair = written_if _ _ _ 4 (length_four _) _ c.fits.ensures c.if-not-fits.false _ c.four.ensures in record { value = pair.0; out_after = pair.1 }

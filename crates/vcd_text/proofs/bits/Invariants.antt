@@ -1,14 +1,9 @@
 -- The loop's invariant: what is left to be stored makes the whole. Assumes nothing.
-use Prim.Native.Nat.{◌-◌, ◌≤◌}
 use mathlib.Core.Path.{◌≡◌}
-use lib.ListN.{length}
 use lib.Seq.{sets}
 use Rattle.vcd_text.specs.Lines.{binary_text}
 use Rattle.vcd_text.proofs.bits.Given as goal
 
 abbrev pub invariant-loop-i : goal.invariant-loop-i
 invariant-loop-i l =
-    (l.i ≤ l.w) × (length l.out ≡ length l.initial.out) × (sets l.out l.at (binary_text l.i l.left) ≡ sets l.initial.out l.at (binary_text l.w l.n))
-
-abbrev pub decreases-loop-i : goal.decreases-loop-i
-decreases-loop-i l = l.i
+    sets l.out l.at (binary_text l.i l.left) ≡ sets l.initial.out l.at (binary_text l.w l.n)

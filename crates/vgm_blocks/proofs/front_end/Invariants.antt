@@ -6,8 +6,8 @@ use Rattle.vgm_blocks.specs.Blocks.{front_end}
 use Rattle.vgm_blocks.proofs.FuelLaws.{end_of}
 use Rattle.vgm_blocks.proofs.front_end.Given as goal
 
-abbrev pub invariant-loop-at : goal.invariant-loop-at
-invariant-loop-at l = (l.at ≤ length l.stream) × (end_of l.stream l.at ≡ front_end l.stream)
+abbrev pub invariant-loop-next : goal.invariant-loop-next
+invariant-loop-next l = (l.at ≤ length l.stream) × (end_of l.stream l.at ≡ front_end l.stream)
 
-abbrev pub decreases-loop-at : goal.decreases-loop-at
-decreases-loop-at l = length l.stream - l.at
+abbrev pub decreases-loop-next : goal.decreases-loop-next
+decreases-loop-next l = length l.stream - l.at

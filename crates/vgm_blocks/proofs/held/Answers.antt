@@ -2,30 +2,22 @@ use native.Mathlib.Omega.{arith}
 use Rattle.vgm_blocks.proofs.BlockLaws.{behind_more, block_within, held_part}
 use Rattle.vgm_blocks.proofs.held.Goals as goal
 
-pub overflow_add-from : goal.overflow_add-from
-overflow_add-from c =
-    let a = c.args in
-    omega (arith, block_within a.stream.now a.at c.requires, behind_more a.stream.now a.at)
+pub overflow_add-result : goal.overflow_add-result
+overflow_add-result c = omega (arith, block_within c.args.stream.now c.args.at c.requires, behind_more c.args.stream.now c.args.at)
 
-pub slice_bounds-result-count : goal.slice_bounds-result-count
-slice_bounds-result-count c =
-    let a = c.args in
-    omega (arith, c.behind-end.ensures, behind_more a.stream.now a.at)
+pub overflow_add-result-2 : goal.overflow_add-result-2
+overflow_add-result-2 c = overflow_add-result c
 
-pub slice_bounds-result-start : goal.slice_bounds-result-start
-slice_bounds-result-start c =
-    let a = c.args in
-    omega (arith, c.behind-end.ensures, behind_more a.stream.now a.at)
+pub size_at-requires : goal.size_at-requires
+size_at-requires c = omega (arith, block_within c.args.stream.now c.args.at c.requires, behind_more c.args.stream.now c.args.at)
+
+pub overflow_add-result-3 : goal.overflow_add-result-3
+overflow_add-result-3 c =
+    omega (arith, c.size_at.ensures, block_within c.args.stream.now c.args.at c.requires, behind_more c.args.stream.now c.args.at)
 
 pub slice_bounds-result-end : goal.slice_bounds-result-end
 slice_bounds-result-end c =
-    let a = c.args in
-    omega (arith, c.behind-end.ensures, block_within a.stream.now a.at c.requires)
+    omega (arith, c.size_at.ensures, block_within c.args.stream.now c.args.at c.requires, behind_more c.args.stream.now c.args.at)
 
 pub returns : goal.returns
-returns c =
-    let a = c.args in
-    rw c.behind-end.ensures (held_part a.stream.now a.at c.requires)
-
-pub behind-end-requires : goal.behind-end-requires
-behind-end-requires c = c.requires
+returns c = rw (c.size_at.ensures, ← behind_more c.args.stream.now c.args.at) (held_part c.args.stream.now c.args.at c.requires)

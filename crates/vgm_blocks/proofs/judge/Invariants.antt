@@ -6,8 +6,8 @@ use Rattle.vgm_blocks.specs.Blocks.{front_blocks, judged}
 use Rattle.vgm_blocks.proofs.FuelLaws.{rest_of}
 use Rattle.vgm_blocks.proofs.judge.Given as goal
 
-abbrev pub invariant-loop-at : goal.invariant-loop-at
-invariant-loop-at l = (l.at ≤ length l.stream) × (l.n ≤ l.at) × (judged (rest_of l.stream l.at) l.n ≡ judged (front_blocks l.stream) 0)
+abbrev pub invariant-loop-next : goal.invariant-loop-next
+invariant-loop-next l = (l.at ≤ length l.stream) × (l.n ≤ l.at) × (judged (rest_of l.stream l.at) l.n ≡ judged (front_blocks l.stream) 0)
 
-abbrev pub decreases-loop-at : goal.decreases-loop-at
-decreases-loop-at l = length l.stream - l.at
+abbrev pub decreases-loop-next : goal.decreases-loop-next
+decreases-loop-next l = length l.stream - l.at

@@ -22,7 +22,7 @@ unfolding address_of
 returns c =
     let b = block_at c.args.stream.now c.args.at in
     let bytes = c.held-bytes.ensures in
-    let from = c.minus_u16-from.ensures ∙ ap (λ (x : ℕ). x - 0x8000) (c.u16_at-address.ensures ∙ ap (λ (r : List ℕ). wide_of r 0 2) bytes) in
+    let from = c.saturating_sub-from.ensures ∙ ap (λ (x : ℕ). x - 0x8000) (c.u16_at-address.ensures ∙ ap (λ (r : List ℕ). wide_of r 0 2) bytes) in
     let l = c.held-bytes.result.now in
     let part = take_rest 2 l ∙ ap (drop 2) bytes in
     fill_held b c.requires.at_value_2 c.requires.at_value_3 c.args.memory.now _ c.requires.memory_len

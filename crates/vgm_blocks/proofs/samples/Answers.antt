@@ -11,7 +11,7 @@ put_all-requires c = record { stream_value = sym (ap (λ (r : Filled). r.number)
 
 pub returns-then-answer-eq0 : goal.returns-then-answer-eq0
 returns-then-answer-eq0 c =
-    let a = c.args in let pair = all_right a.stream.now a.memory.now c.if-memory-ne32768.false c.judge-answer.result c.judge-answer.ensures _ _ c.if-answer-eq0.true c.clear.ensures c.put_all.ensures in record { value = pair.0; memory_after = pair.1 }
+    let a = c.args in let pair = all_right a.stream.now a.memory.now c.if-memory-ne32768.false c.judge-answer.result c.judge-answer.ensures _ _ c.if-answer-eq0.true (c.fill.ensures.after (λ y e. e)) c.put_all.ensures in record { value = pair.0; memory_after = pair.1 }
 
 pub returns-else-answer-eq0 : goal.returns-else-answer-eq0
 returns-else-answer-eq0 c =

@@ -9,11 +9,11 @@ unfolding gap_at
 overflow_add-result c =
     let s = c.args.c in
     let f = wait_fits c.args.pal s.samples s.clock (omega arith) (omega arith) in
-    omega (arith, c.least_usize-n.ensures, c.gap_at.ensures)
+    omega (arith, c.min-n.ensures, c.gap_at.ensures)
 
 pub returns-then-c-le100000000 : goal.returns-then-c-le100000000
 unfolding wait_on
-returns-then-c-le100000000 c = simp (c.least_usize-n.ensures, c.gap_at.ensures, le-leb _ _ c.if-c-le100000000.true)
+returns-then-c-le100000000 c = simp (c.min-n.ensures, c.gap_at.ensures, le-leb _ _ c.if-c-le100000000.true)
 
 pub returns : goal.returns
 unfolding wait_on

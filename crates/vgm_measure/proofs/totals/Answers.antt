@@ -6,4 +6,4 @@ use Rattle.vgm_measure.proofs.totals.Goals as goal
 pub returns : goal.returns
 returns c =
     let a = c.args in
-    ap (λ (s : Sum). s.tally) c.sum_of-s.ensures ∙ tally_sum a.pal a.stream.now
+    ap (λ (s : Sum). s.tally) c.sum_of.ensures ∙ tally_sum a.pal a.stream.now

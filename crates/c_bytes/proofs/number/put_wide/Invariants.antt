@@ -1,14 +1,10 @@
 -- The loop's invariant: what is left to be stored makes the whole.
-use Prim.Native.Nat.{◌+◌, ◌-◌, ◌≤◌}
+use Prim.Native.Nat.{◌+◌, ◌-◌}
 use mathlib.Core.Path.{◌≡◌}
-use lib.ListN.{length}
 use lib.Seq.{sets}
 use Rattle.c_bytes.specs.Numbers.{wide_bytes}
 use Rattle.c_bytes.proofs.number.put_wide.Given as goal
 
 abbrev pub invariant-loop-i : goal.invariant-loop-i
 invariant-loop-i l =
-    (l.i ≤ l.n) × (length l.b ≡ length l.initial.b) × (sets l.b (l.at + l.i) (wide_bytes (l.n - l.i) l.rest) ≡ sets l.initial.b l.at (wide_bytes l.n l.x))
-
-abbrev pub decreases-loop-i : goal.decreases-loop-i
-decreases-loop-i l = l.n - l.i
+    sets l.b (l.at + l.i) (wide_bytes (l.n - l.i) l.rest) ≡ sets l.initial.b l.at (wide_bytes l.n l.x)

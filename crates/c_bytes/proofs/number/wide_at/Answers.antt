@@ -1,6 +1,5 @@
 use Prim.Native.Nat.{ℕ, suc, ◌+◌, ◌-◌, ◌*◌, ◌<◌}
 use mathlib.Core.Path.{◌≡◌, sym, ap, ◌∙◌}
-use native.Mathlib.Nat.{add-zero, sub-zero}
 use native.Mathlib.Omega.{arith}
 use Rattle.c_bytes.specs.Fields.{byte_of}
 use Rattle.c_bytes.proofs.WideLaws.{wide_more, wide_none, room, room_more}
@@ -10,23 +9,23 @@ pub loop-i-init : goal.loop-i-init
 loop-i-init c =
     let a = c.args in
     let none : a.n - a.n ≡ 0 = omega arith in
-    (omega arith, sym (wide_none _ _ a.n), rw none (omega arith))
+    (sym (wide_none _ _ a.n), rw none (omega arith))
 
 -- a number of at most seven bytes, and another byte
 pub overflow_mul-r : goal.overflow_mul-r
 overflow_mul-r c =
     let l = c.loop-i in
     let a = c.args in
-    let low : c.wide_u8-first.result < 256 = omega (arith, c.wide_u8-first.ensures.upper_bound) in
-    let f = room _ _ (a.n - l.i) low (omega arith) l.invariant.2 in
+    let low : c.from.result < 256 = omega arith in
+    let f = room _ _ (a.n - l.i) low (omega arith) l.invariant.1 in
     omega arith
 
 pub overflow_add-r : goal.overflow_add-r
 overflow_add-r c =
     let l = c.loop-i in
     let a = c.args in
-    let low : c.wide_u8-first.result < 256 = omega (arith, c.wide_u8-first.ensures.upper_bound) in
-    let f = room _ _ (a.n - l.i) low (omega arith) l.invariant.2 in
+    let low : c.from.result < 256 = omega arith in
+    let f = room _ _ (a.n - l.i) low (omega arith) l.invariant.1 in
     omega arith
 
 pub loop-i-preserved : goal.loop-i-preserved
@@ -34,18 +33,9 @@ loop-i-preserved c =
     let l = c.loop-i in
     let a = c.args in
     let more : a.n - (l.i - 1) ≡ suc (a.n - l.i) = omega arith in
-    let w = c.wide_u8-first.ensures in
-    let low : c.wide_u8-first.result < 256 = omega (arith, w.upper_bound) in (
-      omega arith,
-      ap (λ (x : ℕ). x + 256 * l.r) (w.value ∙ c.byte_after.ensures)
-          ∙ ap (λ (r : ℕ). byte_of a.b.now (a.at + (l.i - 1)) + 256 * r) l.invariant.1
-          ∙ wide_more a.b.now a.at l.i a.n c.loop-i-test.true l.invariant.0,
-      rw more (room_more _ _ (a.n - l.i) low l.invariant.2),
+    let low : c.from.result < 256 = omega arith in (
+      ap (λ (x : ℕ). x + 256 * l.r) (c.from.ensures ∙ c.byte_after.ensures)
+          ∙ ap (λ (r : ℕ). byte_of a.b.now (a.at + (l.i - 1)) + 256 * r) l.invariant.0
+          ∙ wide_more a.b.now a.at l.i a.n c.loop-i-test.true (omega arith),
+      rw more (room_more _ _ (a.n - l.i) low l.invariant.1),
     )
-
-pub returns : goal.returns
-returns c =
-    let l = c.loop-i in
-    let a = c.args in
-    let none : l.i ≡ 0 = omega arith in
-    (rw (none, add-zero, sub-zero) at l.invariant.1, rw (none, sub-zero) at l.invariant.2)

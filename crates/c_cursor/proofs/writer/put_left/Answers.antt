@@ -1,4 +1,4 @@
-use Prim.Native.Nat.{◌+◌, ◌-◌}
+use Prim.Native.Nat.{◌+◌}
 use mathlib.Core.Path.{refl, sym, ◌∙◌}
 use native.Mathlib.Nat.{add-zero}
 use native.Mathlib.Omega.{arith}
@@ -8,15 +8,6 @@ use Rattle.c_cursor.proofs.writer.put_left.Goals as goal
 pub loop-k-init : goal.loop-k-init
 loop-k-init c = (omega arith, refl, rw (add-zero))
 
-pub overflow_cast-left : goal.overflow_cast-left
-overflow_cast-left c = omega (arith, c.type_inv.left c.loop-k.k)
-
-pub overflow_add-k : goal.overflow_add-k
-overflow_add-k c = let l = c.loop-k in omega (arith, l.invariant.0)
-
-pub loop-k-smaller : goal.loop-k-smaller
-loop-k-smaller c = omega (arith, c.loop-k.invariant.0)
-
 pub loop-k-preserved : goal.loop-k-preserved
 loop-k-preserved c =
     let l = c.loop-k in
@@ -24,7 +15,7 @@ loop-k-preserved c =
     let less = c.loop-k-test.true in (
       omega arith,
       c.b-1.given ∙ l.invariant.1,
-      wides_step 1 l.b _ a.left.now (a.at + l.k) (a.at + (l.k + 1)) l.k less (omega arith) c.put_wide.ensures ∙ l.invariant.2,
+      wides_step 1 l.b _ a.left.now (a.at + l.k) (a.at + (l.k + 1)) l.k less (omega arith) (rw c.from.ensures at c.put_wide.ensures) ∙ l.invariant.2,
     )
 
 pub shape_of-b : goal.shape_of-b

@@ -1,5 +1,5 @@
 -- The loop's invariant: what is left to be stored makes the whole.
-use Prim.Native.Nat.{◌+◌, ◌-◌, ◌≤◌}
+use Prim.Native.Nat.{◌+◌, ◌≤◌}
 use mathlib.Core.Path.{◌≡◌}
 use lib.ListN.{length, drop}
 use lib.Seq.{sets}
@@ -9,6 +9,3 @@ use Rattle.c_cursor.proofs.writer.put_left.Given as goal
 abbrev pub invariant-loop-k : goal.invariant-loop-k
 invariant-loop-k l =
     (l.k ≤ length l.left) × (length l.b ≡ length l.initial.b) × (sets l.b (l.at + l.k) (wides_bytes 1 (drop l.k l.left)) ≡ sets l.initial.b l.at (wides_bytes 1 l.left))
-
-abbrev pub decreases-loop-k : goal.decreases-loop-k
-decreases-loop-k l = length l.left - l.k

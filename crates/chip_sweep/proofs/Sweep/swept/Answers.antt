@@ -18,6 +18,6 @@ unfolding swept_period
 returns-then-moves c =
     rw (to_z-of_z w32 c.target_of.result (record { sfits = c.target_of.type_inv }), c.target_of.ensures, sym c.moves.ensures ∙ c.if-moves.true)
 
-pub returns : goal.returns
+pub returns-else-moves : goal.returns-else-moves
 unfolding swept_period
-returns c = rw (sym c.moves.ensures ∙ c.if-moves.false)
+returns-else-moves c = rw (sym c.moves.ensures ∙ c.if-moves.false)

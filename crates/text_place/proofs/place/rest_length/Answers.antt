@@ -1,4 +1,3 @@
-use Prim.Native.Nat.{◌-◌}
 use native.Mathlib.Omega.{arith}
 use Rattle.text_place.proofs.Fronts.{rest_feed, rest_more, rest_none}
 use Rattle.text_place.proofs.place.rest_length.Goals as goal

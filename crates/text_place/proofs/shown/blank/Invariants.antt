@@ -1,16 +1,13 @@
 -- The loop's invariant: the blanks that are left make the whole, in place and in bytes; a turn is `spell_step`. Assumes nothing.
-use Prim.Native.Nat.{◌+◌, ◌-◌, ◌≤◌}
+use Prim.Native.Nat.{◌+◌, ◌≤◌}
 use mathlib.Core.Path.{◌≡◌}
 use lib.ListN.{length, drop}
 use lib.Seq.{sets}
 use Rattle.text_place.specs.Shown.{blank}
 use Rattle.text_place.proofs.shown.blank.Given as goal
 
-abbrev pub invariant-loop-i : goal.invariant-loop-i
-invariant-loop-i l =
-    (l.i ≤ length l.s) × (length l.out ≡ length l.initial.out)
-    × (l.place + length (blank (drop l.i l.s)) ≡ l.at + length (blank l.s))
-    × (sets l.out l.place (blank (drop l.i l.s)) ≡ sets l.initial.out l.at (blank l.s))
-
-abbrev pub decreases-loop-i : goal.decreases-loop-i
-decreases-loop-i l = length l.s - l.i
+abbrev pub invariant-loop-c : goal.invariant-loop-c
+invariant-loop-c l =
+    (l.c-index ≤ length l.s) × (length l.out ≡ length l.initial.out)
+    × (l.place + length (blank (drop l.c-index l.s)) ≡ l.at + length (blank l.s))
+    × (sets l.out l.place (blank (drop l.c-index l.s)) ≡ sets l.initial.out l.at (blank l.s))

@@ -1,4 +1,4 @@
-use Prim.Native.Nat.{ℕ, ◌+◌, ◌-◌}
+use Prim.Native.Nat.{ℕ, ◌+◌}
 use mathlib.Core.Path.{refl, sym, ap, ◌∙◌}
 use mathlib.Core.List.{List}
 use native.Mathlib.Nat.{add-zero}
@@ -9,28 +9,28 @@ use Rattle.text_place.specs.Shown.{shown_byte, shown}
 use Rattle.text_place.proofs.Spelled.{spell_room, spell_step, spell_end, shown_none, shown_more}
 use Rattle.text_place.proofs.shown.shown.Goals as goal
 
-pub loop-i-init : goal.loop-i-init
-loop-i-init c = (omega arith, refl, refl, refl)
+pub loop-c-init : goal.loop-c-init
+loop-c-init c = (omega arith, refl, refl, refl)
 
 pub shown_byte-place-requires : goal.shown_byte-place-requires
 shown_byte-place-requires c =
     let s = c.args.s.now in
-    let l = c.loop-i in
-    spell_room shown shown_byte shown_none shown_more s l.i (omega arith) l.place (length l.out) (omega (arith, l.invariant.1, l.invariant.2, c.requires))
+    let l = c.loop-c in
+    spell_room shown shown_byte shown_none shown_more s l.c-index (omega arith) l.place (length l.out) (omega (arith, l.invariant.1, l.invariant.2, c.requires))
 
-pub loop-i-preserved : goal.loop-i-preserved
-loop-i-preserved c =
+pub loop-c-preserved : goal.loop-c-preserved
+loop-c-preserved c =
     let s = c.args.s.now in
-    let l = c.loop-i in
+    let l = c.loop-c in
     let e = c.shown_byte-place in
-    let n = spell_step shown shown_byte shown_none shown_more s l.i (omega arith) l.out l.place _ _ l.invariant.2 l.invariant.3 e.result e.new.out e.ensures.value e.ensures.out_after in
+    let n = spell_step shown shown_byte shown_none shown_more s l.c-index (omega arith) l.out l.place _ _ l.invariant.2 l.invariant.3 e.result e.new.out e.ensures.value e.ensures.out_after in
     (omega arith, n.0 ∙ l.invariant.1, n.1, n.2)
 
 pub shape_of-out : goal.shape_of-out
-shape_of-out c = c.loop-i.invariant.1
+shape_of-out c = c.loop-c.invariant.1
 
 pub returns : goal.returns
 returns c =
     let s = c.args.s.now in
-    let l = c.loop-i in
-    let e = spell_end shown shown_byte shown_none shown_more s l.i (omega arith) in record { value = sym (add-zero l.place) ∙ (ap (λ (z : List ℕ). l.place + length z) (sym e) ∙ l.invariant.2); out_after = ap (λ (z : List ℕ). sets l.out l.place z) (sym e) ∙ l.invariant.3 }
+    let l = c.loop-c in
+    let e = spell_end shown shown_byte shown_none shown_more s l.c-index (omega arith) in record { value = sym (add-zero l.place) ∙ (ap (λ (z : List ℕ). l.place + length z) (sym e) ∙ l.invariant.2); out_after = ap (λ (z : List ℕ). sets l.out l.place z) (sym e) ∙ l.invariant.3 }

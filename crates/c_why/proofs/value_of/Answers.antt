@@ -1,4 +1,0 @@
-use Rattle.c_why.proofs.value_of.Goals as goal
-
-pub returns-in-Sounds : goal.returns-in-Sounds
-returns-in-Sounds c = rw c.in-Sounds.is

@@ -1,7 +1,0 @@
-use Rattle.chip.proofs.State.half_if.Goals as goal
-
-pub returns-then-on : goal.returns-then-on
-returns-then-on c = simp (c.half_frame.ensures, c.if-on.true)
-
-pub returns-else-on : goal.returns-else-on
-returns-else-on c = simp c.if-on.false

@@ -1,4 +1,0 @@
-use Rattle.chip_square.proofs.Square.power_on.Goals as goal
-
-pub returns : goal.returns
-returns c = rw (c.power_on-length.ensures, c.power_on-envelope.ensures, c.power_on-timer.ensures)

@@ -1,4 +1,0 @@
-use Rattle.log_cursor.proofs.enter.Goals as goal
-
-pub returns : goal.returns
-returns c = simp c.less_u8.ensures

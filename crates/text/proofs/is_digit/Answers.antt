@@ -1,6 +1,0 @@
-use Rattle.text.specs.Decimal.{digit}
-use Rattle.text.proofs.is_digit.Goals as goal
-
-pub returns : goal.returns
-unfolding digit
-returns c = simp c.both_of.ensures
