@@ -75,12 +75,18 @@ fn opened(l: Line, at: usize, next: usize) -> Result<Step, Refusal>
     }
 }
 
-// The line at a place, taken apart, where `depth` loops are open.
+// The line at a place, taken apart, where `depth` loops are open: by `let .. else`, the form that document 01 names, and not by `?`.
 #[tactic(auto, unfolding(log_rules::specs::Block::read_begun, log_rules::specs::Block::begun_by, log_rules::specs::Block::step_answer, log_rules::specs::Block::part_answer))]
 fn begin(log: &[u8], at: usize, depth: u64) -> Result<Step, Refusal>
     ensures { result ≡ step_answer (read_begun log.now at depth) }
 {
-    let (l, next) = read_inside(log, at, depth)?;
+    let line = read_inside(log, at, depth);
+    let Ok((l, next)) = line else {
+        return Err(Refusal {
+            number: refusal::number(line),
+            place: refusal::place(line),
+        });
+    };
     opened(l, at, next)
 }
 

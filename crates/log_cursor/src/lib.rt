@@ -206,14 +206,15 @@ fn follow(c: Cursor, d: usize, next: usize, l: Line) -> Stepped
     }
 }
 
-// One step: at most one line is read.
+// One step: at most one line is read. Its answer is opened by `let .. else`, the form that document 01 names.
 pub fn step(log: &[u8], c: Cursor) -> Stepped
     ensures value { result ≡ stepped_of (step_of log.now c) }
     ensures found_is { FoundIs (step_of log.now c).said result.found }
 {
     let d = open_loops(c);
-    match log_read::read_inside(log, c.at, d as u64) {
-        Ok((l, next)) => follow(c, d, next, l),
-        Err(e) => refuse(c, e.number, e.place),
-    }
+    let line = log_read::read_inside(log, c.at, d as u64);
+    let Ok((l, next)) = line else {
+        return refuse(c, refusal::number(line), refusal::place(line));
+    };
+    follow(c, d, next, l)
 }

@@ -2,18 +2,18 @@ use Rattle.log_cursor.specs.Stepping.{step_of, read_step}
 use Rattle.log_cursor.proofs.NumberLaws.{with_numbers}
 use Rattle.log_cursor.proofs.step.Goals as goal
 
-pub returns-in-Ok : goal.returns-in-Ok
+pub returns-in_default : goal.returns-in_default
 unfolding step_of read_step
-returns-in-Ok c =
+returns-in_default c =
     let pair =
     with_numbers _ (step_of c.args.log.now c.args.c)
-    (rw (← c.open_loops-d.ensures.0, ← c.read_inside.ensures.value, c.in-Ok.is, ← c.open_loops-d.ensures.0) c.follow.ensures) in
+    (rw (c.refuse.ensures, c.number.ensures, c.place.ensures, ← c.open_loops-d.ensures.0, ← c.read_inside-line.ensures.value, c.in_default.is)) in
     record { value = pair.0; found_is = pair.1 }
 
-pub returns-in-Err : goal.returns-in-Err
+pub returns : goal.returns
 unfolding step_of read_step
-returns-in-Err c =
+returns c =
     let pair =
     with_numbers _ (step_of c.args.log.now c.args.c)
-    (rw (← c.open_loops-d.ensures.0, ← c.read_inside.ensures.value, c.in-Err.is) c.refuse.ensures) in
+    (rw (← c.open_loops-d.ensures.0, ← c.read_inside-line.ensures.value, c.in-Ok.is, ← c.open_loops-d.ensures.0) c.follow.ensures) in
     record { value = pair.0; found_is = pair.1 }
