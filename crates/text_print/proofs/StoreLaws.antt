@@ -7,10 +7,8 @@ use native.Mathlib.Omega.{arith}
 use borrow.Author.Tests.{le-leb, lt-leb, leb-true, leb-false}
 use lib.Dec.{leb}
 use mathlib.Core.Bool.{Bool, true, false}
-use lib.ListN.{length, set, take, drop}
-use lib.Seq.{sets, sets-eq, set_comm, take-length}
-use borrow.Rule.Slice.PartMut.{put_mid}
-use Rattle.std.proofs.lemmas.Slice.{put_mid-paste}
+use lib.ListN.{length, set, drop, drop_of_length-le}
+use lib.Seq.{sets, set_comm}
 use Rattle.text.specs.Hex.{hex_text}
 use Rattle.text_print.specs.Printed.{printed, placed, digits_in}
 use Rattle.text_print.proofs.DecimalLaws.{length_digits, digits_more}
@@ -58,12 +56,9 @@ module _ (out : List ℕ) (at : ℕ) (text : List ℕ) (k : ℕ) (long : length 
   pub kept_if : (t : Bool) → t ≡ leb (at + k) (length out) → t ≡ false → (at ≡ placed out at text) × (out ≡ printed out at text)
   kept_if t e y = kept (leb-false _ _ (sym e ∙ y))
 
--- a text copied over a part of its length
-pub part_stored : (at k : ℕ) (old text part : List ℕ) → part ≡ text → k ≡ length text → at + length text ≤ length old → put_mid at k old part ≡ sets old at text
-part_stored at k old text part e l h =
-    put_mid-paste at k old part text (length text) e (sym l) refl
-    ∙ ap (λ (t : List ℕ). take at old ++ t ++ drop (at + length text) old) (take-length text)
-    ∙ sym (sets-eq text old at h)
+-- a text byte by byte from its front, at its end
+pub copy_end : (out text : List ℕ) (at i : ℕ) → length text ≤ i → sets out (at + i) (drop i text) ≡ out
+copy_end out text at i h = rw (drop_of_length-le text h)
 
 -- digits from their back
 fill_step : (out : List ℕ) (at i j n d : ℕ) → i ≡ suc j → d ≡ 48 + n % 10

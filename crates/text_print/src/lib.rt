@@ -22,7 +22,10 @@ pub fn fixed(out: &mut [u8], at: usize, text: &[u8]) -> usize
     if !fits(out.len(), at, text.len()) {
         return at;
     }
-    out[at..at + text.len()].copy_from_slice(text);
+    // Byte by byte: a copy by the library becomes a call of memmove, which the archive for C would then need from outside.
+    for (i, &c) in text.iter().enumerate() {
+        out[at + i] = c;
+    }
     at + text.len()
 }
 
