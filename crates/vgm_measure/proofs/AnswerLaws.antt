@@ -18,7 +18,7 @@ use Rattle.vgm_measure.proofs.BoundLaws.{either_false}
 use Rattle.vgm_measure.proofs.FaultLaws.{Refused, refused_place, numbered}
 
 -- a sum that is a refusal is the answer for any room
-fit_none : (room : ℕ) (s : Sum) → (s.tally.number ≡ 0 → ⊥) → import_refusal s.tally.number s.tally.place ≡ fitted room s
+pub fit_none : (room : ℕ) (s : Sum) → (s.tally.number ≡ 0 → ⊥) → import_refusal s.tally.number s.tally.place ≡ fitted room s
 unfolding fitted
 fit_none room s h = rw (ne_eqb s.tally.number 0 h)
 
