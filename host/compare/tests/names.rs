@@ -9,17 +9,17 @@ fn top() -> PathBuf {
     Path::new(env!("CARGO_MANIFEST_DIR")).join("../..")
 }
 
-/// The pages about the crates: README, those of docs and its notes. PORT and DESIGN-PASS are no such pages: they name what stood before beside what
-/// stands now.
+/// Pages that name what stood before beside what stands now.
+const PAST: [&str; 3] = ["docs/PORT.md", "docs/DESIGN-PASS.md", "docs/LOOK-BACK.md"];
+
+/// The pages about the crates: README, those of docs and its notes, but for those of `PAST`.
 fn documents() -> Vec<PathBuf> {
     let mut all = vec![top().join("README.md")];
     for folder in ["docs", "docs/changes"] {
         let entries = fs::read_dir(top().join(folder)).unwrap();
-        all.extend(
-            entries
-                .map(|entry| entry.unwrap().path())
-                .filter(|path| path.extension().is_some_and(|e| e == "md") && !path.ends_with("docs/PORT.md") && !path.ends_with("docs/DESIGN-PASS.md")),
-        );
+        all.extend(entries.map(|entry| entry.unwrap().path()).filter(|path| {
+            path.extension().is_some_and(|e| e == "md") && !PAST.iter().any(|past| path.ends_with(past))
+        }));
     }
     all.sort();
     all
