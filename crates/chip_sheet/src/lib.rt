@@ -2,6 +2,7 @@
 #![tactic(auto)]
 
 ghost use Rattle.std.specs.Prelude.{◌≡◌, ◌≤◌, ◌++◌, length, drop};
+ghost use Rattle.chip_dmc_output.specs.Output.{level_moved};
 ghost use Rattle.chip_sheet.specs.Byte.{eight_steps};
 ghost use Rattle.chip_sheet.specs.Sheet.{sheet_levels, first_number, sheet_number, sheet_answer, sheet_buffer};
 
@@ -13,13 +14,23 @@ pub struct Written {
     pub length: u16,
 }
 
+// The level moved by bit 0 of a byte. Both moves are worked and one is picked: a branch on the bits of a varied sample is often guessed wrong.
+#[tactic(auto, unfolding(chip_dmc_output::specs::Output::level_moved))]
+fn level_moved(byte: u8, level: u8) -> u8
+    ensures { result ≡ level_moved byte level }
+{
+    let down = chip_dmc_output::level_moved(0, level);
+    let up = chip_dmc_output::level_moved(1, level);
+    if byte % 2 == 0 { down } else { up }
+}
+
 // The level after a byte's eight steps, bit 0 first.
 fn stepped(byte: u8, level: u8) -> u8
     ensures { result ≡ eight_steps byte level }
 {
     let mut l = level;
     for i in 0..8u32 {
-        l = chip_dmc_output::level_moved(byte >> i, l);
+        l = level_moved(byte >> i, l);
     }
     l
 }
